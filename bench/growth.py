@@ -3,7 +3,8 @@
 
 Each case runs in a process of its own, five times with N and five times with 2 N statements (N is 2000 where it is not given). Each line
 that is printed: the case, the medians of the processor seconds at both sizes, the exponent between them, that of the entries in the journal
-between the two sizes, and, where PLAIN is given, how many times its seconds the larger one takes. PLAIN must write the same bytes.
+between the two sizes, and, where PLAIN is given, the same of PLAIN, which runs in turn with BINARY so that both meet the same other work, and
+how many times its seconds BINARY takes at the larger size. PLAIN must write the same bytes.
 """
 import json
 import math
@@ -112,38 +113,42 @@ def output(binary, path):
         return sink.read()
 
 
-def median(binary, path):
+def medians(binaries, path):
+    """The median of each program's seconds; they run in turn."""
     with open(os.devnull, "wb") as sink:
-        return statistics.median(seconds(binary, path, sink) for _ in range(RUNS))
+        runs = [[seconds(binary, path, sink) for binary in binaries] for _ in range(RUNS)]
+    return [statistics.median(run) for run in zip(*runs)]
 
 
-def measured(binary, plain, work):
-    """The seconds, the entries, and the plain program's seconds, if there is one."""
+def measured(binaries, work):
+    """The seconds of each program, and the entries."""
     with tempfile.NamedTemporaryFile("w", suffix=".json") as file:
         json.dump(work, file)
         file.flush()
-        written = output(binary, file.name)
+        written = output(binaries[0], file.name)
         entries = written[: written.index(b"report\n")].count(b"\n") - 3
-        if plain is None:
-            return median(binary, file.name), entries, None
-        if output(plain, file.name) != written:
-            raise RuntimeError("the plain program writes something else")
-        return median(binary, file.name), entries, median(plain, file.name)
+        for plain in binaries[1:]:
+            if output(plain, file.name) != written:
+                raise RuntimeError("the plain program writes something else")
+        return medians(binaries, file.name), entries
+
+
+def grown(one, two):
+    return "%8.3f s %8.3f s   exponent %.2f" % (one, two, math.log(two / one, 2))
 
 
 def main():
     if len(sys.argv) not in (2, 3, 4):
         print(__doc__, file=sys.stderr)
         return 2
-    binary = os.path.abspath(sys.argv[1])
     size = int(sys.argv[2]) if len(sys.argv) > 2 else 2000
-    plain = os.path.abspath(sys.argv[3]) if len(sys.argv) > 3 else None
+    binaries = [os.path.abspath(word) for word in sys.argv[1:2] + sys.argv[3:]]
     for name, made in CASES:
-        one, few, _ = measured(binary, None, made(size))
-        two, many, beside = measured(binary, plain, made(2 * size))
-        line = "%-28s %8.3f s %8.3f s   exponent %.2f, of entries %.2f" % (name, one, two, math.log(two / one, 2), math.log(many / few, 2))
-        if beside:
-            line += "   %.1f times the plain program's" % (two / beside)
+        one, few = measured(binaries, made(size))
+        two, many = measured(binaries, made(2 * size))
+        line = "%-28s %s, of entries %.2f" % (name, grown(one[0], two[0]), math.log(many / few, 2))
+        if len(binaries) > 1:
+            line += "   plain %s   %.2f times" % (grown(one[1], two[1]), two[0] / two[1])
         print(line, flush=True)
     return 0
 

@@ -105,7 +105,7 @@ module _ (splits : List (List ℕ)) (start k : Known) (x : OpenTxn) (p : Purpose
           let more = pace.met id in
           let old = w.paced.pushes id in
           omega arith;
-      resolves = pace.resolves;
+      behind = pace.behind;
     }
 
     fewer2 : NoOtherMetEighth k.heard_now ms2

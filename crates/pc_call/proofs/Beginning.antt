@@ -9,13 +9,14 @@ use Rattle.pc_base.specs.Rising.{AreRising}
 use Rattle.pc_base.specs.Span.{is_empty}
 use Rattle.pc_base.specs.declared.limits.TheConstants.{MOST_CONFLICTS}
 use Rattle.pc_base.specs.declared.transaction.TxnId.{TxnId}
+use Rattle.pc_call.proofs.Behind.{none_many, not_behind}
 use Rattle.pc_call.proofs.Beside.{asked_anew, past_unmet}
 use Rattle.pc_call.proofs.Facts.{before_is}
 use Rattle.pc_call.specs.Beside.{AreAskedOrDone}
 use Rattle.pc_call.specs.declared.purpose.Purpose.{Purpose}
 use Rattle.pc_call.specs.declared.purpose.Purpose.TheVariants as purposes
 use Rattle.pc_call.specs.Fresh.{IsFresh, ShowsAlive}
-use Rattle.pc_call.specs.Paced.{IsPaced, shows_resolve, was_pushed}
+use Rattle.pc_call.specs.Paced.{IsPaced, was_pushed}
 use Rattle.pc_call.specs.Pieces.{scan_messages, span_piece, spans_from, spans_in}
 use Rattle.pc_call.specs.Serving.{AreReadsOf, HasBeatenBy, InCall, IsOpenIn, IsReadFor, IsSplit, Serves, holders_met, out_of, write_call}
 use Rattle.pc_follows.specs.Heartbeats.{is_heartbeat}
@@ -31,7 +32,7 @@ use Rattle.pc_proto.specs.declared.request.Request.TheVariants as requests
 use Rattle.pc_proto.specs.declared.why.Why.{Why}
 use Rattle.pc_proto.specs.declared.why.Why.TheVariants as whys
 use Rattle.pc_proto.specs.Replies.{is_conflict, is_undecided_status}
-use Rattle.pc_proto.specs.Requests.{is_push_of, is_put_of, is_resolve_of}
+use Rattle.pc_proto.specs.Requests.{is_push_of, is_put_of}
 use Rattle.pc_txn.proofs.Laying.{sent_of}
 use Rattle.pc_txn.specs.declared.txn.OpenTxn.{OpenTxn}
 use Rattle.pc_txn.specs.Opened.{next_put, own_abort, own_get, own_put, own_scan}
@@ -79,9 +80,9 @@ no_push_beat : (id : TxnId) (r : Request) → is_heartbeat r ≡ true → is_pus
 no_push_beat id (requests.Beat meta ts now) beat = refl
 no_push_beat id r beat = absurd cc
 
-no_resolve_beat : (id : TxnId) (r : Request) → is_heartbeat r ≡ true → is_resolve_of id r ≡ false
-no_resolve_beat id (requests.Beat meta ts now) beat = refl
-no_resolve_beat id r beat = absurd cc
+beat_in_wave : (r : Request) → is_heartbeat r ≡ true → goes_beside r ≡ false
+beat_in_wave (requests.Beat meta ts now) beat = refl
+beat_in_wave r beat = absurd cc
 
 beat_no_read : (r : Request) (reply : Reply) → is_heartbeat r ≡ true → read_heard r reply ≡ []
 beat_no_read (requests.Beat meta ts now) reply beat = refl
@@ -140,7 +141,11 @@ module _ (k : Known) (t : Txn) (x : OpenTxn) (s : Statement) (open_in : IsOpenIn
   pub none_paced : IsPaced [] k.heard_now
   none_paced = record {
     pushes = λ id. let e : count_by (was_pushed id) k.heard_now ≡ 0 = none_counted (was_pushed id) (λ h beat. no_push_beat id h.request beat) k.heard_now heard in omega arith;
-    resolves = λ id. let e : count_by (shows_resolve id) k.heard_now ≡ 0 = none_counted (shows_resolve id) (λ h beat. no_resolve_beat id h.request beat) k.heard_now heard in omega arith;
+    behind = λ id request of n many.
+        let Same : Heard → Type 0 = λ h. IsSameRequest request h.request in
+        none_many Same n k.heard_now
+        (All-weaker ShowsAlive (λ h. Same h → ⊥) (λ h alive. not_behind id request h.request of (beat_in_wave h.request alive.beat)) k.heard_now heard)
+        (count_by (was_pushed id) k.heard_now) many;
   }
 
   unsent_goes : (r : Request) → IsUnsentIn k.sent_now r → MayGoOut k r

@@ -10,6 +10,7 @@ use Rattle.pc_base.specs.declared.limits.TheConstants.{MOST_CONFLICTS}
 use Rattle.pc_base.specs.declared.transaction.TxnId.{TxnId}
 use Rattle.pc_base.specs.Span.{same_key}
 use Rattle.pc_base.specs.Transaction.{same_txn}
+use Rattle.pc_call.proofs.Behind.{not_behind}
 use Rattle.pc_call.proofs.Beating.{beaten_heard}
 use Rattle.pc_call.proofs.Beside.{IsAskedOrBeside, IsSentOnceMore, all_past, asked-kept}
 use Rattle.pc_call.proofs.Eighths.{none_eighth, same_sym}
@@ -25,7 +26,7 @@ use Rattle.pc_call.specs.declared.purpose.Purpose.TheVariants as purposes
 use Rattle.pc_call.specs.Ended.{landed_first, landed_with, laying, laying_as, laying_first}
 use Rattle.pc_call.specs.Learned.{known_heard}
 use Rattle.pc_call.specs.Opening.{GoesOn}
-use Rattle.pc_call.specs.Paced.{IsPaced, shows_resolve, was_met, was_pushed}
+use Rattle.pc_call.specs.Paced.{IsPaced, was_met, was_pushed}
 use Rattle.pc_call.specs.Serving.{AreReadsOf, HasBeatenBy, InCall, IsAnswerTo, IsMetUpTo, IsOpenIn, IsReadFor, IsRefreshGoneOut, IsRefusedBy, IsSplit, LaysLast, LaysNext, MetNoOtherWrite, NoOtherMetEighth, Serves, ServesRead, ServesRefresh, ServesWrite, WasRefusedIfCommit, WroteNothingNew, holders_met, out_of, write_call}
 use Rattle.pc_follows.specs.Heartbeats.{HasBeaten}
 use Rattle.pc_lists.proofs.Anywhere.{any_head, any_kept, any_last, any_later}
@@ -41,7 +42,7 @@ use Rattle.pc_proto.specs.declared.reply.Reply.TheVariants as replies
 use Rattle.pc_proto.specs.declared.request.Request.{Request}
 use Rattle.pc_proto.specs.declared.request.Request.TheVariants as requests
 use Rattle.pc_proto.specs.Replies.{is_conflict, is_conflict_with, is_written}
-use Rattle.pc_proto.specs.Requests.{is_put_of, is_about, is_push_of, is_resolve_of}
+use Rattle.pc_proto.specs.Requests.{is_put_of, is_about, is_push_of}
 use Rattle.pc_proto.specs.Stamps.{greatest_of, reply_stamps}
 use Rattle.pc_reads.specs.ReadsStanding.{refresh_to}
 use Rattle.pc_reads.specs.Replies.{unrefreshed_by, unrefreshed_in}
@@ -148,10 +149,6 @@ gone_from f =
 no_push : (id : TxnId) (r : Request) → goes_beside r ≡ false → is_push_of id r ≡ false
 no_push id (requests.Push holder by level now goal) e = absurd cc
 no_push id r e = refl
-
-no_resolve : (id : TxnId) (r : Request) → goes_beside r ≡ false → is_resolve_of id r ≡ false
-no_resolve id (requests.Resolve other key fate) e = absurd cc
-no_resolve id r e = refl
 
 -- a reply shows no more holders than it is a conflict with
 held_once : (id : TxnId) (reply : Reply) → count_by (is_id id) (option_to_list (met_by reply)) ≤ one_if (is_conflict_with id reply)
@@ -298,12 +295,12 @@ module _ (session clock count : ℕ) (splits : List (List ℕ)) (k : Known) (x :
         let once = held_once id reply in
         let old = w.paced.pushes id in
         omega arith;
-    resolves = λ id.
+    behind = λ id request of n many.
         let pushed : count_by (was_pushed id) k2.heard_now ≡ count_by (was_pushed id) k.heard_now + 0 =
         count-push (was_pushed id) k.heard_now h ∙ ap (λ b. count_by (was_pushed id) k.heard_now + one_if b) (no_push id h.request not_beside) in
-        let resolved : count_by (shows_resolve id) k2.heard_now ≡ count_by (shows_resolve id) k.heard_now + 0 =
-        count-push (shows_resolve id) k.heard_now h ∙ ap (λ b. count_by (shows_resolve id) k.heard_now + one_if b) (no_resolve id h.request not_beside) in
-        let old = w.paced.resolves id in
+        let Same : Heard → Type 0 = λ h. IsSameRequest request h.request in
+        let other : Same h → ⊥ = not_behind id request h.request of not_beside in
+        let old = w.paced.behind id request of n (at_least-before Same n k.heard_now (h ∷ []) (All-cons (λ h. Same h → ⊥) h [] other (All-nil (λ h. Same h → ⊥))) many) in
         omega arith;
   }
 
@@ -573,7 +570,7 @@ module _ (session clock count : ℕ) (splits : List (List ℕ)) (k : Known) (x :
             was = λ y. ap (λ ms. laying_first ms y) r.one ∙ ap (λ q. laying_as q y) l.said ∙ ap (λ key. Some (laying y key f.value)) l.place ∙ ap (λ value. Some (laying y r.key value)) l.what;
             none_in_flight = ap (λ x. x.in_flight) made ∙ ap (filter (is_another f.key f.seq)) l.in_flight ∙ gone_from f;
             split = split2;
-            paced = record { pushes = λ id. let a = paced2.pushes id in omega arith; resolves = paced2.resolves };
+            paced = record { pushes = λ id. let a = paced2.pushes id in omega arith; behind = paced2.behind };
             unmet = unmet2 (ap is_conflict (is.told ∙ written));
             past = all_past k2 ms2 wave2 done2 (subst (λ ms. All IsSentOnceMore ms) (sym ms2_is) (All-cons IsSentOnceMore (back_with number reply r.m) [] (came_back (ap is_conflict written)) (All-nil IsSentOnceMore)));
             beaten = beaten_on (λ beat. subst IsBeatPurpose e beat);

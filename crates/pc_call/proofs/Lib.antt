@@ -1,6 +1,7 @@
 pub mod Again
 pub mod Beginning
 pub mod Beating
+pub mod Behind
 pub mod Beside
 pub mod Blocking
 pub mod Closing

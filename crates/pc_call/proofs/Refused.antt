@@ -145,7 +145,7 @@ module _ (session clock count : ℕ) (splits : List (List ℕ)) (k : Known) (x :
   paced_none : IsPaced [] k2.heard_now
   paced_none =
       let paced = paced2 session clock count splits k x p ms counted w number (replies.Status view) h waited is in
-      record { pushes = λ id. let a = paced.pushes id in omega arith; resolves = paced.resolves }
+      record { pushes = λ id. let a = paced.pushes id in omega arith; behind = paced.behind }
 
   reads_there : w.t.read_ts ≡ w.t.write_ts
   reads_there =

@@ -192,7 +192,7 @@ module _ (session clock count : ℕ) (splits : List (List ℕ)) (k : Known) (x :
           client = w.cause;
           opened = w.opened;
           split = w.split;
-          paced = record { pushes = λ id. let a = w.paced.pushes id in omega arith; resolves = w.paced.resolves };
+          paced = record { pushes = λ id. let a = w.paced.pushes id in omega arith; behind = w.paced.behind };
           commits = r.commits;
           refused = r.refused;
           refreshes = r.refreshes;

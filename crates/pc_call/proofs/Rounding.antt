@@ -227,7 +227,7 @@ module _ (session clock count : ℕ) (splits : List (List ℕ)) (k : Known) (x :
         low = read_low;
         due = is_due;
         pushes = omega (arith, one, w.paced.pushes met.holder.id);
-        resolves = w.paced.resolves met.holder.id;
+        behind = w.paced.behind met.holder.id;
       }
 
   -- a message that met an intent may block the call

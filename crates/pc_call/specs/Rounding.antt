@@ -2,7 +2,7 @@
 use Rattle.std.specs.Prelude.{◌≡◌, ◌+◌, ◌≤◌, false, if◌then◌else◌, Option, None, Some, List, All, Any, IsTrue, count_by, ⊤}
 use Rattle.pc_base.specs.declared.transaction.TxnId.{TxnId}
 use Rattle.pc_base.specs.Transaction.{same_txn}
-use Rattle.pc_call.specs.Paced.{shows_resolve, was_met, was_pushed}
+use Rattle.pc_call.specs.Paced.{KeepsBehindPushes, was_met, was_pushed}
 use Rattle.pc_proto.specs.declared.reply.Reply.{Reply}
 use Rattle.pc_proto.specs.declared.reply.Reply.TheVariants as replies
 use Rattle.pc_proto.specs.Replies.{holder_in, is_conflict}
@@ -14,11 +14,11 @@ use Rattle.pc_world.specs.Known.{Known}
 use Rattle.pc_world.specs.Known.Traffic.{Heard, Sent}
 use Rattle.pc_world.specs.Send.Recovery.{was_refused}
 
--- The transaction was pushed once more, no other was, and no fewer conflicts and no more resolves than pushes were heard.
+-- The transaction was pushed once more, no other was, no fewer conflicts were heard, and no request of a round more often than its pushes.
 pub record IsPushedOnce (id : TxnId) (before now : List Heard) : Type 0 where
   pub pushes : (other : TxnId) → count_by (was_pushed other) now ≡ count_by (was_pushed other) before + (if same_txn id other then 1 else 0)
   pub met : (other : TxnId) → count_by (was_met other) before ≤ count_by (was_met other) now
-  pub resolves : (other : TxnId) → count_by (shows_resolve other) now ≤ count_by (was_pushed other) now
+  pub behind : (other : TxnId) → KeepsBehindPushes other now
 
 abbrev pub KeepsPace : Option TxnId → List Heard → List Heard → Type 0
 KeepsPace None before now = ⊤

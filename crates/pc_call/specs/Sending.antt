@@ -1,7 +1,7 @@
 -- What lets a request of an open call go out, and what is known of a conflict that asks for a round.
 use Rattle.std.specs.Prelude.{◌≡◌, ℕ, ◌+◌, ◌≤◌, Option, None, Some, IfSome, List, All, Any, Contains, count_by}
 use Rattle.pc_base.specs.declared.actor.ActorId.TheVariants as actors
-use Rattle.pc_call.specs.Paced.{shows_resolve, was_met, was_pushed}
+use Rattle.pc_call.specs.Paced.{KeepsBehindPushes, was_met, was_pushed}
 use Rattle.pc_proto.specs.declared.meta.TxnMeta.{TxnMeta}
 use Rattle.pc_proto.specs.declared.reply.Reply.{Reply}
 use Rattle.pc_proto.specs.declared.reply.Reply.TheVariants as replies
@@ -47,7 +47,8 @@ read_at (requests.Scan id epoch seq ts span) = Some ts
 read_at _ = None
 
 -- The message of this number met this conflict in the open call, which is not decided, and it was not the eighth of its request; a reader is
--- at the timestamp at which it reads; more conflicts with the holder were heard in the call than pushes of it; and no heartbeat is due.
+-- at the timestamp at which it reads; more conflicts with the holder were heard in the call than pushes of it, and no request of its rounds more
+-- often than pushes; and no heartbeat is due.
 pub record IsConflictNow (k : Known) (number : ℕ) (conflict : Reply) (reader : Option ℕ) : Type 0 where
   pub s : Statement
   pub opened : k.statement ≡ Some s
@@ -68,4 +69,4 @@ pub record IsConflictNow (k : Known) (number : ℕ) (conflict : Reply) (reader :
   pub low : IfSome reader (λ ts. ts ≤ k.top)
   pub due : IsRoundDue k number conflict
   pub pushes : count_by (was_pushed holder.id) k.heard_now + 1 ≤ count_by (was_met holder.id) k.heard_now
-  pub resolves : count_by (shows_resolve holder.id) k.heard_now ≤ count_by (was_pushed holder.id) k.heard_now
+  pub behind : KeepsBehindPushes holder.id k.heard_now

@@ -2,7 +2,7 @@
 use Rattle.std.proofs.Common.{◌≡◌, ℕ, zero, suc, ◌+◌, ◌<◌, ◌≤◌, ◌⊎◌, inl, inr, true, All, Contains, List, [], ◌∷◌, ◌++◌, length, map, slice_get, Result, Some, IfOk, refl, sym, ap, subst, ◌∙◌, arith}
 use Rattle.std.proofs.lemmas.Bool.{false≢true}
 use Rattle.std.proofs.lemmas.List.{append-nil, append_assoc, length-map, map-append}
-use Rattle.std.proofs.lemmas.List.Elements.{All-cons, All-contains, All-nil, All-push, All-weaker, Contains-append_cases, Contains-append_left, Contains-append_right, Contains-push, Contains-push_cases}
+use Rattle.std.proofs.lemmas.List.Elements.{All-contains, All-nil, All-push, All-weaker, Contains-append_cases, Contains-append_left, Contains-append_right, Contains-push, Contains-push_cases}
 use Rattle.std.proofs.lemmas.Option.{slice_get_within}
 use Rattle.std.proofs.lemmas.Result.{IfOk-weaker}
 use Rattle.std.specs.Global.{Vec}
@@ -15,28 +15,16 @@ use Rattle.pc_closing.specs.Leaving.{AreLeavers, HasSettledAll, IsLeaver, Leaver
 use Rattle.pc_closing.specs.Opening.{client_ids, opener_of, seats_up_to}
 use Rattle.pc_history.specs.Closed.{AllHandedIn, IsClosedPart, IsHistoryOf, ids_of}
 use Rattle.pc_history.specs.declared.view.Part.{Part}
-use Rattle.pc_history.specs.History.{IsFine, IsFineAfter}
 use Rattle.pc_history.specs.Meanings.{OpenerMeaning}
 use Rattle.pc_history.specs.Own.{own}
 use Rattle.pc_lists.proofs.Lists.{all_from_contains, contains_in_map, contains_map, contains_nil, get_append, get_contains, get_push}
 use Rattle.pc_proto.specs.declared.event.Event.{Event}
-use Rattle.pc_range.specs.Protocol.{unstaged_protocol}
 use Rattle.pc_range.specs.Seats.{HandsIn, range_ids}
-use Rattle.pc_range.specs.Unstaged.{unstaged_run}
 use Rattle.pc_turns.proofs.Shares.{client_once}
 use Rattle.pc_turns.specs.Clients.{is_client}
 use Rattle.pc_turns.specs.Shares.{AreHandedIn, IsPartAt, client_at}
 use Rattle.pc_world.specs.Local.{Head}
 use Rattle.pc_world.specs.Run.{IsRun, protocol}
-use Rattle.pc_world.specs.Unstaged.{IsNoStage, NothingIsStaged, OnSent}
-
--- no stage is sent where the protocol has none
-sent-after : (head : Head) (before later : List (Entry Event)) → IsFineAfter (unstaged_protocol head) before later → All (λ (e : Entry Event). OnSent IsNoStage e.event) later
-sent-after head before [] fine = All-nil _
-sent-after head before (e ∷ es) fine = All-cons (λ (x : Entry Event). OnSent IsNoStage x.event) e es fine.0.local.1 (sent-after head (before ++ e ∷ []) es fine.1)
-
-unstaged-sent : (head : Head) (history : List (Entry Event)) → IsFine (unstaged_protocol head) history → NothingIsStaged history
-unstaged-sent head history fine = sent-after head [] history fine
 
 -- The part is what one of these stored, once what it left was evaluated.
 pub record IsHandedBy (limit : ℕ) (leavers : List Leaver) (part : Part Event) : Type 0 where
@@ -168,12 +156,9 @@ module _ (limit : ℕ) (head : Head) (all : List Leaver) (now after : OpenerMean
         (Contains-append_left (ids_of now.parts) (range_ids (length head.splits + 1)) (client_at head index) (has-part index (subst (λ n. index < n) (length-map all (λ (l : Leaver). l.0.part.own)) within)));
   }
 
-  module _ (history : List (Entry Event)) (closed : IsHistoryOf (unstaged_protocol head) history after.parts) where
+  module _ (history : List (Entry Event)) (closed : IsHistoryOf (protocol head) history after.parts) where
     run : IsRun head history
-    run = unstaged_run head history closed.fine
-
-    part-closed : (part : Part Event) → IsClosedPart (unstaged_protocol head) history part → IsClosedPart (protocol head) history part
-    part-closed part c = record { list = c.list; stand = c.stand; uses = c.uses }
+    run = closed.fine
 
     kept-each : (index : ℕ) (l : Leaver) → slice_get all index ≡ Some l → IsKeptIn limit head history (client_at head index) l.0.part
     kept-each index l at =
@@ -185,21 +170,20 @@ module _ (limit : ℕ) (head : Head) (all : List Leaver) (now after : OpenerMean
         let same : by.leaver ≡ l = (let e : Some by.leaver ≡ Some l = sym by.at ∙ (ap (slice_get all) number ∙ at) in cc) in
         let there : Contains after.parts part = subst (λ ps. Contains ps part) (sym parts-are) (Contains-append_left now.parts ranges.more part found.1) in
         kept_in limit head history (client_at head index) l.0.part part run
-        (part-closed part (All-contains (IsClosedPart (unstaged_protocol head) history) after.parts part closed.parts_are there)) (subst (λ (x : Leaver). HasSettledAll limit x.0.part part) same by.left) found.2
+        (All-contains (IsClosedPart (protocol head) history) after.parts part closed.parts_are there) (subst (λ (x : Leaver). HasSettledAll limit x.0.part part) same by.left) found.2
 
     pub closed_over : IsClosedOver limit head all history
     closed_over = record {
       run = run;
-      unstaged = unstaged-sent head history closed.fine;
       parts = after.parts;
       stored = record {
         run = run;
-        lists = All-weaker (IsClosedPart (unstaged_protocol head) history) (λ (part : Part Event). own (protocol head) part.id history ≡ part.own) (λ part c. c.list) after.parts closed.parts_are;
+        lists = All-weaker (IsClosedPart (protocol head) history) (λ (part : Part Event). own (protocol head) part.id history ≡ part.own) (λ part c. c.list) after.parts closed.parts_are;
         only = closed.only;
       };
       handed = handed-in;
       each = kept-each;
     }
 
-  pub closed_if : {E : Type 0} (r : Result (Vec (Entry Event)) E) → IfOk r (λ entries. IsHistoryOf (unstaged_protocol after.world) entries.items after.parts) → IfOk r (λ entries. IsClosedOver limit head all entries.items)
-  closed_if r h = IfOk-weaker r (λ (entries : Vec (Entry Event)). IsHistoryOf (unstaged_protocol after.world) entries.items after.parts) (λ (entries : Vec (Entry Event)). IsClosedOver limit head all entries.items) (λ entries closed. closed_over entries.items (subst (λ w. IsHistoryOf (unstaged_protocol w) entries.items after.parts) world_is closed)) h
+  pub closed_if : {E : Type 0} (r : Result (Vec (Entry Event)) E) → IfOk r (λ entries. IsHistoryOf (protocol after.world) entries.items after.parts) → IfOk r (λ entries. IsClosedOver limit head all entries.items)
+  closed_if r h = IfOk-weaker r (λ (entries : Vec (Entry Event)). IsHistoryOf (protocol after.world) entries.items after.parts) (λ (entries : Vec (Entry Event)). IsClosedOver limit head all entries.items) (λ entries closed. closed_over entries.items (subst (λ w. IsHistoryOf (protocol w) entries.items after.parts) world_is closed)) h

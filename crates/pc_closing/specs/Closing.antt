@@ -18,7 +18,6 @@ use Rattle.pc_world.specs.Known.{known_of}
 use Rattle.pc_world.specs.Known.Traffic.{Sent}
 use Rattle.pc_world.specs.Local.{Head}
 use Rattle.pc_world.specs.Run.{IsRun, protocol}
-use Rattle.pc_world.specs.Unstaged.{NothingIsStaged}
 
 -- The own lists of these clients.
 abbrev pub lists_of : List Leaver → List (List (Pair Event))
@@ -32,10 +31,9 @@ pub record IsKeptIn (limit : ℕ) (head : Head) (history : List (Entry Event)) (
   pub full : (range : ℕ) → KnowsFull range limit part.known → range_is_full limit head history range ≡ true
   pub held : (m : Sent) → WasGivenBack limit part m → holds_up limit head history id m ≡ true
 
--- The history is a run, without stages; it is what the ranges and these clients stored, each of which is kept in it.
+-- The history is a run; it is what the ranges and these clients stored, each of which is kept in it.
 pub record IsClosedOver (limit : ℕ) (head : Head) (leavers : List Leaver) (history : List (Entry Event)) : Type 0 where
   pub run : IsRun head history
-  pub unstaged : NothingIsStaged history
   pub parts : List (Part Event)
   pub stored : IsStoredBy head history parts
   pub handed : AreHandedIn head (lists_of leavers) parts

@@ -1,7 +1,6 @@
 -- What a coordinator's transaction and counts are after its session sent and heard messages beside it.
 use Rattle.std.proofs.Common.{◌≡◌, ℕ, ◌+◌, ◌≤◌, true, false, List, [], ◌∷◌, ◌++◌, length, Option, Some, None, IfSome, refl, sym, ap, ◌∙◌, subst, arith, All, IsTrue, length-append}
 use Rattle.std.proofs.lemmas.List.Elements.{All-append, All-cons, All-head, All-nil, All-tail, All-weaker}
-use Rattle.pc_base.specs.declared.transaction.TxnId.{TxnId}
 use Rattle.pc_call.specs.Telling.{StandsOpen}
 use Rattle.pc_coord.proofs.Counting.{all_heard-more, all_own-more}
 use Rattle.pc_coord.proofs.Ranged.{ranged-beside}
@@ -34,24 +33,18 @@ own_write-beside begun (requests.Commit meta ts locks) e = absurd cc
 own_write-beside begun (requests.Stage meta ts now writes locks) e = absurd cc
 own_write-beside begun request e = tt
 
-unqueried : (id : TxnId) (request : Request) → is_of_round_or_job request ≡ true → is_query_of id request ≡ false
-unqueried id (requests.Push holder by level now goal) e = refl
-unqueried id (requests.Resolve other key fate) e = refl
-unqueried id (requests.Remove other anchor) e = refl
-unqueried id request e = absurd cc
-
-query-beside : (session begun : ℕ) (request : Request) → is_of_round_or_job request ≡ true → IsQueryOfBegun session begun request
-query-beside session begun (requests.Query id epoch seq ts key by) e = absurd cc
-query-beside session begun request e = tt
-
 plain-beside : (request : Request) → is_of_round_or_job request ≡ true → is_plain request ≡ true
 plain-beside (requests.Push holder by level now goal) e = refl
+plain-beside (requests.Query id epoch seq ts key by) e = refl
+plain-beside (requests.Recover id epoch ts anchor finding) e = refl
 plain-beside (requests.Resolve id key fate) e = refl
 plain-beside (requests.Remove id anchor) e = refl
 plain-beside request e = absurd cc
 
 goes-beside : (request : Request) → is_of_round_or_job request ≡ true → goes_beside request ≡ true
 goes-beside (requests.Push holder by level now goal) e = refl
+goes-beside (requests.Query id epoch seq ts key by) e = refl
+goes-beside (requests.Recover id epoch ts anchor finding) e = refl
 goes-beside (requests.Resolve id key fate) e = refl
 goes-beside (requests.Remove id anchor) e = refl
 goes-beside request e = absurd cc
@@ -60,7 +53,7 @@ own-beside : (c : Coordination) (begun : ℕ) (request : Request) → c.begun �
 own-beside c begun request e is = record {
   write = own_write-beside begun request is.kind;
   record_of = subst (λ n. IsOfBegun c.session n request) e is.begun;
-  query_of = query-beside c.session begun request is.kind;
+  query_of = subst (λ n. IsQueryOfBegun c.session n request) e is.query_of;
 }
 
 module _ (c : Coordination) (start k : Known) (later : IsLaterBeside c start k) where
@@ -107,12 +100,13 @@ module _ (c : Coordination) (start k : Known) (later : IsLaterBeside c start k) 
 
     -- nor was one of its writes asked for
     pub unqueried-beside : All (λ h. is_query_of x.id h.request ≡ false) later.heard_more
-    unqueried-beside = All-weaker (λ h. IsBeside c h.request) (λ h. is_query_of x.id h.request ≡ false) (λ h is. unqueried x.id h.request is.kind) later.heard_more later.heard_beside
+    unqueried-beside = All-weaker (λ h. IsBeside c h.request) (λ h. is_query_of x.id h.request ≡ false) (λ h is. is.unqueried x held) later.heard_more later.heard_beside
 
     leaves-beside : (t : Txn) → x.id ≡ t.id → (h : Heard) → IsBeside c h.request → LeavesAsIs t h
     leaves-beside t same h is =
         let no : is_about t.id h.request ≡ false = subst (λ id. is_about id h.request ≡ false) same (is.other x held) in
-        quiet_leaves t h (plain-beside h.request is.kind) (unqueried t.id h.request is.kind) no
+        let unasked : is_query_of t.id h.request ≡ false = subst (λ id. is_query_of id h.request ≡ false) same (is.unqueried x held) in
+        quiet_leaves t h (plain-beside h.request is.kind) unasked no
 
     -- the open transaction stands on
     pub stands-beside : (out : Option SentCommit) (t : Txn) → TxnStands start [] out t x → TxnStands k [] out t x

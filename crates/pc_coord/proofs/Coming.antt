@@ -21,7 +21,6 @@ use Rattle.pc_coord.specs.Going.{HearsNow}
 use Rattle.pc_proto.specs.declared.answer.Answer.{Answer}
 use Rattle.pc_proto.specs.declared.answer.Answer.TheVariants as answers
 use Rattle.pc_proto.specs.declared.call.Call.{Call}
-use Rattle.pc_proto.specs.declared.meta.TxnMeta.{TxnMeta}
 use Rattle.pc_proto.specs.declared.reply.Reply.{Reply}
 use Rattle.pc_proto.specs.declared.reply.Reply.TheVariants as replies
 use Rattle.pc_proto.specs.declared.request.Request.{Request}
@@ -38,7 +37,7 @@ use Rattle.pc_wave.specs.declared.message.Progress.{Progress}
 use Rattle.pc_wave.specs.declared.message.Progress.TheVariants as progresses
 use Rattle.pc_wave.specs.declared.step.Step.TheVariants as steps
 use Rattle.pc_wave.specs.Messages.{awaits_at, back_with, back_with_by, first_changed, first_in_conflict, has_answer, is_in_conflict, is_to_send, message_to_send, progress_has_answer, progress_in_conflict, progress_to_send, step_by, step_of, wave_awaits}
-use Rattle.pc_world.specs.Answering.{IsCommitReply}
+use Rattle.pc_world.specs.Answering.{IsRecordReply}
 use Rattle.pc_world.specs.Known.{Known}
 use Rattle.pc_world.specs.Known.Traffic.{Heard}
 
@@ -155,9 +154,9 @@ one_back n reply ms m one plain waits =
     ap (λ ms. list_any is_in_conflict (first_changed (awaits_at n) (back_with n reply) ms)) one
     ∙ lone_back n reply m plain (lone_awaited n m (sym (ap (wave_awaits n) one) ∙ waits))
 
-plain_commit : (meta : TxnMeta) (ts : ℕ) (reply : Reply) → IsCommitReply meta ts reply → is_conflict reply ≡ false
-plain_commit meta ts (replies.Status view) kind = refl
-plain_commit meta ts reply kind = absurd kind
+plain_commit : (reply : Reply) → IsRecordReply reply → is_conflict reply ≡ false
+plain_commit (replies.Status view) kind = refl
+plain_commit reply kind = absurd kind
 
 plain_alive : (reply : Reply) → ShowsUncommitted reply → is_conflict reply ≡ false
 plain_alive (replies.Conflict holder ts key) is = absurd is
@@ -181,4 +180,4 @@ module _ (c : Coordination) (call : OpenCall) (x : OpenTxn) (number : ℕ) (repl
   committed_none n commits =
       let s = served_commit c.splits k x call.purpose call.wave is.in_call n commits in
       let kind = commit_kind c call x number reply k h is n commits in
-      one_back number reply call.wave s.m s.one (plain_commit kind.0 kind.1 reply kind.2) is.waited
+      one_back number reply call.wave s.m s.one (plain_commit reply kind.0) is.waited

@@ -12,11 +12,10 @@ use Rattle.pc_call.specs.Opening.{GoesOn}
 use Rattle.pc_call.specs.Serving.{InCall, LaysLast, LaysNext, Serves, ServesAbort, ServesBeat, ServesCommit, ServesWrite, out_of}
 use Rattle.pc_coord.proofs.Dues.{answered_all}
 use Rattle.pc_coord.specs.Coordination.{Coordination}
-use Rattle.pc_coord.specs.Events.{IsAnsweredAlive, ShowsUncommitted}
+use Rattle.pc_coord.specs.Events.{IsAnsweredAlive, IsAnsweredUnstaged, ShowsUncommitted, ShowsUnstaged}
 use Rattle.pc_coord.specs.Going.{HearsNow, IsForMany}
 use Rattle.pc_coord.specs.Knows.{is_under_way}
 use Rattle.pc_proto.specs.declared.call.Call.{Call}
-use Rattle.pc_proto.specs.declared.meta.TxnMeta.{TxnMeta}
 use Rattle.pc_proto.specs.declared.reply.Reply.{Reply}
 use Rattle.pc_proto.specs.declared.reply.Reply.TheVariants as replies
 use Rattle.pc_proto.specs.declared.request.Request.{Request}
@@ -24,7 +23,7 @@ use Rattle.pc_proto.specs.declared.why.Why.{Why}
 use Rattle.pc_proto.specs.Replies.{is_conflict}
 use Rattle.pc_txn.specs.declared.txn.OpenTxn.{OpenTxn}
 use Rattle.pc_txn.proofs.Rows.{is_uncommitted}
-use Rattle.pc_txn.specs.Opened.{meta_now}
+use Rattle.pc_txn.specs.Opened.{own_commit}
 use Rattle.pc_txn.specs.Silence.{own_beat}
 use Rattle.pc_txn.specs.Standing.{TxnStands}
 use Rattle.pc_wave.proofs.Rounds.{due_round, first_found}
@@ -33,7 +32,7 @@ use Rattle.pc_wave.specs.declared.message.Progress.{Progress}
 use Rattle.pc_wave.specs.declared.message.Progress.TheVariants as progresses
 use Rattle.pc_wave.specs.declared.step.Step.TheVariants as steps
 use Rattle.pc_wave.specs.Messages.{awaits_at, back_with, back_with_by, conflicts_at, first_changed, goes_again, has_answer, is_in_conflict, message_to_send, progress_awaits, progress_conflicts, step_of, wave_awaits}
-use Rattle.pc_world.specs.Answering.{IsAbortReply, IsCommitReply, IsPutReply, MayAnswer}
+use Rattle.pc_world.specs.Answering.{IsAbortReply, IsPutReply, IsRecordReply, MayAnswer}
 use Rattle.pc_world.specs.Known.{Known}
 use Rattle.pc_world.specs.Known.Traffic.{Heard}
 
@@ -160,11 +159,14 @@ module _ (c : Coordination) (call : OpenCall) (x : OpenTxn) (number : ℕ) (repl
   asked_one : (m : Message) → call.wave ≡ m ∷ [] → h.request ≡ m.request
   asked_one m one = one_asked c.session is.before c.begun c.splits k x call.purpose call.wave is.counted is.in_call number reply h is.waited is.heard m one
 
-  -- the reply to a commit is one that may be given to it
-  pub commit_kind : (n : ℕ) → call.purpose ≡ purposes.Commit n → (meta : TxnMeta) × (ts : ℕ) × IsCommitReply meta ts reply
+  -- the reply to a commit shows a record, which stages nothing
+  pub commit_kind : (n : ℕ) → call.purpose ≡ purposes.Commit n → IsRecordReply reply × ShowsUnstaged reply
   commit_kind n e =
-      let s = served_commit c.splits k x call.purpose call.wave is.in_call n e in
-      (meta_now x s.commits.anchor, x.write_ts, subst (λ r. MayAnswer r reply) (asked_one s.m s.one ∙ s.said) is.heard.kind)
+      let w = is.in_call in
+      let s = served_commit c.splits k x call.purpose call.wave w n e in
+      let asked : h.request ≡ own_commit x s.commits.anchor = asked_one s.m s.one ∙ s.said in
+      let unstaged : IsAnsweredUnstaged k (own_commit x s.commits.anchor) reply = subst (λ r. IsAnsweredUnstaged k r reply) asked is.unstaged in
+      (subst (λ r. MayAnswer r reply) asked is.heard.kind, unstaged w.t (open_is k w.t w.open_in) (ap (λ x. x.id) w.stands.same))
 
   -- that to a heartbeat shows a record that was not committed
   pub beat_kind : (kept : Call) (reading : ℕ) → call.purpose ≡ purposes.Beat kept reading → ShowsUncommitted reply

@@ -106,6 +106,8 @@ module _ (splits : List (List ℕ)) where
 
 beside_one : (splits : List (List ℕ)) (request : Request) → is_of_round_or_job request ≡ true → IsForOne splits request
 beside_one splits (requests.Push holder by level now goal) e = tt
+beside_one splits (requests.Query id epoch seq ts key by) e = tt
+beside_one splits (requests.Recover id epoch ts anchor finding) e = tt
 beside_one splits (requests.Resolve id key fate) e = tt
 beside_one splits (requests.Remove id anchor) e = tt
 beside_one splits request e = absurd cc

@@ -214,6 +214,7 @@ module _ (c : Coordination) (k : Known) (x : OpenTxn) (call : OpenCall) (knows :
       waited = waits;
       heard = record { numbered = refl; asked = out.1; told = refl; kind = is.kind out.0 out.1; past = is.past out.0 out.1 };
       alive = is.alive out.0 out.1;
+      unstaged = is.unstaged out.0 out.1;
       ready = record {
         rising = knows.rising;
         ranged = ranged_heard c.splits k knows.ranged h out.1;
@@ -247,7 +248,7 @@ module _ (c : Coordination) (start k : Known) (x : OpenTxn) (call : OpenCall) (k
 
   -- and the round is over
   pub had_round : (round : Round) (conflict : Reply) → EndsRound conflict round start k → HasHadRound round start k x.id conflict
-  had_round rounds.Again (replies.Conflict holder ts key) ends = makes_round c start k x holder ts key held later ends (in_call c start x call knows held due).paced.resolves
+  had_round rounds.Again (replies.Conflict holder ts key) ends = makes_round c start k x holder ts key held later ends (in_call c start x call knows held due).paced.behind
   had_round rounds.Refused (replies.Conflict holder ts key) ends = record { beside = goes_on; refused = refused_heard holder.id start k ends }
   had_round (rounds.Lost faults) (replies.Conflict holder ts key) ends = (goes_on, ends)
   had_round round reply ends = absurd ends

@@ -28,7 +28,7 @@ use Rattle.pc_coord.specs.declared.due.Opened.{Opened}
 use Rattle.pc_coord.specs.declared.job.Job.{Job}
 use Rattle.pc_coord.specs.declared.kinds.Decision.TheVariants as decisions
 use Rattle.pc_coord.specs.declared.next.Next.TheVariants as nexts
-use Rattle.pc_coord.specs.Events.{IsAsked, ShowsUncommitted}
+use Rattle.pc_coord.specs.Events.{IsAsked, ShowsUncommitted, ShowsUnstaged}
 use Rattle.pc_coord.specs.Going.{BeginsNothing, StandsReady}
 use Rattle.pc_coord.specs.Kinds.{begins_at, conflict_due, decision_in, decision_of, status_in, told_outside, written_at}
 use Rattle.pc_coord.specs.Knows.{Knows, KnowsAt, is_under_way}
@@ -38,7 +38,6 @@ use Rattle.pc_proto.specs.declared.answer.Answer.TheVariants as answers
 use Rattle.pc_proto.specs.declared.call.Call.{Call}
 use Rattle.pc_proto.specs.declared.call.Call.TheVariants as calls
 use Rattle.pc_proto.specs.declared.event.Event.{Event}
-use Rattle.pc_proto.specs.declared.meta.TxnMeta.{TxnMeta}
 use Rattle.pc_proto.specs.declared.reply.Reply.{Reply}
 use Rattle.pc_proto.specs.declared.reply.Reply.TheVariants as replies
 use Rattle.pc_proto.specs.declared.request.Request.{Request}
@@ -53,7 +52,7 @@ use Rattle.pc_wave.specs.declared.message.Message.{Message}
 use Rattle.pc_wave.specs.declared.step.Step.{Step}
 use Rattle.pc_wave.specs.declared.step.Step.TheVariants as steps
 use Rattle.pc_wave.specs.Messages.{step_of}
-use Rattle.pc_world.specs.Answering.{IsAbortReply, IsCommitReply, IsPutReply}
+use Rattle.pc_world.specs.Answering.{IsAbortReply, IsPutReply, IsRecordReply}
 use Rattle.pc_world.specs.Known.{Known, learn, next_number}
 use Rattle.pc_world.specs.Local.{is_outside, is_round}
 
@@ -239,17 +238,17 @@ pub refused_reply : (reply : Reply) (recorded : ℕ) → decision_of reply ≡ d
 refused_reply (replies.Status view) recorded is = let v = refused_view view recorded is in (v.0, ap replies.Status v.1)
 refused_reply reply recorded is = absurd cc
 
-none_view : (meta : TxnMeta) (ts : ℕ) (view : View) → IsCommitReply meta ts (replies.Status view) → decision_in view ≡ decisions.Nothing → ⊥
-none_view meta ts (views.Pending e t) kind is = cc
-none_view meta ts (views.Committed e t locks) kind is = cc
-none_view meta ts (views.Aborted e why locks) kind is = cc
-none_view meta ts (views.Staging e t writes) kind is = kind.0
-none_view meta ts views.Nothing kind is = kind.0
+none_view : (view : View) → IsRecordReply (replies.Status view) → ShowsUnstaged (replies.Status view) → decision_in view ≡ decisions.Nothing → ⊥
+none_view (views.Pending e t) kind unstaged is = cc
+none_view (views.Committed e t locks) kind unstaged is = cc
+none_view (views.Aborted e why locks) kind unstaged is = cc
+none_view (views.Staging e t writes) kind unstaged is = unstaged
+none_view views.Nothing kind unstaged is = kind
 
 -- the reply to a commit says something of it
-pub decided : (meta : TxnMeta) (ts : ℕ) (reply : Reply) → IsCommitReply meta ts reply → decision_of reply ≡ decisions.Nothing → ⊥
-decided meta ts (replies.Status view) kind is = none_view meta ts view kind is
-decided meta ts reply kind is = kind
+pub decided : (reply : Reply) → IsRecordReply reply → ShowsUnstaged reply → decision_of reply ≡ decisions.Nothing → ⊥
+decided (replies.Status view) kind unstaged is = none_view view kind unstaged is
+decided reply kind unstaged is = kind
 
 -- a heartbeat whose record was not committed is told where that stands, or why it was aborted
 pub alive_uncommitted : (reply : Reply) (epoch ts : ℕ) → ShowsUncommitted reply → decision_of reply ≡ decisions.Committed epoch ts → ⊥

@@ -56,8 +56,18 @@ abbrev pub IsAnsweredAlive : Known → Request → Reply → Type 0
 IsAnsweredAlive k (requests.Beat meta ts now) reply = (t : Txn) → open_txn k ≡ Some t → meta.id ≡ t.id → IsUncommitted t.id k.sent k.heard → ShowsUncommitted reply
 IsAnsweredAlive k _ reply = ⊤
 
--- The reply that was waited for was heard: the entry names an evaluation that answered so, as the message may be answered where
--- nothing is staged, by no record in a later epoch than the session has reached, and to a heartbeat by no commit.
+-- The record that the reply shows stages nothing.
+abbrev pub ShowsUnstaged : Reply → Type 0
+ShowsUnstaged (replies.Status (views.Staging epoch ts writes)) = ⊥
+ShowsUnstaged _ = ⊤
+
+-- If the request commits the open transaction, the record that the reply shows stages nothing: no session sends a stage so far.
+abbrev pub IsAnsweredUnstaged : Known → Request → Reply → Type 0
+IsAnsweredUnstaged k (requests.Commit meta ts locks) reply = (t : Txn) → open_txn k ≡ Some t → meta.id ≡ t.id → ShowsUnstaged reply
+IsAnsweredUnstaged k _ reply = ⊤
+
+-- The reply that was waited for was heard: the entry names an evaluation that answered so, as the message may be answered, by no record in a
+-- later epoch than the session has reached, to a heartbeat by no commit, and to a commit by no stage.
 pub record HearsAwaited (c : Coordination) (number step : ℕ) (reply : Reply) (k : Known) (p : Pair Event) : Type 0 where
   pub waited : awaits_number number c.due ≡ true
   pub event : p.entry.event ≡ events.Hear number step
@@ -69,6 +79,7 @@ pub record HearsAwaited (c : Coordination) (number step : ℕ) (reply : Reply) (
   pub kind : (request : Request) → request_sent number k.sent ≡ Some request → MayAnswer request reply
   pub past : (request : Request) → request_sent number k.sent ≡ Some request → (t : Txn) → Contains k.txns t → IsPastWhereUndecided t request reply
   pub alive : (request : Request) → request_sent number k.sent ≡ Some request → IsAnsweredAlive k request reply
+  pub unstaged : (request : Request) → request_sent number k.sent ≡ Some request → IsAnsweredUnstaged k request reply
 
 -- The answer that was due was told.
 pub record IsTold (c : Coordination) (answer : Answer) (p : Pair Event) : Type 0 where

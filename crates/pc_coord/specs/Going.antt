@@ -9,7 +9,7 @@ use Rattle.pc_call.specs.Learned.{known_heard}
 use Rattle.pc_call.specs.Rounding.{GoesOnBeside, MakesRound, RefusesRound}
 use Rattle.pc_call.specs.Serving.{InCall}
 use Rattle.pc_coord.specs.Coordination.{Coordination}
-use Rattle.pc_coord.specs.Events.{IsAnsweredAlive}
+use Rattle.pc_coord.specs.Events.{IsAnsweredAlive, IsAnsweredUnstaged}
 use Rattle.pc_coord.specs.declared.round.Round.{Round}
 use Rattle.pc_coord.specs.Ranged.{IsRanged}
 use Rattle.pc_coord.specs.declared.round.Round.TheVariants as rounds
@@ -50,6 +50,7 @@ pub record HearsNow (c : Coordination) (call : OpenCall) (x : OpenTxn) (number :
   pub waited : wave_awaits number call.wave ≡ true
   pub heard : IsHeardTo k number reply h
   pub alive : IsAnsweredAlive k h.request reply
+  pub unstaged : IsAnsweredUnstaged k h.request reply
   pub ready : StandsReady c (known_heard h k)
 
 -- Since then the round of this conflict was made beside the open call, whose transaction has this name, and ended so.

@@ -1,34 +1,45 @@
 -- The rounds of the conflicts of an open call: how each ends.
-use Rattle.std.specs.Prelude.{◌≡◌, ℕ, Some, List, [], ◌∷◌, ◌++◌, IsTrue}
+use Rattle.std.specs.Prelude.{◌≡◌, ℕ, false, Some, List, [], ◌∷◌, ◌++◌, All, IsTrue}
 use Rattle.pc_base.specs.declared.transaction.TxnId.{TxnId}
+use Rattle.pc_call.specs.Paced.{IsBehindPushOf}
 use Rattle.pc_coord.specs.declared.round.Round.{Round}
 use Rattle.pc_coord.specs.declared.round.Round.TheVariants as rounds
-use Rattle.pc_proto.specs.declared.fate.Fate.{Fate}
 use Rattle.pc_proto.specs.declared.fate.Goal.{Goal}
 use Rattle.pc_proto.specs.declared.reply.Reply.{Reply}
 use Rattle.pc_proto.specs.declared.reply.Reply.TheVariants as replies
-use Rattle.pc_proto.specs.declared.view.View.{View}
+use Rattle.pc_proto.specs.Replies.{is_conflict}
+use Rattle.pc_proto.specs.declared.request.Request.{Request}
 use Rattle.pc_proto.specs.Requests.{goal_in, is_push_of}
-use Rattle.pc_proto.specs.Views.{fate_after}
+use Rattle.pc_follows.specs.Resends.{WasDone}
+use Rattle.pc_world.specs.Counting.{AtLeast}
 use Rattle.pc_world.specs.Known.{Known}
 use Rattle.pc_world.specs.Known.Traffic.{Heard}
+use Rattle.pc_world.specs.SameRequest.{IsSameRequest}
 use Rattle.pc_world.specs.Send.Recovery.{was_refused}
-use Rattle.pc_world.specs.Send.Settling.{ResolvedTo}
 use Rattle.pc_world.specs.Tell.Refusal.{WasLost}
 
--- The round of a conflict with this holder at this key: it was pushed, and its intent was settled with the fate that the push left to it.
+-- What is heard in a round behind its push: replies to queries, a recovery and a resolve of this transaction, none of which met an intent.
+pub record IsBehindPush (id : TxnId) (h : Heard) : Type 0 where
+  pub behind : IsBehindPushOf id h.request
+  pub unmet : is_conflict h.reply ≡ false
+
+-- No request was heard twice.
+abbrev pub AreAskedOnce : List Heard → Type 0
+AreAskedOnce heard = (request : Request) → AtLeast (λ h. IsSameRequest request h.request) 2 heard → ⊥
+
+-- The round of a conflict with this holder at this key: it was pushed once, and what the push's reply asks for was done: its intent was settled
+-- with the fate that the push left to it, or, where the push was unsure, it was recovered, and settled where the recovery's view is final. Nothing
+-- was asked for twice behind the push.
 pub record IsSettledRound (id : TxnId) (key : List ℕ) (start k : Known) : Type 0 where
   pub push : Heard
-  pub view : View
+  pub later : List Heard
   pub goal : Goal
-  pub fate : Fate
-  pub resolve : Heard
-  pub more : k.heard_now ≡ start.heard_now ++ push ∷ resolve ∷ []
+  pub more : k.heard_now ≡ start.heard_now ++ push ∷ later
   pub pushed : IsTrue (is_push_of id push.request)
   pub aims : goal_in push.request ≡ Some goal
-  pub told : push.reply ≡ replies.Status view
-  pub left : fate_after goal view ≡ Some fate
-  pub resolved : ResolvedTo id key fate resolve
+  pub done : WasDone id key goal push.reply later
+  pub behind : All (IsBehindPush id) later
+  pub once : AreAskedOnce later
 
 -- The round of a conflict with this holder: its push was refused.
 pub record IsRefusedRound (id : TxnId) (start k : Known) : Type 0 where

@@ -34,13 +34,12 @@ use Rattle.pc_proto.specs.declared.request.Request.{Request}
 use Rattle.pc_proto.specs.Stamps.{request_stamps}
 use Rattle.pc_range.proofs.Evaluating.{gave-nothing}
 use Rattle.pc_range.specs.Message.{ComesAfter, IsEvalNote, evaluation}
-use Rattle.pc_range.specs.Protocol.{unstaged_protocol}
 use Rattle.pc_wire.specs.declared.verdict.Verdict.{Verdict}
 use Rattle.pc_wire.specs.declared.verdict.Verdict.TheVariants as verdicts
 use Rattle.pc_world.specs.Known.{Known, known_of, learn, nothing_known}
 use Rattle.pc_world.specs.Known.Traffic.{Heard, Sent, heard_by, request_sent, sent_by}
 use Rattle.pc_world.specs.RangeOf.{GoesTo}
-use Rattle.pc_world.specs.Run.{IsKept, spends}
+use Rattle.pc_world.specs.Run.{IsKept, protocol, spends}
 use Rattle.pc_world.specs.Stamps.{AllBelowGreatest}
 
 -- ---- a call is asked, or told its answer
@@ -53,7 +52,7 @@ done-at old after event sends hears free no_sending no_hearing track entered = r
   track = track_done old (record old { log = after }) event track entered refl
       (ap (λ (k : Known). k.sent) (known_after_it old.log after event entered) ∙ (ap (λ xs. (known_of old.log.part.own).sent ++ xs) sends ∙ append-nil (known_of old.log.part.own).sent))
       (ap (λ (k : Known). k.heard) (known_after_it old.log after event entered) ∙ (ap (λ o. (known_of old.log.part.own).heard ++ option_to_list o) (hears _ _) ∙ append-nil (known_of old.log.part.own).heard))
-      (ap (λ l. l.part.known) entered.stored ∙ ap (λ b. cond b (spend (named_by (unstaged_protocol old.log.head) old.log.part event) old.log.part.known) old.log.part.known) free) no_sending no_hearing;
+      (ap (λ l. l.part.known) entered.stored ∙ ap (λ b. cond b (spend (named_by (protocol old.log.head) old.log.part event) old.log.part.known) old.log.part.known) free) no_sending no_hearing;
 }
 
 pub has_done : {C : Type 0} (v old : DeskMeaning C) (after : LogMeaning C) (event : Event) → v ≡ old → sent_by event ≡ [] → ((named : Option (Entry Event)) (sent : List Sent) → heard_by event named sent ≡ None) → spends event ≡ false
@@ -70,7 +69,7 @@ hear_may old a rest track may first =
 
 -- the reply that is heard was evaluated with its wave
 pub hear_waves : {C : Type 0} (old : DeskMeaning C) (a : Answered) (rest : List Answered) → KeepsTrack old → old.replies ≡ a ∷ rest
-    → KeepsWavesNext old.log.beside old.log.part.own (events.Hear a.number a.step) (named_by (unstaged_protocol old.log.head) old.log.part (events.Hear a.number a.step))
+    → KeepsWavesNext old.log.beside old.log.part.own (events.Hear a.number a.step) (named_by (protocol old.log.head) old.log.part (events.Hear a.number a.step))
 hear_waves old a rest track first =
     let by = All-head (IsAnsweredBy old.log) a rest (subst (All (IsAnsweredBy old.log)) first track.answered) in
     let w = subst (WaitInWave old.log.beside old.log.part.own old.posted) first track.wave in
@@ -255,7 +254,7 @@ pub one_use : {C : Type 0} (old l : LogMeaning C) (number range uses : ℕ) (req
 one_use old l number range uses request verdict note same ends by quiet is =
     let one : uses ≡ 1 = by ∙ ap uses_by quiet in
     let there : slice_get l.part.own (length l.part.own - 1) ≡ Some ends.last = subst (λ m. slice_get m.part.own (length m.part.own - 1) ≡ Some ends.last) (sym same) ends.there in
-    ap uses_left is ∙ (ap uses_left (noted-at (unstaged_protocol l.head) l.part (length l.part.own - 1) uses ends.last there) ∙ one)
+    ap uses_left is ∙ (ap uses_left (noted-at (protocol l.head) l.part (length l.part.own - 1) uses ends.last there) ∙ one)
 
 posted-at : {C M : Type 0} (old : DeskMeaning C) (after : LogMeaning C) (f : ℕ × M → Posted) (es new : List (ℕ × M)) (number range : ℕ) (request : Request) (w : M) → old.posted ≡ map f es → lookup (is_at (nat_cmp number)) es ≡ None → new ≡ insert_entry nat_cmp es number w
     → f (number, w) ≡ posting number range request 1 → after ≡ record old.log { part = gave (length old.log.part.own - 1) 1 old.log.part }
@@ -399,7 +398,7 @@ some_entry d track some' = by d.posted refl
 pub last_behind : {C : Type 0} (v old : DeskMeaning C) (note : List (KnownEntry Event)) → v ≡ old → KeepsTrack old → 1 ≤ length old.posted → note ≡ noted (length v.log.part.own - 1) 0 v.log.part → IsBehindAll old.log.part.own note
 last_behind {C} v old note same track some' is =
     subst (IsBehindAll old.log.part.own) (sym (is ∙ ap (λ (d : DeskMeaning C). noted (length d.log.part.own - 1) 0 d.log.part) same))
-    (note_behind (unstaged_protocol old.log.head) old.log.part track.log.stands 0 (some_entry old track some'))
+    (note_behind (protocol old.log.head) old.log.part track.log.stands 0 (some_entry old track some'))
 
 -- where no reply waits, what is behind all that the actor made is the newest
 pub newest_first : (own : List (Pair Event)) (replies : List Answered) (note : List (KnownEntry Event)) → replies ≡ [] → IsBehindAll own note → IsNewest own replies note

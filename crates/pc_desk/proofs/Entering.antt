@@ -21,9 +21,9 @@ use Rattle.pc_lists.proofs.Lists.{contains_nil}
 use Rattle.pc_proto.specs.declared.call.Call.{Call}
 use Rattle.pc_proto.specs.declared.event.Event.{Event}
 use Rattle.pc_proto.specs.declared.event.Event.TheVariants as events
-use Rattle.pc_range.specs.Protocol.{unstaged_protocol}
 use Rattle.pc_world.specs.Known.{known_of}
 use Rattle.pc_world.specs.Local.{Head, IsActorOf, IsLocal, MayDo}
+use Rattle.pc_world.specs.Run.{protocol}
 
 -- one more pair that is so, after those before it
 pub each_after_push : (P : List (Pair Event) → Pair Event → Type 0) (before xs : List (Pair Event)) (p : Pair Event) → EachAfter P before xs → P (before ++ xs) p → EachAfter P before (xs ++ p ∷ [])
@@ -93,9 +93,9 @@ log_begun l there client fresh short one =
       waves = subst (KeepsWavesEach l.beside) (sym none) tt;
       before_stop = λ going. subst (λ m. IfSome l.stop (λ n. m < n)) (sym n) (stop-above l.stop one);
       at_stop = subst (λ m. IfSome l.stop (λ n. m ≤ n)) (sym n) (stop-at l.stop one);
-      sound = subst (λ (p : Part Event). IsSound (unstaged_protocol l.head) (knowledge p)) (sym fresh)
+      sound = subst (λ (p : Part Event). IsSound (protocol l.head) (knowledge p)) (sym fresh)
           (record { kept = All-nil _; differ = λ a b is_a is_b same. absurd (contains_nil a is_a); one = λ event a b is_a is_b na nb. absurd (contains_nil a is_a) });
-      stands = subst (StandsInHistory (unstaged_protocol l.head)) (sym fresh) (record { history = []; short = omega arith; fine = tt; list = refl; stand = All-nil _ });
+      stands = subst (StandsInHistory (protocol l.head)) (sym fresh) (record { history = []; short = omega arith; fine = tt; list = refl; stand = All-nil _ });
     }
   where
     stop-above : (stop : Option ℕ) → IfSome stop (λ n. 1 ≤ n) → IfSome stop (λ n. 0 < n)
@@ -118,17 +118,17 @@ not-last (Some n) long h none =
 
 -- the list with one more entry, which may be its last
 abbrev pub grown : {C : Type 0} → ℕ → Event → Bool → ℕ → C → LogMeaning C → LogMeaning C
-grown step event last spare clock l = record l { part = acted (unstaged_protocol l.head) step event l.part; spare = spare; clock = clock; stopped = last }
+grown step event last spare clock l = record l { part = acted (protocol l.head) step event l.part; spare = spare; clock = clock; stopped = last }
 
 -- one more entry of the actor
 pub log_grown : {C : Type 0} (l : LogMeaning C) (step spare : ℕ) (clock : C) (event : Event) (last : Bool) → IsOwnLog l → l.stopped ≡ false → length l.part.own < l.limit → last ≡ is_last l.stop (length l.part.own)
-    → KeepsNext l.part.id l.head.splits l.pipelining l.part.own event (named_by (unstaged_protocol l.head) l.part event)
-    → KeepsWavesNext l.beside l.part.own event (named_by (unstaged_protocol l.head) l.part event)
-    → IsSound (unstaged_protocol l.head) (knowledge (acted (unstaged_protocol l.head) step event l.part))
-    → StandsInHistory (unstaged_protocol l.head) (acted (unstaged_protocol l.head) step event l.part)
+    → KeepsNext l.part.id l.head.splits l.pipelining l.part.own event (named_by (protocol l.head) l.part event)
+    → KeepsWavesNext l.beside l.part.own event (named_by (protocol l.head) l.part event)
+    → IsSound (protocol l.head) (knowledge (acted (protocol l.head) step event l.part))
+    → StandsInHistory (protocol l.head) (acted (protocol l.head) step event l.part)
     → IsOwnLog (grown step event last spare clock l)
 log_grown l step spare clock event last log going below is keeps waves sound stands =
-    let p : Pair Event = pair (entry_of step l.part.id event) (named_by (unstaged_protocol l.head) l.part event) in
+    let p : Pair Event = pair (entry_of step l.part.id event) (named_by (protocol l.head) l.part event) in
     let long : length (l.part.own ++ p ∷ []) ≡ length l.part.own + 1 = length-append l.part.own (p ∷ []) in
     record {
       there = log.there;
@@ -177,7 +177,7 @@ log_kept l m eh ei eo ek ep eb en es going log =
     }
 
 -- a note that is taken
-pub log_told : {C : Type 0} (l : LogMeaning C) (note : List (KnownEntry Event)) → IsOwnLog l → IsSound (unstaged_protocol l.head) (knowledge (told note l.part)) → StandsInHistory (unstaged_protocol l.head) (told note l.part)
+pub log_told : {C : Type 0} (l : LogMeaning C) (note : List (KnownEntry Event)) → IsOwnLog l → IsSound (protocol l.head) (knowledge (told note l.part)) → StandsInHistory (protocol l.head) (told note l.part)
     → IsOwnLog (record l { part = told note l.part })
 log_told l note log sound stands = record {
   there = log.there;

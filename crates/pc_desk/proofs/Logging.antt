@@ -20,25 +20,25 @@ use Rattle.pc_history.specs.Own.{pair}
 use Rattle.pc_history.specs.Parts.{acted, entry_of, knowledge, named_by}
 use Rattle.pc_lists.proofs.Counts.{one_if}
 use Rattle.pc_proto.specs.declared.event.Event.{Event}
-use Rattle.pc_range.specs.Protocol.{unstaged_protocol}
 use Rattle.pc_world.specs.Local.{Head}
+use Rattle.pc_world.specs.Run.{protocol}
 
 -- the actor once it made the event
 abbrev pub doing : ℕ → Event → ActorMeaning Head Event → ActorMeaning Head Event
-doing step event actor = record actor { part = acted (unstaged_protocol actor.world) step event actor.part; spare = actor.spare - 1 }
+doing step event actor = record actor { part = acted (protocol actor.world) step event actor.part; spare = actor.spare - 1 }
 
 -- The actor made the event at this step, and the places of commits were kept by it.
 pub record HasMade (actor after : ActorMeaning Head Event) (event : Event) (places later : TxnId → Option ℕ) (step : ℕ) : Type 0 where
   pub stored : after ≡ doing step event actor
   pub above : All (λ e. e.step < step) (knowledge actor.part)
   pub small : step < 2 ^ 48
-  pub sound : IsSound (unstaged_protocol actor.world) (knowledge after.part)
-  pub stands : StandsInHistory (unstaged_protocol actor.world) after.part
+  pub sound : IsSound (protocol actor.world) (knowledge after.part)
+  pub stands : StandsInHistory (protocol actor.world) after.part
   pub kept : KeepsPlace (commit_told_by event) (length actor.part.own) places later
 
 -- where memory was not wanting
 pub has_made : {E : Type 0} (actor after : ActorMeaning Head Event) (event : Event) (places later : TxnId → Option ℕ) (r : Result ℕ E) (wanting : Bool) → wanting ≡ is_err r → wanting ≡ false → IfOk r (λ step. after ≡ doing step event actor)
-    → IfOk r (λ step. All (λ e. e.step < step) (knowledge actor.part)) → IfOk r (λ step. step < 2 ^ 48) → OnOk r (IsSound (unstaged_protocol actor.world) (knowledge after.part)) → OnOk r (StandsInHistory (unstaged_protocol actor.world) after.part)
+    → IfOk r (λ step. All (λ e. e.step < step) (knowledge actor.part)) → IfOk r (λ step. step < 2 ^ 48) → OnOk r (IsSound (protocol actor.world) (knowledge after.part)) → OnOk r (StandsInHistory (protocol actor.world) after.part)
     → OnOk r (KeepsPlace (commit_told_by event) (length actor.part.own) places later) → (step : ℕ) × HasMade actor after event places later step
 has_made actor after event places later (Ok step) wanting is none stored above small sound stands kept = (step, record { stored = stored; above = above; small = small; sound = sound; stands = stands; kept = kept })
 has_made actor after event places later (Err e) wanting is none stored above small sound stands kept = absurd (let e : true ≡ false = sym is ∙ none in cc e)
@@ -56,27 +56,27 @@ module _ {C : Type 0} (old ready : LogMeaning C) (actor after : ActorMeaning Hea
   as-it-was view is = sym (view ∙ is.same)
 
   log-at : (v : LogMeaning C) (spare : ℕ) → record old { spare = spare } ≡ v → old.stopped ≡ false → length old.part.own < old.limit → last ≡ is_last old.stop (length old.part.own)
-      → KeepsNext old.part.id old.head.splits old.pipelining old.part.own event (named_by (unstaged_protocol old.head) old.part event)
-      → KeepsWavesNext old.beside old.part.own event (named_by (unstaged_protocol old.head) old.part event)
+      → KeepsNext old.part.id old.head.splits old.pipelining old.part.own event (named_by (protocol old.head) old.part event)
+      → KeepsWavesNext old.beside old.part.own event (named_by (protocol old.head) old.part event)
       → IsOwnLog v → (left : ℕ)
-      → IsSound (unstaged_protocol v.head) (knowledge (acted (unstaged_protocol v.head) step event v.part))
-      → StandsInHistory (unstaged_protocol v.head) (acted (unstaged_protocol v.head) step event v.part)
+      → IsSound (protocol v.head) (knowledge (acted (protocol v.head) step event v.part))
+      → StandsInHistory (protocol v.head) (acted (protocol v.head) step event v.part)
       → IsOwnLog (grown step event last left now v)
   log-at v spare same going below is keeps waves log left sound stands =
-      subst (λ (x : LogMeaning C). IsOwnLog x → IsSound (unstaged_protocol x.head) (knowledge (acted (unstaged_protocol x.head) step event x.part))
-      → StandsInHistory (unstaged_protocol x.head) (acted (unstaged_protocol x.head) step event x.part) → IsOwnLog (grown step event last left now x)) same
+      subst (λ (x : LogMeaning C). IsOwnLog x → IsSound (protocol x.head) (knowledge (acted (protocol x.head) step event x.part))
+      → StandsInHistory (protocol x.head) (acted (protocol x.head) step event x.part) → IsOwnLog (grown step event last left now x)) same
       (λ l s t. log_grown (record old { spare = spare }) step left now event last l going below is keeps waves s t) log sound stands
 
   pub made_log : before_it ≡ ready → IsReady old ready last → IsOwnLog before_it
-      → KeepsNext old.part.id old.head.splits old.pipelining old.part.own event (named_by (unstaged_protocol old.head) old.part event)
-      → KeepsWavesNext old.beside old.part.own event (named_by (unstaged_protocol old.head) old.part event)
-      → after ≡ doing step event actor → IsSound (unstaged_protocol actor.world) (knowledge after.part) → StandsInHistory (unstaged_protocol actor.world) after.part
+      → KeepsNext old.part.id old.head.splits old.pipelining old.part.own event (named_by (protocol old.head) old.part event)
+      → KeepsWavesNext old.beside old.part.own event (named_by (protocol old.head) old.part event)
+      → after ≡ doing step event actor → IsSound (protocol actor.world) (knowledge after.part) → StandsInHistory (protocol actor.world) after.part
       → IsOwnLog (after_it after)
   made_log view is log keeps waves did sound stands =
       subst (λ (a : ActorMeaning Head Event). IsOwnLog (after_it a)) (sym did)
       (log-at before_it ready.spare (as-it-was view is) is.was is.below is.is keeps waves log (actor.spare - 1)
-      (subst (λ (a : ActorMeaning Head Event). IsSound (unstaged_protocol actor.world) (knowledge a.part)) did sound)
-      (subst (λ (a : ActorMeaning Head Event). StandsInHistory (unstaged_protocol actor.world) a.part) did stands))
+      (subst (λ (a : ActorMeaning Head Event). IsSound (protocol actor.world) (knowledge a.part)) did sound)
+      (subst (λ (a : ActorMeaning Head Event). StandsInHistory (protocol actor.world) a.part) did stands))
 
   stored-at : (v : LogMeaning C) (spare left : ℕ) → record old { spare = spare } ≡ v → old.stopped ≡ last
       → ◌≡◌ {A = LogMeaning C} (grown step event last left now v) (record (with_event step event old) { spare = left; clock = now })
@@ -95,7 +95,7 @@ module _ {C : Type 0} (old ready : LogMeaning C) (actor after : ActorMeaning Hea
     log = log;
   }
 
-  own-grown : after ≡ doing step event actor → after.part.own ≡ actor.part.own ++ pair (entry_of step actor.part.id event) (named_by (unstaged_protocol actor.world) actor.part event) ∷ []
+  own-grown : after ≡ doing step event actor → after.part.own ≡ actor.part.own ++ pair (entry_of step actor.part.id event) (named_by (protocol actor.world) actor.part event) ∷ []
   own-grown did = ap (λ (a : ActorMeaning Head Event). a.part.own) did
 
   stop-at : (stop : Option ℕ) (long now : ℕ) → is_last stop long ≡ true → now ≡ long + 1 → stop ≡ Some now
@@ -113,7 +113,7 @@ module _ {C : Type 0} (old ready : LogMeaning C) (actor after : ActorMeaning Hea
       → HasStopped P old (after_it after)
   made_stop P so view is stops did above small log =
       let part : actor.part ≡ old.part = sym (ap (λ (l : LogMeaning C). l.part) (as-it-was view is)) in
-      let p : Pair Event = pair (entry_of step actor.part.id event) (named_by (unstaged_protocol actor.world) actor.part event) in
+      let p : Pair Event = pair (entry_of step actor.part.id event) (named_by (protocol actor.world) actor.part event) in
       let long : length after.part.own ≡ length old.part.own + 1 = ap length (own-grown did) ∙ (length-append actor.part.own (p ∷ []) ∙ ap (λ (q : Part Event). length q.own + 1) part) in
       record {
         event = event;
@@ -139,10 +139,10 @@ module _ {C : Type 0} (old ready : LogMeaning C) (actor after : ActorMeaning Hea
   pub made_reads : (rule then : ℕ → ℕ → Bool) → then ≡ rule → after ≡ doing step event actor → ReadsEach rule actor.part.own → ReadsClock rule (asks_in actor.part.own) event → ReadsEach then after.part.own
   made_reads rule then kept did reads one =
       subst (λ r. ReadsEach r after.part.own) (sym kept)
-      (subst (ReadsEach rule) (sym (own-grown did)) (reads_grown rule actor.part.own (pair (entry_of step actor.part.id event) (named_by (unstaged_protocol actor.world) actor.part event)) reads one))
+      (subst (ReadsEach rule) (sym (own-grown did)) (reads_grown rule actor.part.own (pair (entry_of step actor.part.id event) (named_by (protocol actor.world) actor.part event)) reads one))
 
   pub asks_made : after ≡ doing step event actor → asks_in after.part.own ≡ asks_in actor.part.own + one_if (is_ask event)
-  asks_made did = ap asks_in (own-grown did) ∙ asks_push actor.part.own (pair (entry_of step actor.part.id event) (named_by (unstaged_protocol actor.world) actor.part event))
+  asks_made did = ap asks_in (own-grown did) ∙ asks_push actor.part.own (pair (entry_of step actor.part.id event) (named_by (protocol actor.world) actor.part event))
 
   -- a list that is not full counts its asks within the clock's count
   pub counted_on : (reads more : ℕ) → IsOwnLog before_it → reads ≡ asks_in actor.part.own → more ≡ saturating_next reads → is_ask event ≡ true → after ≡ doing step event actor → more ≡ asks_in after.part.own
@@ -161,4 +161,4 @@ module _ {C : Type 0} (old ready : LogMeaning C) (actor after : ActorMeaning Hea
   pub places_made : (places later : TxnId → Option ℕ) → KeepsPlace (commit_told_by event) (length actor.part.own) places later → HasCommitPlaces places actor.part.own → after ≡ doing step event actor → HasCommitPlaces later after.part.own
   places_made places later keeps has did =
       subst (HasCommitPlaces later) (sym (own-grown did))
-      (places_grown actor.part.own (pair (entry_of step actor.part.id event) (named_by (unstaged_protocol actor.world) actor.part event)) places later keeps has)
+      (places_grown actor.part.own (pair (entry_of step actor.part.id event) (named_by (protocol actor.world) actor.part event)) places later keeps has)

@@ -18,11 +18,11 @@ use Rattle.pc_proto.specs.declared.event.Event.{Event}
 use Rattle.pc_proto.specs.declared.event.Event.TheVariants as events
 use Rattle.pc_proto.specs.declared.request.Request.{Request}
 use Rattle.pc_range.specs.Message.{evaluation}
-use Rattle.pc_range.specs.Protocol.{unstaged_protocol}
 use Rattle.pc_world.proofs.Knowing.{known_push}
 use Rattle.pc_world.specs.Known.{Known, known_of, learn, next_number}
 use Rattle.pc_world.specs.Known.Traffic.{Heard, Sent, heard_as, heard_by, reply_named, request_sent}
 use Rattle.pc_world.specs.RangeOf.{GoesTo}
+use Rattle.pc_world.specs.Run.{protocol}
 
 both : (a b : Bool) → a ≡ true → b ≡ true → (a && b) ≡ true
 both a b h k = grind arith
@@ -30,11 +30,9 @@ both a b h k = grind arith
 -- the request may be sent to this range under the next number
 pub may_send : {C : Type 0} (l : LogMeaning C) (number range : ℕ) (request : Request) → IsOwnLog l → MaySendTo l range request → number ≡ next_number (known_of l.part.own) → MayEnter l (events.Send number range request)
 may_send l number range request log may next = record {
-  local = (
-    local_does l.head l.part.id l.part.own (events.Send number range request) _ log.client log.there
-        (record { next = next; there = may.goes; stamps = may.allowed.stamps; row = may.allowed.row }),
-    may.unstaged,
-  );
+  local =
+      local_does l.head l.part.id l.part.own (events.Send number range request) _ log.client log.there
+      (record { next = next; there = may.goes; stamps = may.allowed.stamps; row = may.allowed.row });
   caused = tt;
   free = refl;
   no_ask = refl;
@@ -43,7 +41,7 @@ may_send l number range request log may next = record {
 
 -- one that goes where its key, its span or its anchor has it may be sent there
 pub may_send_there : {C : Type 0} (l : LogMeaning C) (range : ℕ) (request : Request) → MaySendNow l request → GoesTo l.head.splits request range → MaySendTo l range request
-may_send_there l range request may goes = record { allowed = may.allowed; unstaged = may.unstaged; goes = goes; keeps = λ number. may.keeps number range }
+may_send_there l range request may goes = record { allowed = may.allowed; goes = goes; keeps = λ number. may.keeps number range }
 
 module _ {C : Type 0} (l : LogMeaning C) (a : Answered) (log : IsOwnLog l) (by : IsAnsweredBy l a) where
   -- the evaluation that answered
@@ -54,9 +52,9 @@ module _ {C : Type 0} (l : LogMeaning C) (a : Answered) (log : IsOwnLog l) (by :
   knows-it = knows-known l.part (known_entry answer_of by.place 0) by.knows
 
   -- is what the hearing names
-  pub hear_names_it : named_by (unstaged_protocol l.head) l.part (events.Hear a.number a.step) ≡ Some answer_of
+  pub hear_names_it : named_by (protocol l.head) l.part (events.Hear a.number a.step) ≡ Some answer_of
   hear_names_it =
-      names-known (unstaged_protocol l.head) l.part (events.Hear a.number a.step) answer_of log.sound knows-it
+      names-known (protocol l.head) l.part (events.Hear a.number a.step) answer_of log.sound knows-it
       (both (a.step == a.step) true (eq-eqb a.step a.step refl) refl)
 
   -- The reply as it is heard.
@@ -64,7 +62,7 @@ module _ {C : Type 0} (l : LogMeaning C) (a : Answered) (log : IsOwnLog l) (by :
   heard_from = record { number = a.number; request = by.request; reply = a.reply; step = a.step }
 
   -- and what it brings
-  pub hear_brings : heard_by (events.Hear a.number a.step) (named_by (unstaged_protocol l.head) l.part (events.Hear a.number a.step)) (known_of l.part.own).sent ≡ Some heard_from
+  pub hear_brings : heard_by (events.Hear a.number a.step) (named_by (protocol l.head) l.part (events.Hear a.number a.step)) (known_of l.part.own).sent ≡ Some heard_from
   hear_brings =
       ap (λ named. heard_as a.number a.step (request_sent a.number (known_of l.part.own).sent) (reply_named named)) hear_names_it
       ∙ ap (λ said. heard_as a.number a.step said (Some a.reply)) by.said
@@ -74,14 +72,12 @@ module _ {C : Type 0} (l : LogMeaning C) (a : Answered) (log : IsOwnLog l) (by :
       → KeepsNext l.part.id l.head.splits l.pipelining l.part.own (events.Hear a.number a.step) (Some answer_of)
       → MayEnter l (events.Hear a.number a.step)
   may_hear none keeps = record {
-    local = (
-      local_does l.head l.part.id l.part.own (events.Hear a.number a.step) _ log.client log.there
-          (record {
-            sent = sent_where_said a.number (known_of l.part.own).sent by.request by.said;
-            unheard = ap not (none_counted (λ (h : Heard). h.number == a.number) (known_of l.part.own).heard none);
-          }),
-      tt,
-    );
+    local =
+        local_does l.head l.part.id l.part.own (events.Hear a.number a.step) _ log.client log.there
+        (record {
+          sent = sent_where_said a.number (known_of l.part.own).sent by.request by.said;
+          unheard = ap not (none_counted (λ (h : Heard). h.number == a.number) (known_of l.part.own).heard none);
+        });
     caused = (knows-it.0, answer_of, knows-it.1, knows-it.2, record { at = refl; eval = (refl, refl) });
     free = refl;
     no_ask = refl;
@@ -93,7 +89,7 @@ module _ {C : Type 0} (l : LogMeaning C) (a : Answered) (log : IsOwnLog l) (by :
 module _ {C : Type 0} (old new : LogMeaning C) (event : Event) (entered : HasEntered old new event) where
   -- the entry, with the one that it names
   abbrev pub added : Pair Event
-  added = pair (entry_of entered.step old.part.id event) (named_by (unstaged_protocol old.head) old.part event)
+  added = pair (entry_of entered.step old.part.id event) (named_by (protocol old.head) old.part event)
 
   pub own_after : new.part.own ≡ old.part.own ++ added ∷ []
   own_after = ap (λ (l : LogMeaning C). l.part.own) entered.stored

@@ -20,10 +20,9 @@ use Rattle.pc_proto.specs.declared.event.Event.{Event}
 use Rattle.pc_proto.specs.declared.event.Event.TheVariants as events
 use Rattle.pc_proto.specs.declared.request.Request.{Request}
 use Rattle.pc_proto.specs.Stamps.{request_stamps}
-use Rattle.pc_range.specs.Protocol.{unstaged_protocol}
 use Rattle.pc_world.specs.Known.Traffic.{Sent, heard_by, sent_by}
 use Rattle.pc_world.specs.RangeOf.{GoesTo}
-use Rattle.pc_world.specs.Run.{spends}
+use Rattle.pc_world.specs.Run.{protocol, spends}
 use Rattle.pc_world.specs.Stamps.{AllBelowGreatest}
 
 -- ---- the same list, with no stop
@@ -114,13 +113,13 @@ module _ {C : Type 0} (Is : Event → Type 0) (old new : DeskMeaning C) (made : 
 
   -- the entry, with the one that it names
   abbrev it : Pair Event
-  it = pair (entry_of s.step old.log.part.id event) (named_by (unstaged_protocol old.log.head) old.log.part event)
+  it = pair (entry_of s.step old.log.part.id event) (named_by (protocol old.log.head) old.log.part event)
 
-  log-is : new.log ≡ record (record (with_event s.step event old.log) { spare = made.spare; clock = made.clock; stopped = true }) { part = record (acted (unstaged_protocol old.log.head) s.step event old.log.part) { given = new.log.part.given } }
+  log-is : new.log ≡ record (record (with_event s.step event old.log) { spare = made.spare; clock = made.clock; stopped = true }) { part = record (acted (protocol old.log.head) s.step event old.log.part) { given = new.log.part.given } }
   log-is = part ∙ ap (λ (l : LogMeaning C). record l { part = record l.part { given = new.log.part.given } }) s.stored
 
   known-is : new.log.part.known ≡ old.log.part.known
-  known-is = ap (λ (l : LogMeaning C). l.part.known) log-is ∙ ap (λ b. cond b (spend (named_by (unstaged_protocol old.log.head) old.log.part event) old.log.part.known) old.log.part.known) free
+  known-is = ap (λ (l : LogMeaning C). l.part.known) log-is ∙ ap (λ b. cond b (spend (named_by (protocol old.log.head) old.log.part event) old.log.part.known) old.log.part.known) free
 
   abbrev rest-of : LogMeaning C → LogMeaning C
   rest-of l = record old.log { part = record old.log.part { own = l.part.own; given = l.part.given; known = l.part.known }; spare = l.spare; clock = l.clock; stopped = true }

@@ -19,7 +19,6 @@ use Rattle.pc_proto.specs.declared.event.Event.TheVariants as events
 use Rattle.pc_proto.specs.declared.request.Request.{Request}
 use Rattle.pc_proto.specs.Stamps.{request_stamps}
 use Rattle.pc_range.specs.Message.{IsFullNote, evaluation, sending}
-use Rattle.pc_range.specs.Protocol.{unstaged_protocol}
 use Rattle.pc_wire.specs.declared.verdict.Verdict.{Verdict}
 use Rattle.pc_wire.specs.declared.verdict.Verdict.TheVariants as verdicts
 use Rattle.pc_world.specs.Exchange.{IsAllowed}
@@ -27,8 +26,8 @@ use Rattle.pc_world.specs.Known.{Known, known_of}
 use Rattle.pc_world.specs.Known.Traffic.{Sent, request_sent}
 use Rattle.pc_world.specs.Local.{Head}
 use Rattle.pc_world.specs.RangeOf.{GoesTo, IsForOne}
+use Rattle.pc_world.specs.Run.{protocol}
 use Rattle.pc_world.specs.Stamps.{AllBelowGreatest}
-use Rattle.pc_world.specs.Unstaged.{IsNoStage}
 
 -- A message that was sent and not evaluated yet, with how often it may be evaluated.
 pub record Posted : Type 0 where
@@ -165,17 +164,15 @@ pub record HasTakenFirst {C : Type 0} (old new : DeskMeaning C) (m : Posted) : T
 abbrev pub is_on_way : {C : Type 0} → ℕ → DeskMeaning C → Bool
 is_on_way number d = list_any (λ m. m.number == number) d.posted || list_any (λ a. a.number == number) d.replies
 
--- The actor may send this now, which is no stage and for one range, and each entry that does keeps what is asked of it.
+-- The actor may send this now, which is for one range, and each entry that does keeps what is asked of it.
 pub record MaySendNow {C : Type 0} (l : LogMeaning C) (request : Request) : Type 0 where
   pub allowed : IsAllowed l.head.splits l.part.id (known_of l.part.own) request
-  pub unstaged : IsNoStage request
   pub one : IsForOne l.head.splits request
   pub keeps : (number range : ℕ) → KeepsNext l.part.id l.head.splits l.pipelining l.part.own (events.Send number range request) None
 
--- The actor may send this to this range now: it is no stage, it goes there, and the entry keeps what is asked of it.
+-- The actor may send this to this range now: it goes there, and the entry keeps what is asked of it.
 pub record MaySendTo {C : Type 0} (l : LogMeaning C) (range : ℕ) (request : Request) : Type 0 where
   pub allowed : IsAllowed l.head.splits l.part.id (known_of l.part.own) request
-  pub unstaged : IsNoStage request
   pub goes : GoesTo l.head.splits request range
   pub keeps : (number : ℕ) → KeepsNext l.part.id l.head.splits l.pipelining l.part.own (events.Send number range request) None
 
@@ -244,7 +241,7 @@ pub record HasHeardFirst {C : Type 0} (old new : DeskMeaning C) (a : Answered) :
   pub first : old.replies ≡ a ∷ new.replies
   pub posted : new.posted ≡ old.posted
   pub entered : HasEntered old.log new.log (events.Hear a.number a.step)
-  pub named : named_by (unstaged_protocol old.log.head) old.log.part (events.Hear a.number a.step) ≡ Some (evaluation a.step range old.log.part.id a.number a.reply)
+  pub named : named_by (protocol old.log.head) old.log.part (events.Hear a.number a.step) ≡ Some (evaluation a.step range old.log.part.id a.number a.reply)
   pub track : KeepsTrack new
   pub way : (number : ℕ) → is_on_way number new ≡ (is_on_way number old && not (a.number == number))
   pub limit : new.range_limit ≡ old.range_limit

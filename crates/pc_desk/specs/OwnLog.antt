@@ -12,9 +12,8 @@ use Rattle.pc_history.specs.declared.view.Part.{Part}
 use Rattle.pc_history.specs.Closed.{IsSound, StandsInHistory}
 use Rattle.pc_history.specs.Parts.{IsCausedFor, IsLocalFor, acted, knowledge, named_by, told}
 use Rattle.pc_proto.specs.declared.event.Event.{Event}
-use Rattle.pc_range.specs.Protocol.{unstaged_protocol}
 use Rattle.pc_world.specs.Local.{Head, IsActorOf}
-use Rattle.pc_world.specs.Run.{spends}
+use Rattle.pc_world.specs.Run.{protocol, spends}
 
 -- What the actor stored and knows, and for how many more entries it has room; its clock, whether its writes are pipelined, and whether the
 -- evaluations of a wave go beside each other; how many entries it may have; at which it stops, if that is stated; and whether it has stopped.
@@ -52,21 +51,21 @@ pub record IsOwnLog {C : Type 0} (l : LogMeaning C) : Type 0 where
   pub waves : KeepsWavesEach l.beside l.part.own
   pub before_stop : l.stopped ≡ false → IfSome l.stop (λ n. length l.part.own < n)
   pub at_stop : IfSome l.stop (λ n. length l.part.own ≤ n)
-  pub sound : IsSound (unstaged_protocol l.head) (knowledge l.part)
-  pub stands : StandsInHistory (unstaged_protocol l.head) l.part
+  pub sound : IsSound (protocol l.head) (knowledge l.part)
+  pub stands : StandsInHistory (protocol l.head) l.part
 
 -- The event, which asks no call and spends nothing, may come next in the actor's own list, what it stored or knows causes it, and it keeps
 -- what is asked of it.
 pub record MayEnter {C : Type 0} (l : LogMeaning C) (event : Event) : Type 0 where
-  pub local : IsLocalFor (unstaged_protocol l.head) l.part event
-  pub caused : IsCausedFor (unstaged_protocol l.head) l.part event
+  pub local : IsLocalFor (protocol l.head) l.part event
+  pub caused : IsCausedFor (protocol l.head) l.part event
   pub free : spends event ≡ false
   pub no_ask : is_ask event ≡ false
-  pub keeps : KeepsNext l.part.id l.head.splits l.pipelining l.part.own event (named_by (unstaged_protocol l.head) l.part event)
+  pub keeps : KeepsNext l.part.id l.head.splits l.pipelining l.part.own event (named_by (protocol l.head) l.part event)
 
 -- The list after this event, at this step.
 abbrev pub with_event : {C : Type 0} → ℕ → Event → LogMeaning C → LogMeaning C
-with_event step event l = record l { part = acted (unstaged_protocol l.head) step event l.part }
+with_event step event l = record l { part = acted (protocol l.head) step event l.part }
 
 -- The event was made, and nothing else. Its step is above those of all that the actor stored or knew.
 pub record HasEntered {C : Type 0} (old new : LogMeaning C) (event : Event) : Type 0 where

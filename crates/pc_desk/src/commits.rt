@@ -4,8 +4,7 @@ ghost use Rattle.pc_base.specs.Transaction.{txn_cmp};
 ghost use Rattle.pc_desk.specs.Commits.{KeepsPlace, commit_told_by};
 ghost use Rattle.pc_history.specs.Closed.{IsSound, StandsInHistory};
 ghost use Rattle.pc_history.specs.Parts.{IsCausedFor, IsLocalFor, acted, knowledge};
-ghost use Rattle.pc_range.specs.Protocol.{unstaged_protocol};
-ghost use Rattle.pc_world.specs.Run.{spends};
+ghost use Rattle.pc_world.specs.Run.{protocol, spends};
 
 use pc_base::{NoMemory, TxnId};
 use pc_history::{Actor, Named};
@@ -49,17 +48,17 @@ pub(crate) fn make<N: Named<CommitWorld>>(
 ) -> Result<u64, NoMemory>
     requires spare { 1 ≤ actor.old.spare }
     requires short { length actor.old.part.own < 2 ^ 32 }
-    requires local { IsLocalFor (unstaged_protocol actor.old.world) actor.old.part event }
-    requires caused { IsCausedFor (unstaged_protocol actor.old.world) actor.old.part event }
+    requires local { IsLocalFor (protocol actor.old.world) actor.old.part event }
+    requires caused { IsCausedFor (protocol actor.old.world) actor.old.part event }
     requires free { spends event ≡ false }
     ensures stored { IfOk result (λ step. actor.new ≡ record actor.old {
-      part = acted (unstaged_protocol actor.old.world) step event actor.old.part;
+      part = acted (protocol actor.old.world) step event actor.old.part;
       spare = actor.old.spare - 1;
     }) }
     ensures above { IfOk result (λ step. All (λ e. e.step < step) (knowledge actor.old.part)) }
     ensures small { IfOk result (λ step. step < 2 ^ 48) }
-    ensures sound { OnOk result (IsSound (unstaged_protocol actor.old.world) (knowledge actor.new.part)) }
-    ensures stands { OnOk result (StandsInHistory (unstaged_protocol actor.old.world) actor.new.part) }
+    ensures sound { OnOk result (IsSound (protocol actor.old.world) (knowledge actor.new.part)) }
+    ensures stands { OnOk result (StandsInHistory (protocol actor.old.world) actor.new.part) }
     ensures places { OnOk result (KeepsPlace (commit_told_by event) (length actor.old.part.own) (get txn_cmp places.old) (get txn_cmp places.new)) }
     ensures err { OnErr result ((actor.new ≡ actor.old) × (places.new.entries ≡ places.old.entries)) }
 {

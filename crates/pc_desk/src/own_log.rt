@@ -6,9 +6,9 @@ ghost use Rattle.pc_desk.specs.Waves.{KeepsWavesNext};
 ghost use Rattle.pc_history.specs.Own.{entries_of};
 ghost use Rattle.pc_history.specs.Parts.{gave, named_by, newcomer, noted};
 ghost use Rattle.pc_proto.specs.declared.event.Event.TheVariants as events;
-ghost use Rattle.pc_range.specs.Protocol.{unstaged_protocol};
 ghost use Rattle.pc_world.specs.Known.{known_of};
 ghost use Rattle.pc_world.specs.Local.{IsActorOf, MayAsk};
+ghost use Rattle.pc_world.specs.Run.{protocol};
 
 use crate::commits::make;
 use crate::halt::Halt;
@@ -179,7 +179,7 @@ impl<N: Named<CommitWorld>, C: Clock> OwnLog<N, C> {
     /// Makes an event that asks no call.
     pub fn enter(&mut self, event: Event) -> Result<(), Halt>
         requires may { MayEnter self.old event }
-        requires waves { KeepsWavesNext self.old.beside self.old.part.own event (named_by (unstaged_protocol self.old.head) self.old.part event) }
+        requires waves { KeepsWavesNext self.old.beside self.old.part.own event (named_by (protocol self.old.head) self.old.part event) }
         ensures ok { OnOk result (HasEntered self.old self.new event) }
         ensures clock { self.new.clock ≡ self.old.clock }
         ensures err { IfErr result (IsHalt (λ made. made ≡ event) self.old self.new) }
@@ -193,7 +193,7 @@ impl<N: Named<CommitWorld>, C: Clock> OwnLog<N, C> {
     /// Makes an event that asks no call. Gives whether it is the one at which it stops.
     pub fn add(&mut self, event: Event) -> Result<bool, Halt>
         requires may { MayEnter self.old event }
-        requires waves { KeepsWavesNext self.old.beside self.old.part.own event (named_by (unstaged_protocol self.old.head) self.old.part event) }
+        requires waves { KeepsWavesNext self.old.beside self.old.part.own event (named_by (protocol self.old.head) self.old.part event) }
         ensures ok { IfOk result (HasMadeEntry self.old self.new event) }
         ensures clock { self.new.clock ≡ self.old.clock }
         ensures err { IfErr result (IsHalt (λ made. ⊥) self.old self.new) }

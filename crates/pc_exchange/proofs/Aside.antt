@@ -10,14 +10,16 @@ use Rattle.pc_coord.specs.Coordination.{Coordination}
 use Rattle.pc_coord.specs.declared.job.Job.{Job}
 use Rattle.pc_exchange.proofs.Coordinator.{IsCountedBy}
 use Rattle.pc_exchange.proofs.Knowing.{with_exchange}
-use Rattle.pc_exchange.specs.Aside.{IsAside, IsLaterAside, MayGoOnBeside}
+use Rattle.pc_exchange.specs.Aside.{AsksForNoOwn, IsAside, IsLaterAside, MayGoOnBeside}
 use Rattle.pc_exchange.specs.Jobs.{IsFinishable}
+use Rattle.pc_implicit.proofs.Agreed.{open_there}
 use Rattle.pc_lists.proofs.Anywhere.{any_kept}
 use Rattle.pc_proto.specs.declared.reply.Reply.{Reply}
 use Rattle.pc_proto.specs.declared.request.Request.{Request}
 use Rattle.pc_proto.specs.Requests.{is_about, subject_anchor}
 use Rattle.pc_proto.specs.Stamps.{fate_stamps, greatest_of, reply_stamps}
-use Rattle.pc_txn.specs.Counted.{IsOfBegun}
+use Rattle.pc_txn.specs.Counted.{IsOfBegun, IsQueryOfBegun}
+use Rattle.pc_txn.specs.Standing.{is_query_of}
 use Rattle.pc_world.specs.Known.{Known, first_if, next_number, open_txn}
 use Rattle.pc_world.specs.Known.Traffic.{Heard, Sent}
 use Rattle.pc_world.specs.Known.Transactions.{Txn}
@@ -81,6 +83,10 @@ aside_on session start k ts number range step request reply l is next =
       below = omega (arith, below);
     }
 
+-- what asks for no write of the session's then does so now
+pub no_own : (session : ℕ) (start k : Known) (ts : ℕ) → IsLaterAside session start k ts → (request : Request) → IsAside session start request → AsksForNoOwn k request
+no_own session start k ts l request is t there = is.unqueried t (subst (λ txns. Contains txns t) l.txns there)
+
 -- the open transaction is the one that it was
 pub open_same : (session : ℕ) (start k : Known) (ts : ℕ) → IsLaterAside session start k ts → open_txn k ≡ open_txn start
 open_same session start k ts l = ap (λ b. first_if b k.txns) l.is_open ∙ ap (first_if start.is_open) l.txns
@@ -130,7 +136,9 @@ module _ (session : ℕ) (start k : Known) (ts : ℕ) (l : IsLaterAside session 
     is_beside request is = record {
       kind = is.kind;
       begun = subst (λ n. IsOfBegun n c.begun request) (sym same) (subst (λ n. IsOfBegun session n request) (sym counted.begun) is.begun);
+      query_of = subst (λ n. IsQueryOfBegun n c.begun request) (sym same) (subst (λ n. IsQueryOfBegun session n request) (sym counted.begun) is.query_of);
       other = λ x held. let t = counted.held x held in subst (λ id. is_about id request ≡ false) (sym t.2) (is.other t.0 t.1);
+      unqueried = λ x held. let t = counted.held x held in subst (λ id. is_query_of id request ≡ false) (sym t.2) (is.unqueried t.0 (open_there start t.0 t.1));
     }
 
     -- may go on

@@ -34,7 +34,6 @@ use Rattle.pc_proto.specs.declared.event.Event.TheVariants as events
 use Rattle.pc_proto.specs.declared.request.Request.{Request}
 use Rattle.pc_proto.specs.declared.request.Request.TheVariants as requests
 use Rattle.pc_proto.specs.Requests.{is_put, is_refresh, round_of}
-use Rattle.pc_range.specs.Protocol.{unstaged_protocol}
 use Rattle.pc_follows.specs.PipelinedPuts.{IsPutWaitedFor}
 use Rattle.pc_turns.specs.Order.{IsInBetween, events_of}
 use Rattle.pc_follows.specs.CallMessages.{IsOfRound}
@@ -45,6 +44,7 @@ use Rattle.pc_world.specs.Known.{Known, call_in, known_of, next_number}
 use Rattle.pc_world.specs.Known.Statements.{Statement}
 use Rattle.pc_world.specs.Known.Traffic.{Heard, Sent, heard_as, request_sent}
 use Rattle.pc_world.specs.RangeOf.{pieces}
+use Rattle.pc_world.specs.Run.{protocol}
 
 -- ---- a reply to what is no put may be heard at any time
 
@@ -186,7 +186,7 @@ module _ {C : Type 0} (old mid late : DeskMeaning C) (request : Request) (number
     first-is : added old.log sent.sent (events.Send number sent.range request) sent.entered ≡ sent_pair old.log.part.id sent.entered.step (next_number (known_of old.log.part.own)) sent.range request
     first-is =
         let event = events.Send number sent.range request in
-        let names : named_by (unstaged_protocol old.log.head) old.log.part event ≡ None = find_none (λ e. (unstaged_protocol old.log.head).names event e) (knowledge old.log.part) (λ e. refl) in
+        let names : named_by (protocol old.log.head) old.log.part event ≡ None = find_none (λ e. (protocol old.log.head).names event e) (knowledge old.log.part) (λ e. refl) in
         ap (pair (entry_of sent.entered.step old.log.part.id event)) names ∙ ap (λ n. sent_pair old.log.part.id sent.entered.step n sent.range request) next-is
 
     second-is : added late.log new.log (events.Hear a.number a.step) heard.entered ≡ heard_pair old.log.part.id heard.entered.step (next_number (known_of old.log.part.own)) heard.range a.step a.reply

@@ -74,7 +74,9 @@ module _ {C : Type 0} (old : DeskMeaning C) (job : Job) (m : Resolving) (d : Des
           begun = λ id is mine.
               let same : m.id ≡ id = cc in
               subst (λ (i : TxnId). i.number ≤ start_known.begun) (sym f.named ∙ same) f.start.may.begun;
+          query_of = tt;
           other = λ t opened. not_same m.id t.id (λ e. f.start.may.other t opened (sym f.named ∙ e));
+          unqueried = λ t there. refl;
         }
 
         ending : (b : Bool) → at_end b m ≡ machine.Send request → IsAside f.start.session start_known request
@@ -84,7 +86,7 @@ module _ {C : Type 0} (old : DeskMeaning C) (job : Job) (m : Resolving) (d : Des
         by : (key : Option (List ℕ)) → finishing_due key m ≡ machine.Send request → IsAside f.start.session start_known request
         by (Some key) due =
             let is : lock_resolve m key ≡ request = cc in
-            subst (IsAside f.start.session start_known) is (record { kind = refl; begun = λ id is mine. absurd cc; other = λ t opened. refl })
+            subst (IsAside f.start.session start_known) is (record { kind = refl; begun = λ id is mine. absurd cc; query_of = tt; other = λ t opened. refl; unqueried = λ t there. refl })
         by None due = ending m.removed due
 
     timely : IsTimely now_known (jobs_of d.log.part.own) request

@@ -6,13 +6,13 @@ use Rattle.pc_base.specs.declared.transaction.TxnId.{TxnId}
 use Rattle.pc_base.specs.Transaction.{same_txn}
 use Rattle.pc_coord.specs.Beside.{is_of_round_or_job}
 use Rattle.pc_desk.specs.Desk.{DeskMeaning}
-use Rattle.pc_exchange.proofs.Aside.{aside_on}
+use Rattle.pc_exchange.proofs.Aside.{aside_on, no_own}
 use Rattle.pc_exchange.proofs.Called.{next_unsent}
 use Rattle.pc_exchange.proofs.Growing.{grows_both, grows_none}
 use Rattle.pc_exchange.proofs.InTurn.{passing_more}
 use Rattle.pc_exchange.proofs.Knowing.{answered_then, exchange_is, known_then, with_exchange}
 use Rattle.pc_exchange.proofs.Messages.{jobs_then, left_by_exchange}
-use Rattle.pc_exchange.specs.Aside.{IsAside, IsLaterAside}
+use Rattle.pc_exchange.specs.Aside.{AsksForNoOwn, IsAside, IsLaterAside}
 use Rattle.pc_exchange.specs.Exchange.{WasExchanged, heard_pair, sent_pair}
 use Rattle.pc_exchange.specs.Growing.{HasGoneBeside, HasAllBack}
 use Rattle.pc_history.specs.declared.pair.Pair.{Pair}
@@ -56,6 +56,8 @@ not_same one other differ = by (same_txn one other) refl
 
 puts-none : (id : TxnId) (request : Request) → is_of_round_or_job request ≡ true → is_put_by id request ≡ false
 puts-none id (requests.Push holder by level now goal) is = refl
+puts-none id (requests.Query other epoch seq ts key by) is = refl
+puts-none id (requests.Recover other epoch ts anchor finding) is = refl
 puts-none id (requests.Resolve other key fate) is = refl
 puts-none id (requests.Remove other anchor) is = refl
 puts-none id request is = absurd cc
@@ -83,20 +85,20 @@ module _ {C : Type 0} (d new : DeskMeaning C) (request : Request) (reply : Reply
     number_of = next_number (known_of d.log.part.own)
 
     -- what the actor knows then, where the message is one of a round or a job
-    pub known_by_it : is_of_round_or_job request ≡ true → known_of new.log.part.own ≡ with_exchange number_of x.range x.evaluated_at request reply (known_of d.log.part.own)
-    known_by_it is =
+    pub known_by_it : is_of_round_or_job request ≡ true → AsksForNoOwn (known_of d.log.part.own) request → known_of new.log.part.own ≡ with_exchange number_of x.range x.evaluated_at request reply (known_of d.log.part.own)
+    known_by_it is other =
         ap known_of x.goes.grown.own
         ∙ (known_then d.log.part.own d.log.part.id x.sent_at x.heard_at number_of x.range x.evaluated_by x.evaluated_at request reply (next_unsent d back)
-        ∙ exchange_is number_of x.range x.evaluated_at request reply (known_of d.log.part.own) is)
+        ∙ exchange_is number_of x.range x.evaluated_at request reply (known_of d.log.part.own) is other)
 
     -- what was heard in the open call
-    pub heard_now_by : is_of_round_or_job request ≡ true → (known_of new.log.part.own).heard_now ≡ (known_of d.log.part.own).heard_now ++ reply_by x ∷ []
-    heard_now_by is = ap (λ (k : Known). k.heard_now) (known_by_it is)
+    pub heard_now_by : is_of_round_or_job request ≡ true → AsksForNoOwn (known_of d.log.part.own) request → (known_of new.log.part.own).heard_now ≡ (known_of d.log.part.own).heard_now ++ reply_by x ∷ []
+    heard_now_by is other = ap (λ (k : Known). k.heard_now) (known_by_it is other)
 
     -- and how many rounds were begun in it
-    pub rounds_by : is_of_round_or_job request ≡ true → rounds_begun (known_of new.log.part.own) ≡ rounds_begun (known_of d.log.part.own) + one_if (is_some (goal_in request))
-    rounds_by is =
-        ap rounds_begun (known_by_it is)
+    pub rounds_by : is_of_round_or_job request ≡ true → AsksForNoOwn (known_of d.log.part.own) request → rounds_begun (known_of new.log.part.own) ≡ rounds_begun (known_of d.log.part.own) + one_if (is_some (goal_in request))
+    rounds_by is other =
+        ap rounds_begun (known_by_it is other)
         ∙ passing_more (λ (m : Sent). is_some (goal_in m.request)) (known_of d.log.part.own).sent_now (record { number = number_of; range = x.range; request = request })
 
     -- the reply was heard to it
@@ -119,5 +121,5 @@ module _ {C : Type 0} (d new : DeskMeaning C) (request : Request) (reply : Reply
     pub aside_by : (session : ℕ) (start : Known) (ts : ℕ) → IsLaterAside session start (known_of d.log.part.own) ts → IsAside session start request
         → IsLaterAside session start (known_of new.log.part.own) (max ts (greatest_of (reply_stamps reply)))
     aside_by session start ts l is =
-        subst (λ (k : Known). IsLaterAside session start k (max ts (greatest_of (reply_stamps reply)))) (sym (known_by_it is.kind))
+        subst (λ (k : Known). IsLaterAside session start k (max ts (greatest_of (reply_stamps reply)))) (sym (known_by_it is.kind (no_own session start (known_of d.log.part.own) ts l request is)))
         (aside_on session start (known_of d.log.part.own) ts number_of x.range x.evaluated_at request reply l is refl)

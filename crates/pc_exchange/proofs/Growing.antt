@@ -14,10 +14,9 @@ use Rattle.pc_history.specs.Own.{entries_of}
 use Rattle.pc_history.specs.Parts.{knowledge, named_by, spend, told_entries}
 use Rattle.pc_lists.proofs.Lists.{all_from_contains, contains_head, contains_in_map, contains_map, contains_tail}
 use Rattle.pc_proto.specs.declared.event.Event.{Event}
-use Rattle.pc_range.specs.Protocol.{unstaged_protocol}
 use Rattle.pc_turns.specs.Clients.{RisesFrom}
 use Rattle.pc_turns.specs.Laws.{AreAboveKnown}
-use Rattle.pc_world.specs.Run.{spends}
+use Rattle.pc_world.specs.Run.{protocol, spends}
 
 -- The entry has a greater step than each of these.
 abbrev IsAbove : List (Entry Event) → Pair Event → Type 0
@@ -81,7 +80,7 @@ module _ {C : Type 0} (a b d : LogMeaning C) (p q : List (Pair Event)) (x : HasG
 pub grows_entered : {C : Type 0} (old new : LogMeaning C) (event : Event) (entered : HasEntered old new event) → spends event ≡ false → HasGrownBy old new (added old new event entered ∷ [])
 grows_entered {C} old new event entered free =
     let known : new.part.known ≡ old.part.known =
-    ap (λ (l : LogMeaning C). l.part.known) entered.stored ∙ ap (λ b. cond b (spend (named_by (unstaged_protocol old.head) old.part event) old.part.known) old.part.known) free in
+    ap (λ (l : LogMeaning C). l.part.known) entered.stored ∙ ap (λ b. cond b (spend (named_by (protocol old.head) old.part event) old.part.known) old.part.known) free in
     let F : LogMeaning C → LogMeaning C = λ l. record old { part = record old.part { own = l.part.own; given = l.part.given; known = l.part.known }; spare = l.spare; clock = l.clock } in
     record {
       own = own_after old new event entered;

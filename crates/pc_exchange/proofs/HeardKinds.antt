@@ -10,10 +10,10 @@ use Rattle.pc_desk.specs.OwnLog.{IsOwnLog, LogMeaning}
 use Rattle.pc_exchange.proofs.PastEpochs.{past_then}
 use Rattle.pc_implicit.proofs.Agreed.{agreed, owned}
 use Rattle.pc_implicit.proofs.Anchored.{anchor_stays}
-use Rattle.pc_implicit.proofs.Answering.{replies_are_of_their_kind, reply_is_one}
+use Rattle.pc_implicit.proofs.Answering.{reply_is_one}
+use Rattle.pc_implicit.proofs.ReplyKinds.{replies_have_kinds}
 use Rattle.pc_implicit.proofs.Hearing.{IsSo, heard_is_so, now_is_so}
 use Rattle.pc_implicit.proofs.Holders.{anchored_begun, holder_anchored}
-use Rattle.pc_implicit.proofs.Sent.{unstaged_front}
 use Rattle.pc_implicit.proofs.Shown.{WasAnswered}
 use Rattle.pc_implicit.specs.Writes.{txns_of}
 use Rattle.pc_lists.proofs.Each.{each-contains}
@@ -23,8 +23,6 @@ use Rattle.pc_proto.specs.declared.reply.Reply.TheVariants as replies
 use Rattle.pc_proto.specs.declared.request.Request.{Request}
 use Rattle.pc_proto.specs.declared.request.Request.TheVariants as requests
 use Rattle.pc_proto.specs.Replies.{is_undecided_status, status_ts}
-use Rattle.pc_range.proofs.Unstaged.{nothing_staged}
-use Rattle.pc_range.specs.Unstaged.{unstaged_run}
 use Rattle.pc_wave.specs.Standing.{IsPastWhereUndecided}
 use Rattle.pc_world.proofs.Kept.{run_top}
 use Rattle.pc_world.proofs.Prefixes.{run_front}
@@ -37,7 +35,6 @@ use Rattle.pc_world.specs.Known.{Known, known_of}
 use Rattle.pc_world.specs.Known.Traffic.{Heard}
 use Rattle.pc_world.specs.Known.Transactions.{Txn}
 use Rattle.pc_world.specs.Run.{IsRun}
-use Rattle.pc_world.specs.Unstaged.{NothingIsStaged}
 
 anchor_longer : (id : TxnId) (anchor : List ℕ) (front back : List (Entry Event)) → anchor_in id front ≡ Some anchor → anchor_in id (front ++ back) ≡ Some anchor
 anchor_longer id anchor front [] is = ap (anchor_in id) (append-nil front) ∙ is
@@ -51,10 +48,7 @@ module _ {C : Type 0} (l : LogMeaning C) (log : IsOwnLog l) where
   history_of = log.stands.history
 
   pub is_run : IsRun l.head history_of
-  is_run = unstaged_run l.head history_of log.stands.fine
-
-  is_unstaged : NothingIsStaged history_of
-  is_unstaged = nothing_staged l.head history_of log.stands.fine
+  is_run = log.stands.fine
 
   -- what the actor knows there is what it knows by its list
   pub known_there : known_at l.head l.part.id history_of ≡ known_of l.part.own
@@ -77,7 +71,7 @@ module _ {C : Type 0} (l : LogMeaning C) (log : IsOwnLog l) where
   pub heard_kind : (h : Heard) → Contains (known_of l.part.own).heard h → MayAnswer h.request h.reply
   heard_kind h there =
       let w = answered h there in
-      subst (MayAnswer h.request) (sym w.answers) (replies_are_of_their_kind l.head w.front w.range h.request (run_then h w) (unstaged_front w.front w.back (subst NothingIsStaged (sym w.whole) is_unstaged)))
+      subst (MayAnswer h.request) (sym w.answers) (replies_have_kinds l.head w.front w.range h.request)
 
   -- a record that is not final is past what commits a transaction of the actor in an epoch that it has not left
   pub heard_past : (h : Heard) → Contains (known_of l.part.own).heard h → (t : Txn) → Contains (known_of l.part.own).txns t → IsPastWhereUndecided t h.request h.reply
@@ -102,7 +96,7 @@ module _ {C : Type 0} (l : LogMeaning C) (log : IsOwnLog l) where
   pub heard_now_kind : (h : Heard) → Contains (known_of l.part.own).heard_now h → MayAnswer h.request h.reply
   heard_now_kind h there =
       let w = answered_now h there in
-      subst (MayAnswer h.request) (sym w.answers) (replies_are_of_their_kind l.head w.front w.range h.request (run_then h w) (unstaged_front w.front w.back (subst NothingIsStaged (sym w.whole) is_unstaged)))
+      subst (MayAnswer h.request) (sym w.answers) (replies_have_kinds l.head w.front w.range h.request)
 
   -- and that some state of a range gives
   pub heard_possible : (h : Heard) → Contains (known_of l.part.own).heard h → IsPossibleReply h.request h.reply

@@ -1,17 +1,16 @@
 -- The rounds of a call's conflicts in turn: what more was heard takes nothing from those that are over, and the messages of the next one go
 -- out in their places.
-use Rattle.std.proofs.Common.{◌≡◌, ℕ, zero, suc, ◌+◌, ◌<◌, Bool, true, false, ◌⊎◌, inl, inr, List, [], ◌∷◌, ◌++◌, Some, Any, refl, sym, ap, ◌∙◌, subst, arith, count_by, drop, filter, is_some, length, slice_get, take}
+use Rattle.std.proofs.Common.{◌≡◌, ℕ, zero, suc, ◌+◌, ◌<◌, Bool, true, false, cond, ◌⊎◌, inl, inr, List, [], ◌∷◌, ◌++◌, Some, All, refl, sym, ap, ◌∙◌, subst, arith, count_by, drop, filter, is_some, length, slice_get, take}
 use Rattle.std.proofs.lemmas.List.{append-nil, append_assoc, take-append-drop}
-use Rattle.std.proofs.lemmas.List.Elements.{filter-append}
+use Rattle.std.proofs.lemmas.List.Elements.{All-head, All-tail, All-weaker, filter-append}
 use Rattle.std.proofs.lemmas.List.Sums.{length-filter}
 use Rattle.std.proofs.lemmas.Option.{same_Some}
 use Rattle.pc_base.specs.declared.limits.TheConstants.{MOST_CONFLICTS}
-use Rattle.pc_base.specs.declared.transaction.TxnId.{TxnId}
-use Rattle.pc_coord.specs.Rounds.{IsSettledRound}
+use Rattle.pc_coord.proofs.Rounds.{counts_none, unmet}
+use Rattle.pc_coord.specs.Rounds.{IsBehindPush, IsSettledRound}
 use Rattle.pc_exchange.specs.InTurn.{IsNextRound, pushes_answered}
 use Rattle.pc_exchange.specs.Rounding.{WasPushedOnceFor}
-use Rattle.pc_lists.proofs.Anywhere.{any_head}
-use Rattle.pc_lists.proofs.Counts.{count-cons, count-push, one_if}
+use Rattle.pc_lists.proofs.Counts.{count-append, count-cons, count-push, one_if}
 use Rattle.pc_lists.proofs.Lists.{get_append}
 use Rattle.pc_proto.specs.declared.fate.Fate.{Fate}
 use Rattle.pc_proto.specs.declared.fate.Goal.{Goal}
@@ -20,45 +19,51 @@ use Rattle.pc_proto.specs.declared.reply.Reply.{Reply}
 use Rattle.pc_proto.specs.declared.reply.Reply.TheVariants as replies
 use Rattle.pc_proto.specs.Replies.{is_conflict}
 use Rattle.pc_proto.specs.Requests.{goal_in}
-use Rattle.pc_push.specs.Pushing.{Pushing, holder_resolve, push_of}
+use Rattle.pc_push.specs.Pushing.{Pushing, push_of}
 use Rattle.pc_wave.proofs.Lists.{at_least-kept}
 use Rattle.pc_wave.proofs.Standings.{done-more}
 use Rattle.pc_world.specs.Counting.{AtLeast}
 use Rattle.pc_follows.specs.Eighth.{IsBeforeEighth, IsBelowEighth}
 use Rattle.pc_follows.specs.Resends.{WasDone}
-use Rattle.pc_follows.specs.Rounds.{AreRoundsOver, IsConflictAt, IsInItsRound, IsRoundOver, LeavesFate, conflicts_now, rounds_begun}
+use Rattle.pc_follows.specs.Rounds.{AreRoundsOver, IsConflictAt, IsFateOfRound, IsInItsRound, IsInRound, IsRoundOver, LeavesFate, conflicts_now, rounds_begun}
 use Rattle.pc_world.specs.Known.{Known}
 use Rattle.pc_world.specs.Known.Traffic.{Heard}
 use Rattle.pc_world.specs.Send.Push.{goal_for}
-use Rattle.pc_world.specs.Send.Settling.{ResolvedTo}
 use Rattle.pc_world.specs.Tell.Refusal.{IsConflictOf}
 
 -- ---- lists
 
 module _ {X : Type 0} (p : X → Bool) where
-  split_none : (before : List X) (y : X) (after : List X) → [] ≡ before ++ (y ∷ after) → ⊥
-  split_none [] y after e = cc
-  split_none (z ∷ before) y after e = cc
-
-  by_counts : (xs before : List X) (x y : X) (after : List X) → xs ++ (x ∷ []) ≡ before ++ (y ∷ after) → p y ≡ true → count_by p xs ≡ count_by p before → after ≡ []
-  by_counts [] [] x y after e is same = let t : [] ≡ after = cc in sym t
-  by_counts [] (w ∷ before) x y after e is same = let t : [] ≡ before ++ (y ∷ after) = cc in absurd (split_none before y after t)
-  by_counts (z ∷ xs) [] x y after e is same =
+  cuts_meet : (xs before : List X) (x y : X) (later after : List X) → xs ++ (x ∷ later) ≡ before ++ (y ∷ after) → p x ≡ true → p y ≡ true → count_by p xs ≡ count_by p before → (x ≡ y) × (later ≡ after)
+  cuts_meet [] [] x y later after e one other same = (cc, cc)
+  cuts_meet [] (w ∷ before) x y later after e one other same =
+      let h : x ≡ w = cc in
+      let a = count-cons p w before in
+      let b : one_if (p w) ≡ 1 = ap one_if (sym (ap p h) ∙ one) in
+      absurd (omega (arith, a, b, same))
+  cuts_meet (z ∷ xs) [] x y later after e one other same =
       let h : z ≡ y = cc in
       let a = count-cons p z xs in
-      let b : one_if (p z) ≡ 1 = ap one_if (ap p h ∙ is) in
+      let b : one_if (p z) ≡ 1 = ap one_if (ap p h ∙ other) in
       absurd (omega (arith, a, b, same))
-  by_counts (z ∷ xs) (w ∷ before) x y after e is same =
+  cuts_meet (z ∷ xs) (w ∷ before) x y later after e one other same =
       let h : z ≡ w = cc in
-      let t : xs ++ (x ∷ []) ≡ before ++ (y ∷ after) = cc in
+      let t : xs ++ (x ∷ later) ≡ before ++ (y ∷ after) = cc in
       let a = count-cons p z xs in
       let b = count-cons p w before in
       let d : one_if (p z) ≡ one_if (p w) = ap (λ v. one_if (p v)) h in
-      by_counts xs before x y after t is (omega (arith, a, b, d, same))
+      cuts_meet xs before x y later after t one other (omega (arith, a, b, d, same))
 
-  -- nothing stands behind one that passes, where as many pass before it as before the last
-  pub last_of : (xs before : List X) (x y : X) (after : List X) → xs ++ (x ∷ []) ≡ before ++ (y ∷ after) → p y ≡ true → length (filter p xs) ≡ length (filter p before) → after ≡ []
-  last_of xs before x y after e is same = by_counts xs before x y after e is (sym (length-filter p xs) ∙ (same ∙ length-filter p before))
+  -- a list that is cut at two elements that pass, before which as many pass, is cut at one place
+  pub cut_at_one : (xs before : List X) (x y : X) (later after : List X) → xs ++ (x ∷ later) ≡ before ++ (y ∷ after) → p x ≡ true → p y ≡ true → length (filter p xs) ≡ length (filter p before) → (x ≡ y) × (later ≡ after)
+  cut_at_one xs before x y later after e one other same = cuts_meet xs before x y later after e one other (sym (length-filter p xs) ∙ (same ∙ length-filter p before))
+
+  -- none is left of those of which none passes
+  filter_none : (xs : List X) → All (λ x. p x ≡ false) xs → filter p xs ≡ []
+  filter_none [] none = refl
+  filter_none (x ∷ xs) none =
+      let fails : filter p (x ∷ xs) ≡ cond (p x) (x ∷ filter p xs) (filter p xs) = refl in
+      fails ∙ (ap (λ b. cond b (x ∷ filter p xs) (filter p xs)) (All-head (λ x. p x ≡ false) x xs none) ∙ filter_none xs (All-tail (λ x. p x ≡ false) x xs none))
 
   -- how many pass with one more
   pub passing_more : (xs : List X) (x : X) → length (filter p (xs ++ (x ∷ []))) ≡ length (filter p xs) + one_if (p x)
@@ -83,17 +88,6 @@ module _ {X : Type 0} (p : X → Bool) where
         by false not less later = let fails : filter p (x ∷ xs) ≡ filter p xs = cc in inr (later (subst (AtLeast P (suc n)) fails h))
 
 -- ---- rounds that are over
-
-any_nothing : {X : Type 0} (P : X → Type 0) → Any P [] → ⊥
-any_nothing P (k, x, there, is, h) = absurd (omega arith)
-
-none_recovered : (before : List Heard) (recovery : Heard) (after : List Heard) → [] ≡ before ++ (recovery ∷ after) → ⊥
-none_recovered before recovery after e = split_none (λ h. true) before recovery after e
-
-done_none : (id : TxnId) (key : List ℕ) (goal : Goal) (reply : Reply) → WasDone id key goal reply [] → ⊥
-done_none id key goal (replies.Status view) done = any_nothing (ResolvedTo id key done.fate) done.settled
-done_none id key goal (replies.Unsure view) done = none_recovered done.before done.recovery done.after done.whole
-done_none id key goal reply done = done
 
 module _ (k later : Known) (more : List Heard) (heard : later.heard_now ≡ k.heard_now ++ more) where
   pub conflicts_more : conflicts_now later ≡ conflicts_now k ++ filter (λ h. is_conflict h.reply) more
@@ -165,33 +159,41 @@ module _ (start k : Known) (conflict : Heard) (next : IsNextRound start conflict
           let ever : AtLeast (IsConflictOf other.request) MOST_CONFLICTS k.heard_now = at_least-filter (λ (h : Heard). is_conflict h.reply) (IsConflictOf other.request) MOST_CONFLICTS k.heard_now all in
           next.below (subst (λ (h : Heard). AtLeast (IsConflictOf h.request) MOST_CONFLICTS start.heard_now) it (subst (AtLeast (IsConflictOf other.request) MOST_CONFLICTS) same ever))
 
-  -- so does what settles its intent
-  pub resolve_in_turn : (m : Pushing) (fate : Fate) → m.holder ≡ holder → m.key ≡ key → WasPushedOnceFor m.holder.id m.goal fate start k → rounds_begun k ≡ rounds_begun start + 1 → IsInItsRound k (holder_resolve m fate)
-  resolve_in_turn m fate whose where_is was begun = (
-    record {
-      place = rounds_begun start;
-      last = begun;
-      holder = holder;
-      of = subst (λ l. IsConflictAt k (rounds_begun start) holder l) (sym where_is) (conflict_more start k (was.push ∷ []) was.more (rounds_begun start) holder key conflict_at);
-      whose = ap (λ (h : TxnMeta). h.id) (sym whose);
-      goes_on = not_over;
-    },
-    record {
+  -- while what its push's reply asks for is not done, it goes on
+  module _ (goal : Goal) (reply : Reply) (later : List Heard) (was : WasPushedOnceFor holder.id goal reply later start k) (begun : rounds_begun k ≡ rounds_begun start + 1) where
+    abbrev at : IsConflictAt k (rounds_begun start) holder key
+    at = conflict_more start k (was.push ∷ later) was.more (rounds_begun start) holder key conflict_at
+
+    done_of : IsRoundOver k (rounds_begun start) → WasDone holder.id key goal reply later
+    done_of o =
+        let meet = cut_at_one (λ (h : Heard). is_some (goal_in h.request)) start.heard_now o.before was.push o.push later o.after (sym was.more ∙ o.whole) (ap is_some was.aims) (ap is_some o.aims) (next.answered ∙ sym o.placed) in
+        let one : o.of.conflict ≡ at.conflict = same_Some o.of.conflict at.conflict (sym o.of.placed ∙ at.placed) in
+        let said : replies.Conflict o.holder o.of.ts o.key ≡ replies.Conflict holder at.ts key = sym o.of.met ∙ (ap (λ (h : Heard). h.reply) one ∙ at.met) in
+        let holder_is : o.holder ≡ holder = cc in
+        let key_is : o.key ≡ key = cc in
+        let both : Some o.goal ≡ Some goal = sym o.aims ∙ (ap (λ (h : Heard). goal_in h.request) (sym meet.0) ∙ was.aims) in
+        let goal_is : o.goal ≡ goal = cc in
+        let reply_is : o.push.reply ≡ reply = ap (λ (h : Heard). h.reply) (sym meet.0) ∙ was.told in
+        subst (λ l. WasDone holder.id key goal reply l) (sym meet.1)
+        (subst (λ r. WasDone holder.id key goal r o.after) reply_is
+        (subst (λ g. WasDone holder.id key g o.push.reply o.after) goal_is
+        (subst (λ l. WasDone holder.id l o.goal o.push.reply o.after) key_is (subst (λ (h : TxnMeta). WasDone h.id o.key o.goal o.push.reply o.after) holder_is o.done))))
+
+    pub goes_on : (WasDone holder.id key goal reply later → ⊥) → IsInRound k holder.id key
+    goes_on undone = record { place = rounds_begun start; last = begun; holder = holder; of = at; whose = refl; goes_on = λ o. undone (done_of o) }
+
+    -- and what it leaves to the intent is what the reply and what was heard behind it say
+    pub fate_of : (fate : Fate) → LeavesFate holder.id goal reply later fate → IsFateOfRound k holder.id fate
+    fate_of fate left = record {
       before = start.heard_now;
       push = was.push;
-      after = [];
+      after = later;
       whole = was.more;
       last = ap (λ n. n + 1) next.answered ∙ sym begun;
-      goal = m.goal;
+      goal = goal;
       aims = was.aims;
-      left = subst (λ reply. LeavesFate m.holder.id m.goal reply [] fate) (sym was.told) was.left;
-    },
-  )
-    where
-      not_over : IsRoundOver k (rounds_begun start) → ⊥
-      not_over o =
-          let none : o.after ≡ [] = last_of (λ (h : Heard). is_some (goal_in h.request)) start.heard_now o.before was.push o.push o.after (sym was.more ∙ o.whole) (ap is_some o.aims) (next.answered ∙ sym o.placed) in
-          done_none o.holder.id o.key o.goal o.push.reply (subst (WasDone o.holder.id o.key o.goal o.push.reply) none o.done)
+      left = subst (λ reply. LeavesFate holder.id goal reply later fate) (sym was.told) left;
+    }
 
   -- ---- its end
 
@@ -202,16 +204,15 @@ module _ (start k : Known) (conflict : Heard) (next : IsNextRound start conflict
       it_is_over = record {
         before = start.heard_now;
         push = round.push;
-        after = round.resolve ∷ [];
+        after = round.later;
         whole = round.more;
         placed = next.answered;
         holder = holder;
         key = key;
-        of = conflict_more start k (round.push ∷ (round.resolve ∷ [])) round.more (rounds_begun start) holder key conflict_at;
+        of = conflict_more start k (round.push ∷ round.later) round.more (rounds_begun start) holder key conflict_at;
         goal = round.goal;
         aims = round.aims;
-        done = subst (λ reply. WasDone holder.id key round.goal reply (round.resolve ∷ [])) (sym round.told)
-            (record { fate = round.fate; left = round.left; settled = any_head (ResolvedTo holder.id key round.fate) round.resolve [] round.resolved });
+        done = round.done;
       }
 
       pub settled_over : AreRoundsOver k
@@ -224,33 +225,32 @@ module _ (start k : Known) (conflict : Heard) (next : IsNextRound start conflict
           below (suc m) (suc n) l = elim (below m n (omega arith)) [ inl less ↦ inl (omega arith) | inr same ↦ inr (ap suc same) ]
 
           by_place : (place < rounds_begun start) ⊎ (place ≡ rounds_begun start) → IsRoundOver k place
-          by_place (inl less) = over_more start k (round.push ∷ (round.resolve ∷ [])) round.more place (next.over place less)
+          by_place (inl less) = over_more start k (round.push ∷ round.later) round.more place (next.over place less)
           by_place (inr same) = subst (IsRoundOver k) (sym same) it_is_over
 
       is_push : is_some (goal_in round.push.request) ≡ true
       is_push = ap is_some round.aims
 
-      no_push : is_some (goal_in round.resolve.request) ≡ false
-      no_push = ap (λ r. is_some (goal_in r)) round.resolved.asked
+      no_push : count_by (λ h. is_some (goal_in h.request)) round.later ≡ 0
+      no_push =
+          counts_none (λ (h : Heard). is_some (goal_in h.request)) round.later
+          (All-weaker (IsBehindPush holder.id) (λ (h : Heard). is_some (goal_in h.request) ≡ false) (λ h is. ap is_some is.behind.no_push) round.later round.behind)
 
       -- each push was answered
       pub settled_answered : pushes_answered k ≡ rounds_begun k
       settled_answered =
           let P : Heard → Bool = λ h. is_some (goal_in h.request) in
-          let whole : k.heard_now ≡ (start.heard_now ++ (round.push ∷ [])) ++ (round.resolve ∷ []) = round.more ∙ sym (append_assoc start.heard_now (round.push ∷ []) (round.resolve ∷ [])) in
-          let a = passing_more P start.heard_now round.push in
-          let b = passing_more P (start.heard_now ++ (round.push ∷ [])) round.resolve in
-          let d : pushes_answered k ≡ length (filter P ((start.heard_now ++ (round.push ∷ [])) ++ (round.resolve ∷ []))) = ap (λ l. length (filter P l)) whole in
-          let e : one_if (P round.push) ≡ 1 = ap one_if is_push in
-          let f : one_if (P round.resolve) ≡ 0 = ap one_if no_push in
-          let g : pushes_answered start ≡ rounds_begun start = next.answered in
-          omega (arith, a, b, d, e, f, g, begun)
+          let a : pushes_answered k ≡ length (filter P (start.heard_now ++ (round.push ∷ round.later))) = ap (λ l. length (filter P l)) round.more in
+          let b = length-filter P (start.heard_now ++ (round.push ∷ round.later)) in
+          let d = length-filter P start.heard_now in
+          let e = count-append P start.heard_now (round.push ∷ round.later) in
+          let f = count-cons P round.push round.later in
+          let g : one_if (P round.push) ≡ 1 = ap one_if is_push in
+          let h : pushes_answered start ≡ rounds_begun start = next.answered in
+          omega (arith, a, b, d, e, f, g, h, no_push, begun)
 
       -- and no further conflict was met
       pub settled_conflicts : conflicts_now k ≡ conflicts_now start
       settled_conflicts =
-          let Q : Heard → Bool = λ h. is_conflict h.reply in
-          let a : Q round.push ≡ false = ap is_conflict round.told in
-          let b : Q round.resolve ≡ false = ap is_conflict round.resolved.told in
-          let none : filter Q (round.push ∷ (round.resolve ∷ [])) ≡ [] = cc in
-          conflicts_more start k (round.push ∷ (round.resolve ∷ [])) round.more ∙ (ap (λ l. conflicts_now start ++ l) none ∙ append-nil (conflicts_now start))
+          let none : filter (λ (h : Heard). is_conflict h.reply) (round.push ∷ round.later) ≡ [] = filter_none (λ (h : Heard). is_conflict h.reply) (round.push ∷ round.later) (unmet holder.id key start k round) in
+          conflicts_more start k (round.push ∷ round.later) round.more ∙ (ap (λ l. conflicts_now start ++ l) none ∙ append-nil (conflicts_now start))

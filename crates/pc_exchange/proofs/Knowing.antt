@@ -1,5 +1,5 @@
 -- What an actor knows after one message more was sent, and its reply heard.
-use Rattle.std.proofs.Common.{◌≡◌, ℕ, max, true, Contains, List, [], ◌∷◌, ◌++◌, map, Option, Some, refl, sym, ap, ◌∙◌, subst, arith}
+use Rattle.std.proofs.Common.{◌≡◌, ℕ, max, Bool, true, false, ◌&&◌, ◌==◌, if◌then◌else◌, Contains, List, [], ◌∷◌, ◌++◌, map, Option, Some, refl, sym, ap, ◌∙◌, subst, arith}
 use Rattle.std.proofs.lemmas.Grind.{fold-append}
 use Rattle.std.proofs.lemmas.List.{append-nil}
 use Rattle.std.proofs.lemmas.List.Elements.{Contains-push}
@@ -7,8 +7,10 @@ use Rattle.pc_base.specs.declared.actor.ActorId.{ActorId}
 use Rattle.pc_coord.specs.Beside.{is_of_round_or_job}
 use Rattle.pc_desk.proofs.Counting.{said_new}
 use Rattle.pc_desk.specs.Desk.{times_sent}
+use Rattle.pc_exchange.specs.Aside.{AsksForNoOwn}
 use Rattle.pc_exchange.specs.Exchange.{heard_pair, sent_pair}
 use Rattle.pc_history.specs.declared.pair.Pair.{Pair}
+use Rattle.pc_lists.proofs.Lists.{contains_head, contains_tail}
 use Rattle.pc_proto.specs.declared.event.Event.{Event}
 use Rattle.pc_proto.specs.declared.event.Event.TheVariants as events
 use Rattle.pc_proto.specs.declared.reply.Reply.{Reply}
@@ -16,11 +18,13 @@ use Rattle.pc_proto.specs.declared.request.Request.{Request}
 use Rattle.pc_proto.specs.declared.request.Request.TheVariants as requests
 use Rattle.pc_proto.specs.Stamps.{greatest_of, reply_stamps, request_stamps}
 use Rattle.pc_range.specs.Message.{evaluation}
+use Rattle.pc_txn.specs.Standing.{is_query_of}
 use Rattle.pc_world.proofs.Exchange.{later-itself, later-push}
 use Rattle.pc_world.specs.Exchange.{WasAnswered}
 use Rattle.pc_world.specs.Known.{Known, known_after, known_of, learn, next_number, nothing_known}
 use Rattle.pc_world.specs.Known.Traffic.{Heard, Sent, heard_as, request_sent}
-use Rattle.pc_world.specs.Known.Transactions.{Txn, txn_heard, txn_sent}
+use Rattle.pc_world.specs.Known.Transactions.{Txn, has_staged, missing_ts, txn_heard, txn_sent}
+use Rattle.pc_world.specs.Known.Writes.{with_query_reply}
 
 -- What an actor knows once it sent this.
 abbrev pub with_sent : ℕ → ℕ → Request → Known → Known
@@ -102,12 +106,14 @@ module _ (own : List (Pair Event)) (id : ActorId) (sent_at heard_at number range
 
 -- ---- messages of rounds and jobs change nothing of the transactions
 
-map_itself : {X : Type 0} (f : X → X) → ((x : X) → f x ≡ x) → (xs : List X) → map f xs ≡ xs
-map_itself f same [] = refl
-map_itself f same (x ∷ xs) = ap (λ y. y ∷ map f xs) (same x) ∙ ap (λ l. x ∷ l) (map_itself f same xs)
+map_itself : {X : Type 0} (f : X → X) (xs : List X) → ((x : X) → Contains xs x → f x ≡ x) → map f xs ≡ xs
+map_itself f [] same = refl
+map_itself f (x ∷ xs) same = ap (λ y. y ∷ map f xs) (same x (contains_head x xs)) ∙ ap (λ l. x ∷ l) (map_itself f xs (λ y there. same y (contains_tail x xs y there)))
 
 sent-aside : (request : Request) → is_of_round_or_job request ≡ true → (t : Txn) → txn_sent request t ≡ t
 sent-aside (requests.Push holder by level now goal) is t = refl
+sent-aside (requests.Query id epoch seq ts key by) is t = refl
+sent-aside (requests.Recover id epoch ts anchor finding) is t = refl
 sent-aside (requests.Resolve id key fate) is t = refl
 sent-aside (requests.Remove id anchor) is t = refl
 sent-aside request is t = absurd cc
@@ -115,12 +121,19 @@ sent-aside request is t = absurd cc
 max-zero : (n : ℕ) → max n 0 ≡ n
 max-zero n = omega arith
 
-heard-aside : (request : Request) → is_of_round_or_job request ≡ true → (number step : ℕ) (reply : Reply) (sent : List Sent) (t : Txn)
+heard-aside : (request : Request) → is_of_round_or_job request ≡ true → (number step : ℕ) (reply : Reply) (sent : List Sent) (t : Txn) → is_query_of t.id request ≡ false
     → txn_heard sent (Some (record { number = number; request = request; reply = reply; step = step })) t ≡ t
-heard-aside (requests.Push holder by level now goal) is number step reply sent t = ap (λ n. record t { write_ts = n }) (max-zero t.write_ts)
-heard-aside (requests.Resolve id key fate) is number step reply sent t = ap (λ n. record t { write_ts = n }) (max-zero t.write_ts)
-heard-aside (requests.Remove id anchor) is number step reply sent t = ap (λ n. record t { write_ts = n }) (max-zero t.write_ts)
-heard-aside request is number step reply sent t = absurd cc
+heard-aside (requests.Push holder by level now goal) is number step reply sent t other = ap (λ n. record t { write_ts = n }) (max-zero t.write_ts)
+heard-aside (requests.Query id epoch seq ts key by) is number step reply sent t other =
+    let F : Bool → Txn = λ b. record t {
+      write_ts = max t.write_ts (if b then missing_ts (has_staged sent t.id epoch ts key seq) ts reply else 0);
+      writes = if b && epoch == t.epoch then with_query_reply key seq ts reply t.writes else t.writes;
+    } in
+    ap F other ∙ ap (λ n. record t { write_ts = n }) (max-zero t.write_ts)
+heard-aside (requests.Recover id epoch ts anchor finding) is number step reply sent t other = ap (λ n. record t { write_ts = n }) (max-zero t.write_ts)
+heard-aside (requests.Resolve id key fate) is number step reply sent t other = ap (λ n. record t { write_ts = n }) (max-zero t.write_ts)
+heard-aside (requests.Remove id anchor) is number step reply sent t other = ap (λ n. record t { write_ts = n }) (max-zero t.write_ts)
+heard-aside request is number step reply sent t other = absurd cc
 
 -- What a session knows once such a message was exchanged.
 abbrev pub with_exchange : ℕ → ℕ → ℕ → Request → Reply → Known → Known
@@ -133,10 +146,12 @@ with_exchange number range step request reply k = record k {
   high = max k.high (greatest_of (reply_stamps reply));
 }
 
-pub exchange_is : (number range step : ℕ) (request : Request) (reply : Reply) (k : Known) → is_of_round_or_job request ≡ true
+pub exchange_is : (number range step : ℕ) (request : Request) (reply : Reply) (k : Known) → is_of_round_or_job request ≡ true → AsksForNoOwn k request
     → with_reply_heard (record { number = number; request = request; reply = reply; step = step }) (with_sent number range request k) ≡ with_exchange number range step request reply k
-exchange_is number range step request reply k is =
+exchange_is number range step request reply k is other =
     let all : List Sent = k.sent ++ record { number = number; range = range; request = request } ∷ [] in
     let it : Heard = record { number = number; request = request; reply = reply; step = step } in
     let F : List Txn → Known = λ txns. record (with_exchange number range step request reply k) { txns = txns } in
-    ap F (map_itself (txn_heard all (Some it)) (heard-aside request is number step reply all) (map (txn_sent request) k.txns) ∙ map_itself (txn_sent request) (sent-aside request is) k.txns)
+    ap F
+    (ap (map (txn_heard all (Some it))) (map_itself (txn_sent request) k.txns (λ t there. sent-aside request is t))
+    ∙ map_itself (txn_heard all (Some it)) k.txns (λ t there. heard-aside request is number step reply all t (other t there)))

@@ -1,6 +1,8 @@
+pub mod Anchored
 pub mod AnsweredAlive
 pub mod Aside
 pub mod Beaten
+pub mod Behind
 pub mod Called
 pub mod Coordinator
 pub mod Ending
@@ -11,9 +13,14 @@ pub mod Growing
 pub mod HeardKinds
 pub mod InTurn
 pub mod Knowing
+pub mod Listed
+pub mod LocalSteps
 pub mod Messages
+pub mod NoStages
 pub mod PastEpochs
+pub mod Places
 pub mod Pushed
+pub mod Recovering
 pub mod Rounding
 pub mod Rounds
 pub mod Timely

@@ -1,27 +1,33 @@
 -- A conflict's round, step by step: each of its messages may be sent when it is due, and what was heard is what its machine stands at.
 use Rattle.std.proofs.Common.{◌≡◌, ℕ, zero, suc, ◌+◌, ◌≤◌, Bool, true, false, ◌&&◌, inl, inr, List, [], ◌∷◌, ◌++◌, All, Any, Contains, Option, Some, None, IfSome, IsTrue, refl, sym, ap, ◌∙◌, subst, arith, count_by, is_some}
 use Rattle.std.proofs.lemmas.List.{append_assoc}
-use Rattle.std.proofs.lemmas.List.Elements.{All-cons, All-nil, All-weaker}
+use Rattle.std.proofs.lemmas.List.Elements.{All-cons, All-nil, All-push, All-weaker}
+use Rattle.std.proofs.lemmas.Option.{same_Some}
 use Rattle.std.specs.Option.{option_map_or}
 use Rattle.pc_base.specs.declared.actor.ActorId.TheVariants as actors
 use Rattle.pc_base.specs.declared.transaction.TxnId.{TxnId}
+use Rattle.pc_base.specs.declared.transaction.Who.{Who}
 use Rattle.pc_base.specs.declared.transaction.Who.TheVariants as whos
-use Rattle.pc_call.specs.Paced.{shows_resolve, was_met, was_pushed}
+use Rattle.pc_base.specs.Transaction.{same_txn}
+use Rattle.pc_call.specs.Paced.{IsBehindPushOf, KeepsBehindPushes, was_met, was_pushed}
 use Rattle.pc_call.specs.Sending.{IsConflictNow, read_at}
+use Rattle.pc_coord.proofs.Rounds.{behind_no_push, round_no_put}
 use Rattle.pc_coord.specs.declared.pusher.Pusher.{Pusher}
 use Rattle.pc_coord.specs.declared.round.Round.TheVariants as rounds
 use Rattle.pc_coord.specs.Pusher.{IsPusherOf}
-use Rattle.pc_coord.specs.Rounds.{EndsRound, IsRefusedRound, IsSettledRound}
+use Rattle.pc_coord.specs.Rounds.{EndsRound, IsBehindPush, IsRefusedRound, IsSettledRound}
 use Rattle.pc_exchange.proofs.Aside.{open_same}
 use Rattle.pc_exchange.proofs.Beaten.{any_front, beaten_still}
+use Rattle.pc_exchange.proofs.Behind.{any_cut, once_push, recover_behind, recovered_one, recovered_plain, recovered_settles_none}
 use Rattle.pc_exchange.proofs.Going.{not_same}
-use Rattle.pc_exchange.proofs.InTurn.{push_in_turn, resolve_in_turn}
+use Rattle.pc_exchange.proofs.InTurn.{push_in_turn}
 use Rattle.pc_exchange.proofs.Pushed.{push_decides}
 use Rattle.pc_exchange.proofs.Timely.{IsTimely}
-use Rattle.pc_exchange.proofs.Unmet.{push_unmet, resolve_unmet}
+use Rattle.pc_exchange.proofs.Unmet.{push_unmet}
 use Rattle.pc_exchange.specs.Aside.{IsAside, IsLaterAside}
 use Rattle.pc_exchange.specs.InTurn.{IsNextRound}
-use Rattle.pc_exchange.specs.Rounding.{HasComeTo, WasPushedOnceFor, pushes_sent}
+use Rattle.pc_exchange.specs.Rounding.{HasComeTo, IsUnsureSince, LeavesFateSince, WasPushedOnceFor, pushes_sent}
+use Rattle.pc_lists.proofs.Anywhere.{any_last}
 use Rattle.pc_lists.proofs.Counts.{count-append, count-cons, one_if}
 use Rattle.pc_lists.proofs.Same.{same_txn-self}
 use Rattle.pc_proto.specs.declared.fate.Fate.{Fate}
@@ -32,27 +38,29 @@ use Rattle.pc_proto.specs.declared.reply.Reply.TheVariants as replies
 use Rattle.pc_proto.specs.declared.request.Request.{Request}
 use Rattle.pc_proto.specs.declared.request.Request.TheVariants as requests
 use Rattle.pc_proto.specs.declared.view.View.{View}
-use Rattle.pc_proto.specs.Replies.{ConflictsWith, is_conflict_with, is_refused, view_in}
-use Rattle.pc_proto.specs.Requests.{goal_in, is_about, is_push_of, is_resolve_of, round_of}
-use Rattle.pc_proto.specs.Stamps.{goal_stamps}
-use Rattle.pc_proto.specs.Views.{fate_after, is_committed_at, is_staging_at}
+use Rattle.pc_proto.specs.Replies.{ConflictsWith, is_conflict, is_conflict_with, is_refused, view_in}
+use Rattle.pc_proto.specs.Requests.{Recovers, goal_in, is_about, is_push_of, is_resolve_of, round_of}
+use Rattle.pc_proto.specs.Stamps.{goal_stamps, reply_stamps, view_stamps}
+use Rattle.pc_proto.specs.Views.{fate_after, final_fate, is_committed_at, is_staging_at}
 use Rattle.pc_push.specs.declared.progress.Progress.{Progress}
 use Rattle.pc_push.specs.declared.progress.Progress.TheVariants as progresses
 use Rattle.pc_push.specs.PushKnows.{Asks, AsksAt, MayPush}
-use Rattle.pc_push.specs.Pushing.{Pushing, goal_of, holder_resolve, progress_after_push, push_of, resolve_or, round_after, round_due, round_heard}
+use Rattle.pc_push.specs.Pushing.{Pushing, goal_of, holder_resolve, progress_after_push, progress_after_recovery, push_of, resolve_or, round_after, round_due, round_heard}
 use Rattle.pc_world.specs.Answering.{MayAnswer}
+use Rattle.pc_wave.proofs.Lists.{at_least-before}
 use Rattle.pc_world.specs.Counting.{AtLeast}
 use Rattle.pc_world.specs.Exchange.{IsPossibleReply}
 use Rattle.pc_follows.specs.EarlyTell.{IsCommitKnown}
 use Rattle.pc_follows.specs.Eighth.{IsBeforeEighth, MetEighth}
 use Rattle.pc_follows.specs.Heartbeats.{HasBeaten}
-use Rattle.pc_follows.specs.Resends.{HasMoreConflicts, MayGoAgain}
-use Rattle.pc_follows.specs.Rounds.{IsInItsRound, rounds_begun}
+use Rattle.pc_follows.specs.Resends.{HasMoreConflicts, MayGoAgain, RecoveredTo, WasDone}
+use Rattle.pc_follows.specs.Rounds.{IsInItsRound, LeavesFate, rounds_begun}
 use Rattle.pc_world.specs.Known.{Known, call_in, open_txn, reading_of}
 use Rattle.pc_world.specs.Known.Traffic.{Heard, Sent}
 use Rattle.pc_world.specs.Known.Transactions.{Txn}
 use Rattle.pc_world.specs.SameRequest.{IsSameRequest}
 use Rattle.pc_world.specs.Send.Push.{goal_for}
+use Rattle.pc_world.specs.Send.Settling.{ResolvedTo}
 use Rattle.pc_world.specs.Tell.End.{shows_staging}
 use Rattle.pc_world.specs.Tell.Refusal.{is_heard}
 use Rattle.pc_world.specs.Views.{shows_committed}
@@ -87,14 +95,6 @@ same_push : (m : Pushing) (h : Heard) → IsSameRequest (push_of m) h.request �
 same_push m h (inl same) = sym (ap (is_push_of m.holder.id) same) ∙ same_txn-self m.holder.id
 same_push m h (inr put) = absurd put
 
-same_resolve : (m : Pushing) (fate : Fate) (h : Heard) → IsSameRequest (holder_resolve m fate) h.request → shows_resolve m.holder.id h ≡ true
-same_resolve m fate h (inl same) = sym (ap (is_resolve_of m.holder.id) same) ∙ same_txn-self m.holder.id
-same_resolve m fate h (inr put) = absurd put
-
-push_settles_none : (id : TxnId) (request : Request) → IsTrue (is_push_of id request) → is_resolve_of id request ≡ false
-push_settles_none id (requests.Push holder by level now goal) is = refl
-push_settles_none id request is = absurd cc
-
 -- ---- the messages of the round
 
 module _ (session : ℕ) (start : Known) (number : ℕ) (conflict : Reply) (reader : Option ℕ) (met : IsConflictNow start number conflict reader) where
@@ -112,10 +112,37 @@ module _ (session : ℕ) (start : Known) (number : ℕ) (conflict : Reply) (read
     other = λ t opened.
         let is_t : met.t ≡ t = let both = sym met.open_is ∙ opened in cc both in
         not_same m.holder.id t.id (λ e. met.other (sym (ap (λ (h : TxnMeta). h.id) made.holder) ∙ (e ∙ sym (ap (λ (t : Txn). t.id) is_t))));
+    query_of = tt;
+    unqueried = λ t there. refl;
   }
 
   pub resolve_aside : (m : Pushing) (fate : Fate) → IsAside session start (holder_resolve m fate)
-  resolve_aside m fate = record { kind = refl; begun = λ id about whose. absurd cc; other = λ t opened. refl }
+  resolve_aside m fate = record { kind = refl; begun = λ id about whose. absurd cc; query_of = tt; other = λ t opened. refl; unqueried = λ t there. refl }
+
+  -- a recovery speaks of the record as the push does
+  pub recover_aside : (m : Pushing) → IsMade m → (request : Request) → Recovers m.holder.id request → IsAside session start request
+  recover_aside m made (requests.Recover id epoch ts anchor finding) is =
+      let push = push_aside m made in
+      record {
+        kind = refl;
+        begun = λ other about whose.
+            let same : id ≡ other = cc in
+            push.begun other (ap (λ i. Some i) (sym is ∙ same)) whose;
+        query_of = tt;
+        other = λ t opened. subst (λ i. same_txn i t.id ≡ false) (sym is) (push.other t opened);
+        unqueried = λ t there. refl;
+      }
+  recover_aside m made request is = absurd is
+
+  -- and a query asks for a write of another session's transaction
+  pub query_aside : (m : Pushing) → (m.holder.id.session ≡ session → ⊥) → ((t : Txn) → Contains start.txns t → t.id.session ≡ session) → (epoch seq ts : ℕ) (key : List ℕ) (by : Who) → IsAside session start (requests.Query m.holder.id epoch seq ts key by)
+  query_aside m anothers own epoch seq ts key by = record {
+    kind = refl;
+    begun = λ id about whose. absurd cc;
+    query_of = λ mine. absurd (anothers mine);
+    other = λ t opened. refl;
+    unqueried = λ t there. not_same m.holder.id t.id (λ e. anothers (ap (λ (i : TxnId). i.session) e ∙ own t there));
+  }
 
   module _ (k : Known) (last : ℕ) (later : IsLaterAside session start k last) (answered : All (λ m. IsTrue (is_heard k.heard_now m)) k.sent_now) (kinds : (h : Heard) → Contains k.heard_now h → MayAnswer h.request h.reply) (waiting : List (List Request)) where
     -- what was heard since speaks of no record of the open transaction
@@ -170,23 +197,26 @@ module _ (session : ℕ) (start : Known) (number : ℕ) (conflict : Reply) (read
         let d : count_by (was_met id) k.heard_now ≡ count_by (was_met id) start.heard_now = ap (count_by (was_met id)) same in
         count-at_least (λ h. IsTrue (is_conflict_with id h.reply)) (was_met id) (λ h is. is) (n + 1) k.heard_now (omega (arith, a, b, d, low)))
 
-    -- and than settlings of its intents
-    pub resolve_timely : (m : Pushing) (fate : Fate) → IsMade m → IsNextRound start met.h → m.key ≡ met.key → rounds_begun k ≡ rounds_begun start + 1 → WasPushedOnceFor m.holder.id m.goal fate start k → IsTimely k waiting (holder_resolve m fate)
-    resolve_timely m fate made next where_is begun was =
+    -- and than requests that stand behind it
+    pub behind_timely : (m : Pushing) → IsMade m → (request : Request) → IsBehindPushOf m.holder.id request → (reply : Reply) (heard : List Heard) → WasPushedOnceFor m.holder.id m.goal reply heard start k → All (λ h. h.request ≡ request → ⊥) heard
+        → (MetEighth k request → ⊥) → IsInItsRound k request × IsBeforeEighth k request → IsTimely k waiting request
+    behind_timely m made request of reply heard was fresh unmet turn =
         let id = m.holder.id in
         let is : id ≡ met.holder.id = ap (λ (h : TxnMeta). h.id) made.holder in
         let low : count_by (was_pushed id) start.heard_now + 1 ≤ count_by (was_met id) start.heard_now =
         subst (λ id. count_by (was_pushed id) start.heard_now + 1 ≤ count_by (was_met id) start.heard_now) (sym is) met.pushes in
-        let few : count_by (shows_resolve id) start.heard_now ≤ count_by (was_pushed id) start.heard_now =
-        subst (λ id. count_by (shows_resolve id) start.heard_now ≤ count_by (was_pushed id) start.heard_now) (sym is) met.resolves in
-        let turn = resolve_in_turn start k met.h next met.holder met.ts met.key (met.told ∙ met.is) m fate made.holder where_is was begun in
-        timely (holder_resolve m fate) id refl (resolve_unmet k kinds m fate) (turn, tt) (λ n many.
-        let a : n ≤ count_by (shows_resolve id) k.heard_now = at_least-count (λ h. IsSameRequest (holder_resolve m fate) h.request) (shows_resolve id) (same_resolve m fate) n k.heard_now many in
-        let on : (p : Heard → Bool) → count_by p k.heard_now ≡ count_by p start.heard_now + one_if (p was.push) = λ p.
-        let e : count_by p k.heard_now ≡ count_by p (start.heard_now ++ was.push ∷ []) = ap (count_by p) was.more in
-        omega (arith, e, count-append p start.heard_now (was.push ∷ []), count-cons p was.push []) in
-        let b : one_if (shows_resolve id was.push) ≡ 0 = ap one_if (push_settles_none id was.push.request was.pushed) in
-        count-at_least (λ h. IsTrue (is_conflict_with id h.reply)) (was_met id) (λ h is. is) (n + 1) k.heard_now (omega (arith, a, b, on (shows_resolve id), on (was_met id), low, few)))
+        let paced : KeepsBehindPushes id start.heard_now = subst (λ id. KeepsBehindPushes id start.heard_now) (sym is) met.behind in
+        timely request id of.about unmet turn (λ n many.
+        let Same : Heard → Type 0 = λ h. IsSameRequest request h.request in
+        let N : Heard → Type 0 = λ h. Same h → ⊥ in
+        let none : All N (was.push ∷ heard) =
+        All-cons N was.push heard (behind_no_push id request was.push.request m.goal of was.aims)
+        (All-weaker (λ h. h.request ≡ request → ⊥) N (λ h new same. elim same [ inl e ↦ new (sym e) | inr put ↦ round_no_put request h.request id of.about put ]) heard fresh) in
+        let before : AtLeast Same n start.heard_now = at_least-before Same n start.heard_now (was.push ∷ heard) none (subst (λ hs. AtLeast Same n hs) was.more many) in
+        let few = paced request of n before in
+        let e : count_by (was_met id) k.heard_now ≡ count_by (was_met id) (start.heard_now ++ (was.push ∷ heard)) = ap (count_by (was_met id)) was.more in
+        let more = count-append (was_met id) start.heard_now (was.push ∷ heard) in
+        count-at_least (λ h. IsTrue (is_conflict_with id h.reply)) (was_met id) (λ h is. is) (n + 1) k.heard_now (omega (arith, few, low, e, more)))
 
 -- ---- the machine's beginning
 
@@ -228,18 +258,82 @@ sends_asks (progresses.Unsure view) m request is = absurd cc
 sends_asks (progresses.Resolve fate) m request is = cc
 sends_asks progresses.Over m request is = absurd cc
 
-module _ (m : Pushing) (start k later : Known) (h : Heard) (more : later.heard_now ≡ k.heard_now ++ h ∷ []) where
-  status_come : (view : View) (fate : Option Fate) → fate_after m.goal view ≡ fate → (fate_after m.goal view ≡ None → ⊥) → k.heard_now ≡ start.heard_now → h.request ≡ push_of m → h.reply ≡ replies.Status view
-      → HasComeTo (resolve_or fate progresses.Push) m start later
-  status_come view None is not same asked told = absurd (not is)
-  status_come view (Some fate) is not same asked told = record {
+-- the intent was recovered: it is settled next where the recovery's view is final, and else the round is over
+module _ (m : Pushing) (start k : Known) (met view : View) (queries : List Heard) (h : Heard) (was : WasPushedOnceFor m.holder.id m.goal (replies.Unsure met) (queries ++ h ∷ []) start k) (shown : RecoveredTo m.holder.id view h.request h.reply)
+    (none : All (λ g. (other : View) → RecoveredTo m.holder.id other g.request g.reply → ⊥) queries) (unsettled : All (λ g. is_resolve_of m.holder.id g.request ≡ false) queries) where
+  pub recovered_come : HasComeTo (resolve_or (final_fate view) progresses.Over) m start k
+  recovered_come = by (final_fate view) refl
+    where
+      Final : Fate → Heard → Type 0
+      Final fate g = (other : View) → RecoveredTo m.holder.id other g.request g.reply → final_fate other ≡ Some fate
+
+      by : (o : Option Fate) → final_fate view ≡ o → HasComeTo (resolve_or o progresses.Over) m start k
+      by (Some fate) is = record {
+        reply = replies.Unsure met;
+        later = queries ++ h ∷ [];
+        was = was;
+        left = any_last (λ g. (other : View) × RecoveredTo m.holder.id other g.request g.reply × (final_fate other ≡ Some fate)) queries h (view, shown, is);
+        recovered =
+            All-push (Final fate) queries h (All-weaker (λ g. (other : View) → RecoveredTo m.holder.id other g.request g.reply → ⊥) (Final fate) (λ g not other is. absurd (not other is)) queries none)
+            (λ other also. ap final_fate (recovered_one m.holder.id other view h.request h.reply also shown) ∙ is);
+        unsettled = All-push (λ g. is_resolve_of m.holder.id g.request ≡ false) queries h unsettled (recovered_settles_none m.holder.id view h.request h.reply shown m.holder.id);
+      }
+      by None is = record {
+        push = was.push;
+        later = queries ++ h ∷ [];
+        goal = m.goal;
+        more = was.more;
+        pushed = was.pushed;
+        aims = was.aims;
+        done = subst (λ r. WasDone m.holder.id m.key m.goal r (queries ++ h ∷ [])) (sym was.told) (record {
+          before = queries;
+          recovery = h;
+          after = [];
+          whole = refl;
+          view = view;
+          shown = shown;
+          settled = λ fate final. let e : None ≡ Some fate = sym is ∙ final in absurd cc;
+        });
+        behind = was.behind;
+        once = was.once;
+      }
+
+-- what a recovery was answered
+recovered_to : (id : TxnId) (request : Request) (reply : Reply) → Recovers id request → MayAnswer request reply → (view : View) × RecoveredTo id view request reply × (reply ≡ replies.Status view)
+recovered_to id (requests.Recover other epoch ts anchor finding) (replies.Status view) is may = (view, (is, refl), refl)
+recovered_to id (requests.Recover other epoch ts anchor finding) reply is may = absurd may
+recovered_to id request reply is may = absurd is
+
+-- a machine that stands elsewhere makes the same round
+pub restood : (m : Pushing) (start k : Known) (p progress : Progress) → HasComeTo p m start k → HasComeTo p (record m { progress = progress }) start k
+restood m start k progresses.Push progress come = come
+restood m start k progresses.Refused progress come = come
+restood m start k (progresses.Unsure view) progress come = come
+restood m start k (progresses.Resolve fate) progress come = come
+restood m start k progresses.Over progress come = come
+
+module _ (m : Pushing) (start k later : Known) (h : Heard) (more : later.heard_now ≡ k.heard_now ++ h ∷ []) (low : All (λ ts. ts ≤ later.top) (reply_stamps h.reply)) where
+  pushed_by : (reply : Reply) → k.heard_now ≡ start.heard_now → h.request ≡ push_of m → h.reply ≡ reply → WasPushedOnceFor m.holder.id m.goal reply [] start later
+  pushed_by reply same asked told = record {
     push = h;
-    view = view;
     more = more ∙ ap (λ l. l ++ h ∷ []) same;
     pushed = ap (is_push_of m.holder.id) asked ∙ same_txn-self m.holder.id;
     aims = ap goal_in asked;
     told = told;
+    behind = All-nil (IsBehindPush m.holder.id);
+    once = λ request none. none;
+  }
+
+  status_come : (view : View) (fate : Option Fate) → fate_after m.goal view ≡ fate → (fate_after m.goal view ≡ None → ⊥) → k.heard_now ≡ start.heard_now → h.request ≡ push_of m → h.reply ≡ replies.Status view
+      → HasComeTo (resolve_or fate progresses.Push) m start later
+  status_come view None is not same asked told = absurd (not is)
+  status_come view (Some fate) is not same asked told = record {
+    reply = replies.Status view;
+    later = [];
+    was = pushed_by (replies.Status view) same asked told;
     left = is;
+    recovered = All-nil (λ (g : Heard). (other : View) → RecoveredTo m.holder.id other g.request g.reply → final_fate other ≡ Some fate);
+    unsettled = All-nil (λ (g : Heard). is_resolve_of m.holder.id g.request ≡ false);
   }
 
   come_push : (reply : Reply) → h.reply ≡ reply → k.heard_now ≡ start.heard_now → h.request ≡ push_of m → MayAnswer (push_of m) reply → IsPossibleReply (push_of m) reply → HasComeTo (round_heard progresses.Push reply m).progress m start later
@@ -251,44 +345,90 @@ module _ (m : Pushing) (start k later : Known) (h : Heard) (more : later.heard_n
         more = more ∙ ap (λ l. l ++ h ∷ []) same;
         refused = ap (λ r. is_push_of m.holder.id h.request && is_refused r) told ∙ (ap (λ b. b && true) pushed);
       }
+  come_push (replies.Unsure view) told same asked may is = record {
+    was = pushed_by (replies.Unsure view) same asked told;
+    stamps =
+        All-weaker (λ ts. ts ≤ later.top) (λ ts. ts ≤ later.top + 1) (λ ts low. omega (arith, low)) (view_stamps view)
+        (subst (λ r. All (λ ts. ts ≤ later.top) (reply_stamps r)) told low);
+  }
   come_push reply told same asked may is = absurd may
 
-  come_resolve : (reply : Reply) (fate : Fate) → h.reply ≡ reply → WasPushedOnceFor m.holder.id m.goal fate start k → h.request ≡ holder_resolve m fate → MayAnswer (holder_resolve m fate) reply → IsSettledRound m.holder.id m.key start later
-  come_resolve replies.Resolved fate told was asked may = record {
-    push = was.push;
-    view = was.view;
-    goal = m.goal;
-    fate = fate;
-    resolve = h;
-    more = more ∙ (ap (λ l. l ++ h ∷ []) was.more ∙ append_assoc start.heard_now (was.push ∷ []) (h ∷ []));
-    pushed = was.pushed;
-    aims = was.aims;
-    told = was.told;
-    left = was.left;
-    resolved = record { asked = asked; told = told };
-  }
-  come_resolve reply fate told was asked may = absurd may
+  -- a recovery that was asked for at once
+  come_recover : (met : View) → IsUnsureSince m.holder.id m.goal met start k → Recovers m.holder.id h.request → MayAnswer h.request h.reply → HasComeTo (round_heard (progresses.Unsure met) h.reply m).progress m start later
+  come_recover met come asks may =
+      let r = recovered_to m.holder.id h.request h.reply asks may in
+      let id = m.holder.id in
+      let of = recover_behind id h asks (recovered_plain h.reply r.0 r.2) in
+      let was : WasPushedOnceFor id m.goal (replies.Unsure met) (h ∷ []) start later = record {
+        push = come.was.push;
+        more = more ∙ (ap (λ l. l ++ h ∷ []) come.was.more ∙ append_assoc start.heard_now (come.was.push ∷ []) (h ∷ []));
+        pushed = come.was.pushed;
+        aims = come.was.aims;
+        told = come.was.told;
+        behind = All-cons (IsBehindPush id) h [] of (All-nil (IsBehindPush id));
+        once = once_push id [] h (All-nil (IsBehindPush id)) of (All-nil (λ g. g.request ≡ h.request → ⊥)) (λ request none. none);
+      } in
+      subst (λ reply. HasComeTo (progress_after_recovery reply) m start later) (sym r.2)
+      (recovered_come m start later met r.0 [] h was r.1 (All-nil (λ (g : Heard). (other : View) → RecoveredTo id other g.request g.reply → ⊥)) (All-nil (λ (g : Heard). is_resolve_of id g.request ≡ false)))
+
+  module _ (fate : Fate) (l : LeavesFateSince m.holder.id m.goal fate start k) (asked : h.request ≡ holder_resolve m fate) (told : h.reply ≡ replies.Resolved) where
+    resolves : ResolvedTo m.holder.id m.key fate h
+    resolves = record { asked = asked; told = told }
+
+    resolve_done : (reply : Reply) → LeavesFate m.holder.id m.goal reply l.later fate → WasDone m.holder.id m.key m.goal reply (l.later ++ h ∷ [])
+    resolve_done (replies.Status view) left = record { fate = fate; left = left; settled = any_last (ResolvedTo m.holder.id m.key fate) l.later h resolves }
+    resolve_done (replies.Unsure view) left =
+        let (before, recovery, after, whole, shows) = any_cut (λ (g : Heard). (other : View) × RecoveredTo m.holder.id other g.request g.reply × (final_fate other ≡ Some fate)) l.later left in
+        record {
+          before = before;
+          recovery = recovery;
+          after = after ++ h ∷ [];
+          whole = ap (λ x. x ++ h ∷ []) whole ∙ append_assoc before (recovery ∷ after) (h ∷ []);
+          view = shows.0;
+          shown = shows.1;
+          settled = λ other final.
+              let same : fate ≡ other = same_Some fate other (sym shows.2 ∙ final) in
+              subst (λ f. Any (ResolvedTo m.holder.id m.key f) (after ++ h ∷ [])) same (any_last (ResolvedTo m.holder.id m.key fate) after h resolves);
+        }
+    resolve_done reply left = absurd left
+
+    none_same : All (λ g. g.request ≡ h.request → ⊥) l.later
+    none_same =
+        All-weaker (λ g. is_resolve_of m.holder.id g.request ≡ false) (λ g. g.request ≡ h.request → ⊥)
+        (λ g not same. let e : true ≡ false = sym (same_txn-self m.holder.id) ∙ (sym (ap (is_resolve_of m.holder.id) (same ∙ asked)) ∙ not) in cc) l.later l.unsettled
+
+    come_settled : IsSettledRound m.holder.id m.key start later
+    come_settled =
+        let of : IsBehindPush m.holder.id h = record { behind = record { about = ap round_of asked; no_push = ap goal_in asked }; unmet = ap is_conflict told } in
+        record {
+          push = l.was.push;
+          later = l.later ++ h ∷ [];
+          goal = m.goal;
+          more = more ∙ (ap (λ x. x ++ h ∷ []) l.was.more ∙ append_assoc start.heard_now (l.was.push ∷ l.later) (h ∷ []));
+          pushed = l.was.pushed;
+          aims = l.was.aims;
+          done = subst (λ r. WasDone m.holder.id m.key m.goal r (l.later ++ h ∷ [])) (sym l.was.told) (resolve_done l.reply l.left);
+          behind = All-push (IsBehindPush m.holder.id) l.later h l.was.behind of;
+          once = once_push m.holder.id l.later h l.was.behind of none_same l.was.once;
+        }
+
+  come_resolve : (reply : Reply) (fate : Fate) → h.reply ≡ reply → LeavesFateSince m.holder.id m.goal fate start k → h.request ≡ holder_resolve m fate → MayAnswer (holder_resolve m fate) reply → IsSettledRound m.holder.id m.key start later
+  come_resolve replies.Resolved fate told l asked may = come_settled fate l asked told
+  come_resolve reply fate told l asked may = absurd may
 
   come_by : (p : Progress) → HasComeTo p m start k → AsksAt p m h.request → MayAnswer h.request h.reply → IsPossibleReply h.request h.reply → HasComeTo (round_heard p h.reply m).progress m start later
   come_by progresses.Push come asks may is =
       come_push h.reply refl come asks (subst (λ q. MayAnswer q h.reply) asks may) (subst (λ q. IsPossibleReply q h.reply) asks is)
   come_by progresses.Refused come asks may is = absurd asks
-  come_by (progresses.Unsure view) come asks may is = absurd come
+  come_by (progresses.Unsure view) come asks may is = come_recover view come asks may
   come_by (progresses.Resolve fate) come asks may is = come_resolve h.reply fate refl come asks (subst (λ q. MayAnswer q h.reply) asks may)
   come_by progresses.Over come asks may is = absurd asks
 
-  restood : (p progress : Progress) → HasComeTo p m start later → HasComeTo p (record m { progress = progress }) start later
-  restood progresses.Push progress come = come
-  restood progresses.Refused progress come = come
-  restood (progresses.Unsure view) progress come = come
-  restood (progresses.Resolve fate) progress come = come
-  restood progresses.Over progress come = come
-
   on_itself : (p : Progress) (reply : Reply) → HasComeTo (round_heard p reply m).progress m start later → HasComeTo (round_heard p reply m).progress (round_heard p reply m) start later
-  on_itself progresses.Push reply come = restood (round_heard progresses.Push reply m).progress (round_heard progresses.Push reply m).progress come
+  on_itself progresses.Push reply come = restood m start later (round_heard progresses.Push reply m).progress (round_heard progresses.Push reply m).progress come
   on_itself progresses.Refused reply come = come
-  on_itself (progresses.Unsure view) reply come = restood (round_heard (progresses.Unsure view) reply m).progress (round_heard (progresses.Unsure view) reply m).progress come
-  on_itself (progresses.Resolve fate) reply come = restood progresses.Over progresses.Over come
+  on_itself (progresses.Unsure view) reply come = restood m start later (round_heard (progresses.Unsure view) reply m).progress (round_heard (progresses.Unsure view) reply m).progress come
+  on_itself (progresses.Resolve fate) reply come = restood m start later progresses.Over progresses.Over come
   on_itself progresses.Over reply come = come
 
   -- after the reply to what it asked for it stands at what was heard
@@ -304,14 +444,28 @@ pushes_after_status (Some fate) some = refl
 pushes_after : (m : Pushing) (reply : Reply) → MayAnswer (push_of m) reply → IsPossibleReply (push_of m) reply → pushes_sent (progress_after_push m.goal reply) ≡ 1
 pushes_after m (replies.Status view) may is = pushes_after_status (fate_after m.goal view) (push_decides m view is)
 pushes_after m (replies.Refused view) may is = refl
+pushes_after m (replies.Unsure view) may is = refl
 pushes_after m reply may is = absurd may
+
+pushes_resolved : (fate : Option Fate) → pushes_sent (resolve_or fate progresses.Over) ≡ 1
+pushes_resolved None = refl
+pushes_resolved (Some fate) = refl
+
+pub pushes_recovered : (reply : Reply) → pushes_sent (progress_after_recovery reply) ≡ 1
+pushes_recovered (replies.Status view) = pushes_resolved (final_fate view)
+pushes_recovered reply = refl
+
+recovers_no_goal : (id : TxnId) (request : Request) → Recovers id request → goal_in request ≡ None
+recovers_no_goal id (requests.Recover other epoch ts anchor finding) is = refl
+recovers_no_goal id request is = absurd is
 
 pushes_by : (p : Progress) (start k : Known) (m : Pushing) (request : Request) (reply : Reply) → HasComeTo p m start k → AsksAt p m request → MayAnswer request reply → IsPossibleReply request reply
     → pushes_sent (round_heard p reply m).progress ≡ pushes_sent p + one_if (is_some (goal_in request))
 pushes_by progresses.Push start k m request reply come asks may is =
     pushes_after m reply (subst (λ q. MayAnswer q reply) asks may) (subst (λ q. IsPossibleReply q reply) asks is) ∙ ap (λ q. 0 + one_if (is_some (goal_in q))) (sym asks)
 pushes_by progresses.Refused start k m request reply come asks may is = absurd asks
-pushes_by (progresses.Unsure view) start k m request reply come asks may is = absurd come
+pushes_by (progresses.Unsure view) start k m request reply come asks may is =
+    pushes_recovered reply ∙ ap (λ o. 1 + one_if (is_some o)) (sym (recovers_no_goal m.holder.id request asks))
 pushes_by (progresses.Resolve fate) start k m request reply come asks may is = ap (λ q. 1 + one_if (is_some (goal_in q))) (sym asks)
 pushes_by progresses.Over start k m request reply come asks may is = absurd asks
 
@@ -360,9 +514,9 @@ pub at_finished : (p : Progress) (m : Pushing) (start k : Known) → round_due p
 at_finished progresses.Over m start k is come = come
 at_finished p m start k is come = absurd cc
 
-pub at_settled : (p : Progress) (m : Pushing) (view : View) (start k : Known) → round_due p m ≡ machine.Settled view → HasComeTo p m start k → ⊥
-at_settled (progresses.Unsure met) m view start k is come = come
-at_settled p m view start k is come = cc
+pub at_unsure : (p : Progress) (m : Pushing) (view : View) → round_due p m ≡ machine.Settled view → p ≡ progresses.Unsure view
+at_unsure (progresses.Unsure met) m view is = let same : met ≡ view = cc in ap (λ v. progresses.Unsure v) same
+at_unsure p m view is = absurd cc
 
 -- at its end one push was sent
 pub one_refused : (p : Progress) (m : Pushing) (id : TxnId) → round_due p m ≡ machine.Refused id → pushes_sent p ≡ 1

@@ -1,5 +1,6 @@
 -- A session makes a conflict's round: how it begins, what each exchange of its machine leaves, and how it ends.
-use Rattle.std.proofs.Common.{◌≡◌, ℕ, ◌+◌, ◌≤◌, ◌<◌, max, true, List, [], ◌++◌, Option, Some, None, IfSome, refl, sym, ap, ◌∙◌, subst, arith}
+use Rattle.std.proofs.Common.{◌≡◌, ℕ, ◌+◌, ◌≤◌, ◌<◌, max, true, false, All, Any, Contains, List, [], ◌∷◌, ◌++◌, Option, Some, None, IfSome, refl, sym, ap, ◌∙◌, subst, arith}
+use Rattle.std.proofs.lemmas.List.Elements.{All-contains, All-weaker, Contains-append_right}
 use Rattle.pc_base.specs.declared.actor.ActorId.{ActorId}
 use Rattle.pc_base.specs.declared.actor.ActorId.TheVariants as actors
 use Rattle.pc_base.specs.declared.transaction.TxnId.{TxnId}
@@ -10,34 +11,69 @@ use Rattle.pc_coord.specs.declared.round.Round.{Round}
 use Rattle.pc_coord.specs.declared.round.Round.TheVariants as rounds
 use Rattle.pc_coord.specs.Rounds.{EndsRound}
 use Rattle.pc_desk.specs.Desk.{DeskMeaning}
-use Rattle.pc_exchange.proofs.Aside.{aside_none, goes_on_beside, left_still}
+use Rattle.pc_exchange.proofs.Aside.{aside_none, goes_on_beside, left_still, no_own}
 use Rattle.pc_exchange.proofs.Called.{all_heard_in_call}
 use Rattle.pc_exchange.proofs.Coordinator.{counted_met}
 use Rattle.pc_exchange.proofs.Going.{answered_by, aside_by, goes_both, goes_none, heard_now_by, jobs_by, part_by, reply_by, rounds_by}
 use Rattle.pc_exchange.proofs.HeardKinds.{heard_begun, heard_now_kind, top_below}
+use Rattle.pc_exchange.proofs.InTurn.{fate_of, goes_on}
 use Rattle.pc_exchange.proofs.Messages.{left_by_exchange}
-use Rattle.pc_exchange.proofs.Rounding.{IsMade, at_changed, at_finished, at_refused, at_settled, come_on, ends_refused, ends_settled, goal_reads, may_push, of_conflict, one_finished, one_refused, push_aside, push_timely, pushes_on, resolve_aside, resolve_timely, round_same, sends_asks}
+use Rattle.pc_exchange.proofs.Rounding.{IsMade, at_changed, at_finished, at_refused, at_unsure, behind_timely, come_on, ends_refused, ends_settled, goal_reads, may_push, of_conflict, one_finished, one_refused, push_aside, push_timely, pushes_on, recover_aside, resolve_aside, round_same, sends_asks}
 use Rattle.pc_exchange.proofs.Timely.{IsTimely, may_exchange}
+use Rattle.pc_exchange.proofs.Unmet.{resolve_unmet}
 use Rattle.pc_exchange.specs.Aside.{IsAside}
 use Rattle.pc_exchange.specs.Exchange.{MayExchangeNow, WasExchanged}
-use Rattle.pc_exchange.specs.Rounding.{HasComeTo, IsRoundUnderWay, pushes_sent}
+use Rattle.pc_exchange.specs.Recovering.{MayDecideNow}
+use Rattle.pc_exchange.specs.Rounding.{HasComeTo, IsRoundUnderWay, LeavesFateSince, WasPushedOnceFor, pushes_sent}
 use Rattle.pc_exchange.specs.Rounds.{HasMadeRoundOf, MayMakeRound}
+use Rattle.pc_lists.proofs.Anywhere.{any_behind, any_later, any_of}
+use Rattle.pc_lists.proofs.Lists.{contains_head}
+use Rattle.pc_lists.proofs.Same.{same_txn-self}
+use Rattle.pc_proto.specs.declared.fate.Fate.{Fate}
+use Rattle.pc_proto.specs.declared.fate.Goal.{Goal}
 use Rattle.pc_proto.specs.declared.machine.MachineNext.{MachineNext}
 use Rattle.pc_proto.specs.declared.machine.MachineNext.TheVariants as machine
 use Rattle.pc_proto.specs.declared.meta.TxnMeta.{TxnMeta}
 use Rattle.pc_proto.specs.declared.reply.Reply.{Reply}
+use Rattle.pc_proto.specs.declared.reply.Reply.TheVariants as replies
 use Rattle.pc_proto.specs.declared.request.Request.{Request}
 use Rattle.pc_proto.specs.declared.view.View.{View}
 use Rattle.pc_proto.specs.Replies.{is_conflict}
+use Rattle.pc_proto.specs.Requests.{is_resolve_of}
 use Rattle.pc_proto.specs.Stamps.{greatest_of, reply_stamps}
+use Rattle.pc_proto.specs.Views.{final_fate}
 use Rattle.pc_push.specs.declared.progress.Progress.{Progress}
 use Rattle.pc_push.specs.declared.progress.Progress.TheVariants as progresses
 use Rattle.pc_push.specs.PushKnows.{Asks, AsksAt, MayPush, PushKnows, RoundMayCome}
-use Rattle.pc_push.specs.Pushing.{IsStart, Pushing, goal_of, round_after, round_next as next_due}
+use Rattle.pc_push.specs.Pushing.{IsStart, Pushing, goal_of, holder_resolve, push_of, round_after, round_due, round_next as next_due}
+use Rattle.pc_world.proofs.Exchange.{answered}
+use Rattle.pc_world.specs.Answering.{MayAnswer}
 use Rattle.pc_world.specs.Exchange.{IsAllowed, IsPossibleReply, WasAnswered}
 use Rattle.pc_follows.specs.FinishingJobs.{jobs_of}
-use Rattle.pc_follows.specs.Rounds.{rounds_begun}
+use Rattle.pc_follows.specs.Resends.{RecoveredTo, WasDone}
+use Rattle.pc_follows.specs.Rounds.{IsFateOfRound, IsInItsRound, IsInRound, LeavesFate, rounds_begun}
 use Rattle.pc_world.specs.Known.{Known, known_of}
+use Rattle.pc_world.specs.Known.Traffic.{Heard}
+use Rattle.pc_world.specs.Send.Settling.{ResolvedTo}
+
+none_settled : (id : TxnId) (key : List ℕ) (fate : Fate) (later : List Heard) → All (λ (g : Heard). is_resolve_of id g.request ≡ false) later → Any (ResolvedTo id key fate) later → ⊥
+none_settled id key fate later none any =
+    let f = any_of (λ (g : Heard). is_resolve_of id g.request ≡ false) (ResolvedTo id key fate) later none any in
+    let e : true ≡ false = sym (same_txn-self id) ∙ (sym (ap (is_resolve_of id) f.2.asked) ∙ f.1) in cc
+
+-- the reply to what was asked names no timestamp above what is known
+answered_stamps : (since k : Known) (request : Request) (reply : Reply) → WasAnswered since k request reply → All (λ ts. ts ≤ k.top) (reply_stamps reply)
+answered_stamps since k request reply w = (answered since k request reply w).stamps
+
+-- where no intent was settled since a push left a fate, what its reply asks for is not done
+pub unsettled_undone : (id : TxnId) (key : List ℕ) (goal : Goal) (fate : Fate) (reply : Reply) (later : List Heard) → All (λ (g : Heard). (shown : View) → RecoveredTo id shown g.request g.reply → final_fate shown ≡ Some fate) later
+    → All (λ (g : Heard). is_resolve_of id g.request ≡ false) later → WasDone id key goal reply later → ⊥
+unsettled_undone id key goal fate (replies.Status view) later recovered none done = none_settled id key done.fate later none done.settled
+unsettled_undone id key goal fate (replies.Unsure view) later recovered none done =
+    let there : Contains later done.recovery = subst (λ l. Contains l done.recovery) (sym done.whole) (Contains-append_right done.before (done.recovery ∷ done.after) done.recovery (contains_head done.recovery done.after)) in
+    let final = All-contains (λ (g : Heard). (shown : View) → RecoveredTo id shown g.request g.reply → final_fate shown ≡ Some fate) later done.recovery recovered there done.view done.shown in
+    none_settled id key fate later none (subst (Any (ResolvedTo id key fate)) (sym done.whole) (any_behind (ResolvedTo id key fate) done.before (done.recovery ∷ done.after) (any_later (ResolvedTo id key fate) done.recovery done.after (done.settled fate final))))
+unsettled_undone id key goal fate reply later recovered none done = done
 
 module _ {C : Type 0} (old : DeskMeaning C) (pusher : Pusher) (reading : ℕ) (conflict : Reply) (reader : Option ℕ) (start : MayMakeRound old pusher reading conflict reader) where
   -- what the machine's beginning requires
@@ -86,10 +122,10 @@ module _ {C : Type 0} (old : DeskMeaning C) (pusher : Pusher) (reading : ℕ) (c
   abbrev now_known : Known
   now_known = known_of d.log.part.own
 
-  whose : d.log.part.id ≡ actors.Session r.start.session
+  pub whose : d.log.part.id ≡ actors.Session r.start.session
   whose = ap (λ l. l.part.id) r.goes.grown.rest ∙ r.start.whose
 
-  made_it : IsMade r.start.session start_known r.start.number conflict reader r.start.met m
+  pub made_it : IsMade r.start.session start_known r.start.number conflict reader r.start.met m
   made_it = record {
     holder = r.holder;
     begun = λ mine.
@@ -102,20 +138,47 @@ module _ {C : Type 0} (old : DeskMeaning C) (pusher : Pusher) (reading : ℕ) (c
   plus_nothing : (n : ℕ) → n + 0 ≡ n
   plus_nothing n = omega arith
 
-  asked_by : (p : Progress) (request : Request) → HasComeTo p m start_known now_known → rounds_begun now_known ≡ rounds_begun start_known + pushes_sent p → AsksAt p m request → IsAside r.start.session start_known request × IsTimely now_known (jobs_of d.log.part.own) request
-  asked_by progresses.Push request come begun asks =
-      subst (λ q. IsAside r.start.session start_known q × IsTimely now_known (jobs_of d.log.part.own) q) (sym asks) (
-        push_aside r.start.session start_known r.start.number conflict reader r.start.met m made_it,
-        push_timely r.start.session start_known r.start.number conflict reader r.start.met now_known ts r.aside (all_heard_in_call d r.goes.back) (heard_now_kind d.log r.goes.back.track.log) (jobs_of d.log.part.own) m made_it r.start.next r.aims (begun ∙ plus_nothing (rounds_begun start_known)) come,
-      )
-  asked_by progresses.Refused request come begun asks = absurd asks
-  asked_by (progresses.Unsure view) request come begun asks = absurd come
-  asked_by (progresses.Resolve fate) request come begun asks =
-      subst (λ q. IsAside r.start.session start_known q × IsTimely now_known (jobs_of d.log.part.own) q) (sym asks) (
-        resolve_aside r.start.session start_known r.start.number conflict reader r.start.met m fate,
-        resolve_timely r.start.session start_known r.start.number conflict reader r.start.met now_known ts r.aside (all_heard_in_call d r.goes.back) (heard_now_kind d.log r.goes.back.track.log) (jobs_of d.log.part.own) m fate made_it r.start.next r.key begun come,
-      )
-  asked_by progresses.Over request come begun asks = absurd asks
+  -- what it asks for is asked for beside the coordinator
+  asks_aside : (p : Progress) (request : Request) → AsksAt p m request → IsAside r.start.session start_known request
+  asks_aside progresses.Push request asks = subst (IsAside r.start.session start_known) (sym asks) (push_aside r.start.session start_known r.start.number conflict reader r.start.met m made_it)
+  asks_aside progresses.Refused request asks = absurd asks
+  asks_aside (progresses.Unsure view) request asks = recover_aside r.start.session start_known r.start.number conflict reader r.start.met m made_it request asks
+  asks_aside (progresses.Resolve fate) request asks = subst (IsAside r.start.session start_known) (sym asks) (resolve_aside r.start.session start_known r.start.number conflict reader r.start.met m fate)
+  asks_aside progresses.Over request asks = absurd asks
+
+  kinds : (h : Heard) → Contains now_known.heard_now h → MayAnswer h.request h.reply
+  kinds = heard_now_kind d.log r.goes.back.track.log
+
+  -- the intent is settled while its round goes on
+  resolves_in_turn : (fate : Fate) (l : LeavesFateSince m.holder.id m.goal fate start_known now_known) → rounds_begun now_known ≡ rounds_begun start_known + 1 → IsInItsRound now_known (holder_resolve m fate)
+  resolves_in_turn fate l begun =
+      let conflict_is = r.start.met.told ∙ r.start.met.is in
+      let was : WasPushedOnceFor r.start.met.holder.id m.goal l.reply l.later start_known now_known = subst (λ (h : TxnMeta). WasPushedOnceFor h.id m.goal l.reply l.later start_known now_known) r.holder l.was in
+      let left : LeavesFate r.start.met.holder.id m.goal l.reply l.later fate = subst (λ (h : TxnMeta). LeavesFate h.id m.goal l.reply l.later fate) r.holder l.left in
+      let undone : WasDone r.start.met.holder.id r.start.met.key m.goal l.reply l.later → ⊥ =
+      unsettled_undone r.start.met.holder.id r.start.met.key m.goal fate l.reply l.later
+      (subst (λ (h : TxnMeta). All (λ (g : Heard). (shown : View) → RecoveredTo h.id shown g.request g.reply → final_fate shown ≡ Some fate) l.later) r.holder l.recovered)
+      (subst (λ (h : TxnMeta). All (λ (g : Heard). is_resolve_of h.id g.request ≡ false) l.later) r.holder l.unsettled) in
+      let on = goes_on start_known now_known r.start.met.h r.start.next r.start.met.holder r.start.met.ts r.start.met.key conflict_is m.goal l.reply l.later was begun undone in
+      let fates = fate_of start_known now_known r.start.met.h r.start.next r.start.met.holder r.start.met.ts r.start.met.key conflict_is m.goal l.reply l.later was begun fate left in
+      subst (λ (h : TxnMeta). IsInRound now_known h.id m.key × IsFateOfRound now_known h.id fate) (sym r.holder) (subst (λ key. IsInRound now_known r.start.met.holder.id key) (sym r.key) on, fates)
+
+  asks_timely : (p : Progress) (request : Request) → HasComeTo p m start_known now_known → rounds_begun now_known ≡ rounds_begun start_known + pushes_sent p → round_due p m ≡ machine.Send request → IsTimely now_known (jobs_of d.log.part.own) request
+  asks_timely progresses.Push request come begun due =
+      let asks : push_of m ≡ request = cc in
+      subst (IsTimely now_known (jobs_of d.log.part.own)) asks
+      (push_timely r.start.session start_known r.start.number conflict reader r.start.met now_known ts r.aside (all_heard_in_call d r.goes.back) kinds (jobs_of d.log.part.own) m made_it r.start.next r.aims (begun ∙ plus_nothing (rounds_begun start_known)) come)
+  asks_timely progresses.Refused request come begun due = absurd cc
+  asks_timely (progresses.Unsure view) request come begun due = absurd cc
+  asks_timely (progresses.Resolve fate) request come begun due =
+      let asks : holder_resolve m fate ≡ request = cc in
+      let fresh : All (λ (g : Heard). g.request ≡ holder_resolve m fate → ⊥) come.later =
+      All-weaker (λ (g : Heard). is_resolve_of m.holder.id g.request ≡ false) (λ g. g.request ≡ holder_resolve m fate → ⊥)
+      (λ g not same. let e : true ≡ false = sym (same_txn-self m.holder.id) ∙ (sym (ap (is_resolve_of m.holder.id) same) ∙ not) in cc) come.later come.unsettled in
+      subst (IsTimely now_known (jobs_of d.log.part.own)) asks
+      (behind_timely r.start.session start_known r.start.number conflict reader r.start.met now_known ts r.aside (all_heard_in_call d r.goes.back) kinds (jobs_of d.log.part.own) m made_it (holder_resolve m fate)
+      (record { about = refl; no_push = refl }) come.reply come.later come.was fresh (resolve_unmet now_known kinds m fate) (resolves_in_turn fate come begun, tt))
+  asks_timely progresses.Over request come begun due = absurd cc
 
   -- what it gives to be sent is what it asks for
   pub given_asks : (given : MachineNext) (request : Request) → given ≡ next_due m → given ≡ machine.Send request → Asks m request
@@ -126,13 +189,12 @@ module _ {C : Type 0} (old : DeskMeaning C) (pusher : Pusher) (reading : ℕ) (c
       → ((splits : List (List ℕ)) (actor : ActorId) (start k : Known) → PushKnows actor start k m → RoundMayCome splits actor start k m given) → MayExchangeNow d request
   round_asks given request due is may =
       let asks = given_asks given request due is in
-      let both = asked_by m.progress request r.come r.begun asks in
       let allowed : IsAllowed d.log.head.splits (actors.Session r.start.session) now_known request =
       subst (RoundMayCome d.log.head.splits (actors.Session r.start.session) start_known now_known m) is (may d.log.head.splits (actors.Session r.start.session) start_known now_known r.knows) in
-      may_exchange d r.start.session request r.goes.back whose both.0.kind allowed both.1
+      may_exchange d r.start.session request r.goes.back whose (asks_aside m.progress request asks).kind allowed (asks_timely m.progress request r.come r.begun (sym due ∙ is))
 
   module _ (next : Pushing) (new : DeskMeaning C) (request : Request) (reply : Reply) (asks : Asks m request) (x : WasExchanged d new request reply) where
-    still_jobs : left_by_exchange now_known.statement (jobs_of d.log.part.own) ≡ jobs_of d.log.part.own
+    pub still_jobs : left_by_exchange now_known.statement (jobs_of d.log.part.own) ≡ jobs_of d.log.part.own
     still_jobs = ap (λ s. left_by_exchange s (jobs_of d.log.part.own)) (r.aside.statement ∙ r.start.met.opened)
 
     -- one exchange more
@@ -140,7 +202,9 @@ module _ {C : Type 0} (old : DeskMeaning C) (pusher : Pusher) (reading : ℕ) (c
         → ((actor : ActorId) (start k later : Known) (request : Request) → PushKnows actor start k m → Asks m request → WasAnswered k later request reply → IsPossibleReply request reply → PushKnows actor start later next)
         → IsRoundUnderWay old pusher reading conflict reader next new (max ts (greatest_of (reply_stamps reply)))
     round_on made knows =
-        let aside = (asked_by m.progress request r.come r.begun asks).0 in
+        let aside = asks_aside m.progress request asks in
+        let apart = no_own r.start.session start_known now_known ts r.aside request aside in
+        let answered = answered_by d new request reply r.goes.back x in
         let same = round_same reply m in
         let k = known_of new.log.part.own in
         record {
@@ -149,14 +213,14 @@ module _ {C : Type 0} (old : DeskMeaning C) (pusher : Pusher) (reading : ℕ) (c
           goes = goes_both old d new r.part (part_by d new request reply x) r.goes x.goes;
           aside = aside_by d new request reply r.goes.back x r.start.session start_known ts r.aside aside;
           jobs = jobs_by d new request reply x ∙ (still_jobs ∙ r.jobs);
-          knows = knows (actors.Session r.start.session) start_known now_known k request r.knows asks (answered_by d new request reply r.goes.back x) x.possible;
+          knows = knows (actors.Session r.start.session) start_known now_known k request r.knows asks answered x.possible;
           come = subst (λ (m : Pushing). HasComeTo m.progress m start_known k) (sym made)
-              (come_on m start_known now_known k (reply_by d new request reply x) (heard_now_by d new request reply r.goes.back x aside.kind) r.come asks x.kind x.possible);
+              (come_on m start_known now_known k (reply_by d new request reply x) (heard_now_by d new request reply r.goes.back x aside.kind apart) (answered_stamps now_known k request reply answered) r.come asks x.kind x.possible);
           holder = ap (λ (m : Pushing). m.holder) made ∙ (same.0 ∙ r.holder);
           key = ap (λ (m : Pushing). m.key) made ∙ (same.1 ∙ r.key);
           aims = ap (λ (m : Pushing). m.goal) made ∙ (same.2 ∙ r.aims);
           begun =
-              let sent = rounds_by d new request reply r.goes.back x aside.kind in
+              let sent = rounds_by d new request reply r.goes.back x aside.kind apart in
               let more = pushes_on start_known now_known m request reply r.come asks x.kind x.possible in
               let is : pushes_sent next.progress ≡ pushes_sent (round_after reply m).progress = ap (λ (m : Pushing). pushes_sent m.progress) made in
               omega (arith, sent, more, is, r.begun);
@@ -196,9 +260,19 @@ module _ {C : Type 0} (old : DeskMeaning C) (pusher : Pusher) (reading : ℕ) (c
       (at_finished m.progress m start_known now_known (sym due ∙ is) r.come))
       (one_finished m.progress m (sym due ∙ is))
 
-  -- it asks for no recovery
-  pub never_settled : (given : MachineNext) (view : View) → given ≡ next_due m → given ≡ machine.Settled view → ⊥
-  never_settled given view due is = at_settled m.progress m view start_known now_known (sym due ∙ is) r.come
+  -- where it gives a record, the push met that staging
+  pub round_unsure : (given : MachineNext) (view : View) → given ≡ next_due m → given ≡ machine.Settled view → (own : TxnId) → pusher.id ≡ own → MayDecideNow d own m view
+  round_unsure given view due is own whose = record {
+    old = old;
+    pusher = pusher;
+    reading = reading;
+    conflict = conflict;
+    reader = reader;
+    ts = ts;
+    under = r;
+    unsure = at_unsure m.progress m view (sym due ∙ is);
+    whose = whose;
+  }
 
   pub never_changed : (given : MachineNext) (view : View) → given ≡ next_due m → given ≡ machine.Changed view → ⊥
   never_changed given view due is = at_changed m.progress m view (sym due ∙ is)

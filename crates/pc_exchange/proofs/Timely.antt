@@ -35,7 +35,6 @@ use Rattle.pc_world.specs.Known.Statements.{Statement}
 use Rattle.pc_world.specs.Known.Transactions.{Txn}
 use Rattle.pc_world.specs.RangeOf.{IsForOne}
 use Rattle.pc_world.specs.SameRequest.{IsSameRequest}
-use Rattle.pc_world.specs.Unstaged.{IsNoStage}
 
 -- The message goes out when its session's work has it: in no call that is decided; in a call again only once all of the same were answered
 -- and where it may go again, for it, or as one of a conflict's round in its turn, not past its eighth conflict, and once the heartbeats went out
@@ -52,24 +51,32 @@ pub record IsTimely (k : Known) (jobs : List (List Request)) (request : Request)
 -- it is no heartbeat
 pub no_beat : (request : Request) → is_of_round_or_job request ≡ true → IsTrue (is_heartbeat request) → ⊥
 no_beat (requests.Push holder by level now goal) kind is = let e : false ≡ true = is in cc
+no_beat (requests.Query id epoch seq ts key by) kind is = let e : false ≡ true = is in cc
+no_beat (requests.Recover id epoch ts anchor finding) kind is = let e : false ≡ true = is in cc
 no_beat (requests.Resolve id key fate) kind is = let e : false ≡ true = is in cc
 no_beat (requests.Remove id anchor) kind is = let e : false ≡ true = is in cc
 no_beat request kind is = cc
 
 its-put : (k : Known) (request : Request) → is_of_round_or_job request ≡ true → IsItsPut k request
 its-put k (requests.Push holder by level now goal) is = tt
+its-put k (requests.Query id epoch seq ts key by) is = tt
+its-put k (requests.Recover id epoch ts anchor finding) is = tt
 its-put k (requests.Resolve id key fate) is = tt
 its-put k (requests.Remove id anchor) is = tt
 its-put k request is = absurd cc
 
 its-refresh : (k : Known) (request : Request) → is_of_round_or_job request ≡ true → IsItsRefresh k request
 its-refresh k (requests.Push holder by level now goal) is = tt
+its-refresh k (requests.Query id epoch seq ts key by) is = tt
+its-refresh k (requests.Recover id epoch ts anchor finding) is = tt
 its-refresh k (requests.Resolve id key fate) is = tt
 its-refresh k (requests.Remove id anchor) is = tt
 its-refresh k request is = absurd cc
 
 no-piece : (k : Known) (request : Request) → is_of_round_or_job request ≡ true → IsNextPiece k request
 no-piece k (requests.Push holder by level now goal) is = tt
+no-piece k (requests.Query id epoch seq ts key by) is = tt
+no-piece k (requests.Recover id epoch ts anchor finding) is = tt
 no-piece k (requests.Resolve id key fate) is = tt
 no-piece k (requests.Remove id anchor) is = tt
 no-piece k request is = absurd cc
@@ -101,26 +108,26 @@ sends-as id session splits pipelining own number range request whose kind t ends
       oldest = tt;
     })
 
-no-stage : (request : Request) → is_of_round_or_job request ≡ true → IsNoStage request
-no-stage (requests.Push holder by level now goal) is = tt
-no-stage (requests.Resolve id key fate) is = tt
-no-stage (requests.Remove id anchor) is = tt
-no-stage request is = absurd cc
-
 for-one : (splits : List (List ℕ)) (request : Request) → is_of_round_or_job request ≡ true → IsForOne splits request
 for-one splits (requests.Push holder by level now goal) is = tt
+for-one splits (requests.Query id epoch seq ts key by) is = tt
+for-one splits (requests.Recover id epoch ts anchor finding) is = tt
 for-one splits (requests.Resolve id key fate) is = tt
 for-one splits (requests.Remove id anchor) is = tt
 for-one splits request is = absurd cc
 
 puts-none : (request : Request) → is_of_round_or_job request ≡ true → is_put request ≡ false
 puts-none (requests.Push holder by level now goal) is = refl
+puts-none (requests.Query id epoch seq ts key by) is = refl
+puts-none (requests.Recover id epoch ts anchor finding) is = refl
 puts-none (requests.Resolve id key fate) is = refl
 puts-none (requests.Remove id anchor) is = refl
 puts-none request is = absurd cc
 
 refreshes-none : (request : Request) → is_of_round_or_job request ≡ true → is_refresh request ≡ false
 refreshes-none (requests.Push holder by level now goal) is = refl
+refreshes-none (requests.Query id epoch seq ts key by) is = refl
+refreshes-none (requests.Recover id epoch ts anchor finding) is = refl
 refreshes-none (requests.Resolve id key fate) is = refl
 refreshes-none (requests.Remove id anchor) is = refl
 refreshes-none request is = absurd cc
@@ -142,6 +149,8 @@ kind-none call id anchor (inr life) = no_beat (requests.Remove id anchor) refl l
 
 of-round : (k : Known) (request : Request) → is_of_round_or_job request ≡ true → IsForCall k request ⊎ IsOfRound request → IsOfRound request
 of-round k (requests.Push holder by level now goal) is kind = (holder.id, refl)
+of-round k (requests.Query id epoch seq ts key by) is kind = (id, refl)
+of-round k (requests.Recover id epoch ts anchor finding) is kind = (id, refl)
 of-round k (requests.Resolve id key fate) is kind = (id, refl)
 of-round k (requests.Remove id anchor) is (inl kind) = absurd (kind-none kind.s.call id anchor kind.kind)
 of-round k (requests.Remove id anchor) is (inr round) = round
@@ -154,7 +163,6 @@ may_exchange d session request back whose kind allowed timely = record {
   back = back;
   may = record {
     allowed = subst (λ i. IsAllowed d.log.head.splits i (known_of d.log.part.own) request) (sym whose) allowed;
-    unstaged = no-stage request kind;
     one = for-one d.log.head.splits request kind;
     keeps = λ number range. sends-as d.log.part.id session d.log.head.splits d.log.pipelining d.log.part.own number range request whose kind timely (ends_where_heard d.log.part.own (all_heard_ever d back));
   };

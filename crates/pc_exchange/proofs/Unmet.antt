@@ -1,15 +1,19 @@
--- A push or a resolve meets no intent, so it never met its eighth.
-use Rattle.std.proofs.Common.{◌≡◌, true, false, inl, inr, Contains, List, [], ◌∷◌, refl, sym, subst, arith}
+-- No message of a round meets an intent, so none met its eighth.
+use Rattle.std.proofs.Common.{◌≡◌, ℕ, true, false, inl, inr, Contains, List, [], ◌∷◌, refl, sym, subst, arith}
 use Rattle.pc_base.specs.declared.limits.TheConstants.{MOST_CONFLICTS}
+use Rattle.pc_base.specs.declared.transaction.TxnId.{TxnId}
+use Rattle.pc_base.specs.declared.transaction.Who.{Who}
 use Rattle.pc_lists.proofs.Lists.{contains_head, contains_tail}
 use Rattle.pc_proto.specs.declared.fate.Fate.{Fate}
+use Rattle.pc_proto.specs.declared.fate.Finding.{Finding}
 use Rattle.pc_proto.specs.declared.reply.Reply.{Reply}
 use Rattle.pc_proto.specs.declared.reply.Reply.TheVariants as replies
 use Rattle.pc_proto.specs.declared.request.Request.{Request}
+use Rattle.pc_proto.specs.declared.request.Request.TheVariants as requests
 use Rattle.pc_proto.specs.Replies.{is_conflict}
 use Rattle.pc_push.specs.Pushing.{Pushing, holder_resolve, push_of}
 use Rattle.pc_wave.proofs.Lists.{at_least-fewer}
-use Rattle.pc_world.specs.Answering.{IsPushReply, IsResolved, MayAnswer}
+use Rattle.pc_world.specs.Answering.{IsPushReply, IsQueryReply, IsRecoverReply, IsResolved, MayAnswer}
 use Rattle.pc_world.specs.Counting.{AtLeast}
 use Rattle.pc_follows.specs.Eighth.{MetEighth}
 use Rattle.pc_world.specs.Known.{Known}
@@ -22,6 +26,27 @@ none-so P [] none at = at
 none-so P (x ∷ xs) none (inl (is, rest)) = none x (contains_head x xs) is
 none-so P (x ∷ xs) none (inr rest) = none-so P xs (λ y there. none y (contains_tail x xs y there)) rest
 
+-- ---- what a round is answered
+
+pub plain_push : (reply : Reply) → IsPushReply reply → is_conflict reply ≡ false
+plain_push (replies.Status view) may = refl
+plain_push (replies.Refused view) may = refl
+plain_push (replies.Unsure view) may = refl
+plain_push reply may = absurd may
+
+pub plain_query : (reply : Reply) → IsQueryReply reply → is_conflict reply ≡ false
+plain_query replies.Found may = refl
+plain_query replies.Missing may = refl
+plain_query reply may = absurd may
+
+pub plain_recover : (reply : Reply) → IsRecoverReply reply → is_conflict reply ≡ false
+plain_recover (replies.Status view) may = refl
+plain_recover reply may = absurd may
+
+pub plain_resolve : (reply : Reply) → IsResolved reply → is_conflict reply ≡ false
+plain_resolve replies.Resolved may = refl
+plain_resolve reply may = absurd may
+
 module _ (k : Known) (kinds : (h : Heard) → Contains k.heard_now h → MayAnswer h.request h.reply) where
   unmet : (request : Request) → ((reply : Reply) → MayAnswer request reply → is_conflict reply ≡ false) → ((other : Request) → IsSamePut request other → ⊥) → MetEighth k request → ⊥
   unmet request plain no_put eight =
@@ -32,17 +57,14 @@ module _ (k : Known) (kinds : (h : Heard) → Contains k.heard_now h → MayAnsw
       by h there met (inl same) = let no : is_conflict h.reply ≡ false = plain h.reply (subst (λ q. MayAnswer q h.reply) (sym same) (kinds h there)) in let yes : is_conflict h.reply ≡ true = met.conflict in cc
       by h there met (inr put) = no_put h.request put
 
-  plain-push : (reply : Reply) → IsPushReply reply → is_conflict reply ≡ false
-  plain-push (replies.Status view) may = refl
-  plain-push (replies.Refused view) may = refl
-  plain-push reply may = absurd may
-
-  plain-resolve : (reply : Reply) → IsResolved reply → is_conflict reply ≡ false
-  plain-resolve replies.Resolved may = refl
-  plain-resolve reply may = absurd may
-
   pub push_unmet : (m : Pushing) → MetEighth k (push_of m) → ⊥
-  push_unmet m = unmet (push_of m) plain-push (λ other put. put)
+  push_unmet m = unmet (push_of m) plain_push (λ other put. put)
+
+  pub query_unmet : (id : TxnId) (epoch seq ts : ℕ) (key : List ℕ) (by : Who) → MetEighth k (requests.Query id epoch seq ts key by) → ⊥
+  query_unmet id epoch seq ts key by = unmet (requests.Query id epoch seq ts key by) plain_query (λ other put. put)
+
+  pub recover_unmet : (id : TxnId) (epoch ts : ℕ) (anchor : List ℕ) (finding : Finding) → MetEighth k (requests.Recover id epoch ts anchor finding) → ⊥
+  recover_unmet id epoch ts anchor finding = unmet (requests.Recover id epoch ts anchor finding) plain_recover (λ other put. put)
 
   pub resolve_unmet : (m : Pushing) (fate : Fate) → MetEighth k (holder_resolve m fate) → ⊥
-  resolve_unmet m fate = unmet (holder_resolve m fate) plain-resolve (λ other put. put)
+  resolve_unmet m fate = unmet (holder_resolve m fate) plain_resolve (λ other put. put)

@@ -1,20 +1,27 @@
 -- What a session knows after messages of conflicts' rounds and of finishing jobs alone, and how its coordinator stands beside it.
-use Rattle.std.specs.Prelude.{◌≡◌, ℕ, ◌≤◌, max, true, false, Some, List, ◌++◌, All, length}
+use Rattle.std.specs.Prelude.{◌≡◌, ℕ, ◌≤◌, max, true, false, Some, List, ◌++◌, All, Contains, length}
 use Rattle.pc_coord.specs.Beside.{IsLaterBeside, is_of_round_or_job}
 use Rattle.pc_coord.specs.Coordination.{Coordination}
 use Rattle.pc_proto.specs.declared.request.Request.{Request}
 use Rattle.pc_proto.specs.Requests.{is_about}
-use Rattle.pc_txn.specs.Counted.{IsOfBegun}
+use Rattle.pc_txn.specs.Counted.{IsOfBegun, IsQueryOfBegun}
+use Rattle.pc_txn.specs.Standing.{is_query_of}
 use Rattle.pc_world.specs.Known.{Known, open_txn}
 use Rattle.pc_world.specs.Known.Traffic.{Heard, Sent}
 use Rattle.pc_world.specs.Known.Transactions.{Txn}
 
--- The request is one of a round or of a finishing job, and speaks of no record of the open transaction; if of one of this session's, that
--- was begun.
+-- The request asks for no write of a transaction of the session.
+abbrev pub AsksForNoOwn : Known → Request → Type 0
+AsksForNoOwn k request = (t : Txn) → Contains k.txns t → is_query_of t.id request ≡ false
+
+-- The request is one of a round or of a finishing job; it speaks of no record of the open transaction, and asks for no write of one of this
+-- session's; if it speaks of one of this session's, that was begun.
 pub record IsAside (session : ℕ) (k : Known) (request : Request) : Type 0 where
   pub kind : is_of_round_or_job request ≡ true
   pub begun : IsOfBegun session k.begun request
+  pub query_of : IsQueryOfBegun session k.begun request
   pub other : (t : Txn) → open_txn k ≡ Some t → is_about t.id request ≡ false
+  pub unqueried : AsksForNoOwn k request
 
 -- Since then the session has only sent such messages and heard replies to them; this is the greatest timestamp in those.
 pub record IsLaterAside (session : ℕ) (start k : Known) (ts : ℕ) : Type 0 where

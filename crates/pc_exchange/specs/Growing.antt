@@ -24,6 +24,10 @@ pub record HasGrownBy {C : Type 0} (old new : LogMeaning C) (part : List (Pair E
         clock = new.clock;
       }
 
+-- The list is the same actor's, and has not stopped since.
+abbrev pub IsSameActor : {C : Type 0} → DeskMeaning C → DeskMeaning C → Type 0
+IsSameActor old new = (new.log.head ≡ old.log.head) × (new.log.part.id ≡ old.log.part.id) × (new.log.stopped ≡ old.log.stopped)
+
 -- No message of the actor is on its way, and none stands at two stages.
 pub record HasAllBack {C : Type 0} (d : DeskMeaning C) : Type 0 where
   pub track : KeepsTrack d

@@ -6,5 +6,6 @@ pub mod Finishing
 pub mod Growing
 pub mod InTurn
 pub mod Jobs
+pub mod Recovering
 pub mod Rounding
 pub mod Rounds

@@ -4,6 +4,7 @@
 
 mod finish;
 mod message;
+mod recovery;
 mod round;
 
 pub use finish::finish_job;

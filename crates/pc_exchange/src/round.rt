@@ -3,6 +3,7 @@ ghost use Rattle.pc_coord.specs.declared.pusher.Pusher.{Pusher};
 ghost use Rattle.pc_desk.specs.Desk.{DeskMeaning, HasHalted};
 ghost use Rattle.pc_exchange.specs.Ending.{BreaksOff};
 ghost use Rattle.pc_exchange.specs.Exchange.{MayExchangeNow};
+ghost use Rattle.pc_exchange.specs.Recovering.{MayDecideNow};
 ghost use Rattle.pc_exchange.specs.Rounding.{IsRoundUnderWay};
 ghost use Rattle.pc_exchange.specs.Rounds.{HasMadeRoundOf, MayMakeRound};
 ghost use Rattle.pc_proto.specs.declared.reply.Reply.{Reply};
@@ -10,19 +11,21 @@ ghost use Rattle.pc_push.specs.PushKnows.{Asks};
 ghost use Rattle.pc_turns.specs.Order.{IsInBetween};
 
 use crate::message::exchange;
-use pc_base::{NoMemory, Timestamp, Who};
+use crate::recovery::recover;
+use pc_base::{NoMemory, Timestamp, TryCopy, TxnId, Who};
 use pc_clock::Clock;
 use pc_coord::{Pusher, Round};
 use pc_desk::{Desk, Halt};
 use pc_history::Named;
-use pc_proto::{MachineNext, Reply, Request};
+use pc_proto::{MachineNext, Reply, Request, View};
 use pc_push::PushMachine;
 use pc_range::{CommitWorld, Gate};
 use pc_wire::Wire;
 use std::sync::Wait;
 
 /// Makes the round of a conflict that the open call met, which was asked at this reading: the holder of the intent is pushed, and the
-/// intent settled as the push came out. A reader's conflict is given with the timestamp at which it reads.
+/// intent settled as the push came out; where the push met a staging record, that is recovered first. A reader's conflict is given with the
+/// timestamp at which it reads.
 ///
 /// Gives how the round ended, and the greatest timestamp that was heard in it.
 pub fn make_round<N: Named<CommitWorld>, C: Clock, V: Wire, G: Gate, R: Wait>(
@@ -57,9 +60,13 @@ pub fn make_round<N: Named<CommitWorld>, C: Clock, V: Wire, G: Gate, R: Wait>(
                 let last = push_on(desk, rt, &mut machine, request)?;
                 heard = heard.max(last);
             }
+            MachineNext::Settled(met) => {
+                let last = decide(desk, rt, pusher.id, &mut machine, met)?;
+                heard = heard.max(last);
+            }
             MachineNext::Refused(_) => return Ok((Round::Refused, heard)),
             MachineNext::Finished => return Ok((Round::Again, heard)),
-            MachineNext::Settled(_) | MachineNext::Changed(_) => unreachable!(),
+            MachineNext::Changed(_) => unreachable!(),
         }
     }
     Err(desk.want_memory())
@@ -79,6 +86,33 @@ fn push_on<N: Named<CommitWorld>, C: Clock, V: Wire, G: Gate, R: Wait>(
     ensures ended { IfErr result (BreaksOff (All IsInBetween) desk.old desk.new) }
 {
     let reply = exchange(desk, rt, request)?;
+    match machine.heard(&reply) {
+        Ok(()) => Ok(reply.last_stamp()),
+        Err(NoMemory) => Err(desk.want_memory()),
+    }
+}
+
+/// Recovers the round's holder, whose record the push met staging so, and tells the round's machine what came of it. Gives the greatest
+/// timestamp that was heard.
+fn decide<N: Named<CommitWorld>, C: Clock, V: Wire, G: Gate, R: Wait>(
+    desk: &mut Desk<'_, N, C, V, G>,
+    rt: &R,
+    own: TxnId,
+    machine: &mut PushMachine,
+    met: View,
+) -> Result<Timestamp, Halt>
+    requires { MayDecideNow desk.old own machine.old met }
+    ensures ok { (old : DeskMeaning C) (pusher : Pusher) (reading : ℕ) (conflict : Reply) (reader : Option ℕ) (ts : ℕ) → IsRoundUnderWay old pusher reading conflict reader machine.old desk.old ts → pusher.id ≡ own → IfOk result (λ last. IsRoundUnderWay old pusher reading conflict reader machine.new desk.new (max ts last)) }
+    ensures clock { desk.new.log.clock ≡ desk.old.log.clock }
+    ensures err { IfErr result (HasHalted desk.old desk.new) }
+    ensures ended { IfErr result (BreaksOff (All IsInBetween) desk.old desk.new) }
+{
+    let holder = match machine.holder().copy() {
+        Ok(holder) => holder,
+        Err(NoMemory) => return Err(desk.want_memory()),
+    };
+    let view = recover(desk, rt, holder, met, own)?;
+    let reply = Reply::Status(view);
     match machine.heard(&reply) {
         Ok(()) => Ok(reply.last_stamp()),
         Err(NoMemory) => Err(desk.want_memory()),

@@ -11,11 +11,10 @@ use Rattle.pc_base.specs.declared.version.Version.{Version}
 use Rattle.pc_base.specs.Versions.{above_newest}
 use Rattle.pc_history.specs.History.{MayFollow}
 use Rattle.pc_implicit.proofs.Doing.{same_or_not}
-use Rattle.pc_implicit.proofs.Evals.{NamedMessage, of_entry, range_evaluates}
+use Rattle.pc_implicit.proofs.Evals.{NamedMessage, evaluated_state, of_entry, range_evaluates}
 use Rattle.pc_implicit.proofs.IntentKeys.{each-found}
 use Rattle.pc_implicit.proofs.LaidIntents.{own-there}
 use Rattle.pc_implicit.proofs.OwnKeys.{AsBefore, IsGone, IsLaid, IsMoved, laid_time, own_changes}
-use Rattle.pc_implicit.proofs.Recorded.{evaluated_state}
 use Rattle.pc_implicit.proofs.RisingVersions.{LiesAbove, versions_rise}
 use Rattle.pc_implicit.proofs.Settled.{settled}
 use Rattle.pc_implicit.proofs.SettledVersions.{last-of}

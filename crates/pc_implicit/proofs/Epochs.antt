@@ -15,13 +15,12 @@ use Rattle.pc_implicit.proofs.Agreed.{agreed, one_txn, open_there, owned}
 use Rattle.pc_implicit.proofs.Anchored.{anchor_stays}
 use Rattle.pc_implicit.proofs.Doing.{Does, does, same_or_not}
 use Rattle.pc_implicit.proofs.EpochRows.{AreReached, IsMetaReached, IsRecordReached, PlaceReached, place_reached, reply_reached, state_reached}
-use Rattle.pc_implicit.proofs.Evals.{NamedMessage, of_entry, range_evaluates}
+use Rattle.pc_implicit.proofs.Evals.{NamedMessage, evaluated_state, of_entry, range_evaluates}
 use Rattle.pc_implicit.proofs.FinalMarks.{marks_final}
 use Rattle.pc_implicit.proofs.Hearing.{IsSo, now_is_so}
 use Rattle.pc_implicit.proofs.IntentMetas.{AreInReply, meta_named}
 use Rattle.pc_implicit.proofs.MetaRows.{MetaHas, RequestHas, brings}
 use Rattle.pc_implicit.proofs.Metas.{HasAnchor, metas_agree}
-use Rattle.pc_implicit.proofs.Recorded.{evaluated_state}
 use Rattle.pc_implicit.proofs.Runs.{reply_is}
 use Rattle.pc_implicit.proofs.Turns.{Restarted, Turn, WentOn, Wrote, comes_from}
 use Rattle.pc_implicit.specs.Epochs.{IsPastWhereOpen, OpenRecordsArePast}

@@ -1,5 +1,5 @@
 -- An evaluation names the message that it evaluates.
-use Rattle.std.proofs.Common.{◌≡◌, ℕ, true, List, Option, Some, Contains, refl, sym, ap, subst, ◌∙◌}
+use Rattle.std.proofs.Common.{◌≡◌, ℕ, true, List, [], ◌∷◌, ◌++◌, Option, Some, Contains, refl, sym, ap, subst, ◌∙◌}
 use Rattle.std.proofs.lemmas.Bool.{and_from, eq-eqb}
 use Rattle.pc_base.specs.declared.actor.ActorId.{ActorId}
 use Rattle.pc_base.specs.declared.actor.ActorId.TheVariants as actors
@@ -13,11 +13,15 @@ use Rattle.pc_proto.specs.declared.event.Event.{Event}
 use Rattle.pc_proto.specs.declared.event.Event.TheVariants as events
 use Rattle.pc_proto.specs.declared.reply.Reply.{Reply}
 use Rattle.pc_proto.specs.declared.request.Request.{Request}
+use Rattle.pc_world.proofs.Knowing.{state_same}
 use Rattle.pc_world.proofs.World.{names_one}
+use Rattle.pc_world.specs.After.{state_at}
 use Rattle.pc_world.specs.Caused.{IsCaused, SendsTo}
+use Rattle.pc_world.specs.Evaluation.{state_after}
 use Rattle.pc_world.specs.Local.{Head, MayComeNext}
-use Rattle.pc_world.specs.Named.{is_send_of}
+use Rattle.pc_world.specs.Named.{is_send_of, request_in, request_named}
 use Rattle.pc_world.specs.Run.{IsRun, protocol}
+use Rattle.pc_world.specs.StateOf.{state_with}
 
 -- The message that an evaluation at this place names.
 pub record NamedMessage (head : Head) (history : List (Entry Event)) (at actor : ActorId) (number : ℕ) (reply : Reply) : Type 0 where
@@ -63,3 +67,11 @@ pub range_evaluates : (head : Head) (history : List (Entry Event)) (e : Entry Ev
 range_evaluates head history e range may at =
     let named = named_in (protocol head) history e.event in
     evaluates-only head range (own (protocol head) (actors.Range range) history) e.event named (subst (λ a. MayComeNext head a (own (protocol head) a history) e.event named) at may.local.next)
+
+-- the state of a range after it evaluated the message that the evaluation names
+pub evaluated_state : (head : Head) (history : List (Entry Event)) (e : Entry Event) (actor : ActorId) (number range : ℕ) (reply : Reply) (ev : NamedMessage head history e.actor actor number reply) → e.event ≡ events.Eval actor number reply
+    → state_at head ev.range (history ++ e ∷ []) ≡ state_after ev.request (state_at head ev.range history)
+evaluated_state head history e actor number range reply ev is =
+    state_same head (actors.Range ev.range) history e ev.there
+    ∙ ap (λ o. state_with (request_named o) (state_at head ev.range history)) (ap (named_in (protocol head) history) is ∙ ev.named)
+    ∙ ap (λ event. state_with (request_in event) (state_at head ev.range history)) ev.sends

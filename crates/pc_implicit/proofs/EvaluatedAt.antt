@@ -9,9 +9,8 @@ use Rattle.pc_history.proofs.Ids.{same_id-equal}
 use Rattle.pc_history.specs.Own.{named_in, same_id}
 use Rattle.pc_implicit.proofs.Commits.{act_of}
 use Rattle.pc_implicit.proofs.Doing.{Does}
-use Rattle.pc_implicit.proofs.Evals.{of_entry}
+use Rattle.pc_implicit.proofs.Evals.{evaluated_state, of_entry}
 use Rattle.pc_implicit.proofs.Fronts.{split_there}
-use Rattle.pc_implicit.proofs.Recorded.{evaluated_state}
 use Rattle.pc_implicit.proofs.Runs.{reply_is}
 use Rattle.pc_implicit.proofs.SessionReads.{EvaluatesAt, WasEvaluated}
 use Rattle.pc_implicit.proofs.Shown.{WasAnswered}

@@ -81,7 +81,6 @@ pub mod ReadSources
 pub mod ReadSteps
 pub mod Reading
 pub mod ReadsComeFrom
-pub mod Recorded
 pub mod Recovered
 pub mod Refusals
 pub mod RepliedAt
@@ -90,7 +89,6 @@ pub mod Restarted
 pub mod RisingVersions
 pub mod Rows
 pub mod Runs
-pub mod Sent
 pub mod SessionCommits
 pub mod SessionReads
 pub mod Settled

@@ -17,10 +17,9 @@ use Rattle.pc_history.specs.Own.{named_in}
 use Rattle.pc_implicit.proofs.Agreed.{Knows, agreed, open_there}
 use Rattle.pc_implicit.proofs.Anchored.{anchor_stays, commit_anchored, meta-anchored, put_anchored}
 use Rattle.pc_implicit.proofs.Doing.{Does, does, same_or_not}
-use Rattle.pc_implicit.proofs.Evals.{NamedMessage, of_entry, range_evaluates}
+use Rattle.pc_implicit.proofs.Evals.{NamedMessage, evaluated_state, of_entry, range_evaluates}
 use Rattle.pc_implicit.proofs.Hearing.{IsSo, WasSentBy, heard_is_so, now_is_so, sent_is_so}
 use Rattle.pc_implicit.proofs.MetaRows.{MetaHas, ReplyHas, RequestHas, StateHas, anchor_named, reply_has, state_has}
-use Rattle.pc_implicit.proofs.Recorded.{evaluated_state}
 use Rattle.pc_implicit.proofs.Runs.{reply_is}
 use Rattle.pc_implicit.proofs.Views.{subject-is}
 use Rattle.pc_lists.proofs.Each.{each-at, each-contains, each-weaker}

@@ -6,10 +6,9 @@ use Rattle.pc_base.specs.declared.entry.Entry.{Entry}
 use Rattle.pc_base.specs.declared.transaction.TxnId.{TxnId}
 use Rattle.pc_history.specs.History.{MayFollow}
 use Rattle.pc_implicit.proofs.Doing.{same_or_not}
-use Rattle.pc_implicit.proofs.Evals.{NamedMessage, of_entry, range_evaluates}
+use Rattle.pc_implicit.proofs.Evals.{NamedMessage, evaluated_state, of_entry, range_evaluates}
 use Rattle.pc_implicit.proofs.Fates.{FateIsSo, fates_are_so}
 use Rattle.pc_implicit.proofs.OwnKeys.{AsBefore, Ends, IsGone, IsLaid, IsMoved, own_changes}
-use Rattle.pc_implicit.proofs.Recorded.{evaluated_state}
 use Rattle.pc_implicit.specs.Decided.{decision, time_of}
 use Rattle.pc_implicit.specs.Writes.{home_of, own_intent}
 use Rattle.pc_proto.specs.declared.event.Event.{Event}

@@ -11,14 +11,13 @@ use Rattle.pc_base.specs.Span.{same_key}
 use Rattle.pc_history.specs.History.{MayFollow}
 use Rattle.pc_implicit.proofs.Anchored.{put_anchored}
 use Rattle.pc_implicit.proofs.Doing.{same_or_not}
-use Rattle.pc_implicit.proofs.Evals.{NamedMessage, of_entry, range_evaluates}
+use Rattle.pc_implicit.proofs.Evals.{NamedMessage, evaluated_state, of_entry, range_evaluates}
 use Rattle.pc_implicit.proofs.Fates.{FateIsSo, fates_are_so}
 use Rattle.pc_implicit.proofs.Homes.{time_on, undecided_before}
 use Rattle.pc_implicit.proofs.Metas.{EventHas, metas_agree, no_intent}
 use Rattle.pc_implicit.proofs.OwnKeys.{AsBefore, Ends, IsGone, IsLaid, IsMoved, LaidNow, OwnChange, StoodThere, own_changes, put_written}
 use Rattle.pc_implicit.proofs.OwnLaid.{Begins, Grows, HasFront, IsAmong, StandsIn, among_longer, front_longer, how_laid, is_overtaken, laid_among, laid_front, laid_itself, laid_stands, moved_stands, stands_later}
 use Rattle.pc_implicit.proofs.PutsSent.{AreAnswers, HasPut, orderly, puts_sent}
-use Rattle.pc_implicit.proofs.Recorded.{evaluated_state}
 use Rattle.pc_implicit.proofs.Runs.{reply_is}
 use Rattle.pc_implicit.proofs.Turns.{IsAnswered, IsBegun, Restarted, Turn, WentOn, Wrote, comes_from, not_session}
 use Rattle.pc_implicit.proofs.WriteLists.{Laid, alike_at, at_low, at_push, proof_of, rise_at, split_at, written_at}

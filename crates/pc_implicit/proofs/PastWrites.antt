@@ -4,11 +4,11 @@ use Rattle.pc_base.specs.declared.entry.Entry.{Entry}
 use Rattle.pc_base.specs.declared.transaction.TxnId.{TxnId}
 use Rattle.pc_history.specs.History.{MayFollow}
 use Rattle.pc_implicit.proofs.Anchored.{put_anchored}
+use Rattle.pc_implicit.proofs.Evals.{evaluated_state}
 use Rattle.pc_implicit.proofs.Homes.{undecided_before}
 use Rattle.pc_implicit.proofs.OwnKeys.{LaidNow, StoodThere, put_written}
 use Rattle.pc_implicit.proofs.OwnLaid.{Begins, Grows, grown_last, how_laid, is_overtaken, not_overtaken}
 use Rattle.pc_implicit.proofs.OwnOver.{Decides, Lays, Moves, Stays, own_over}
-use Rattle.pc_implicit.proofs.Recorded.{evaluated_state}
 use Rattle.pc_implicit.proofs.Runs.{reply_is}
 use Rattle.pc_implicit.proofs.Written.{IsWrittenNow, written_cases}
 use Rattle.pc_implicit.specs.Decided.{decision}

@@ -6,10 +6,10 @@ use Rattle.std.proofs.lemmas.List.{append_assoc}
 use Rattle.pc_base.specs.declared.entry.Entry.{Entry}
 use Rattle.pc_base.specs.declared.transaction.TxnId.{TxnId}
 use Rattle.pc_history.specs.History.{MayFollow}
+use Rattle.pc_implicit.proofs.Evals.{evaluated_state}
 use Rattle.pc_implicit.proofs.EvaluatedAt.{goes_to}
 use Rattle.pc_implicit.proofs.OwnKeys.{LaidNow, StoodThere, laid_time, put_written}
 use Rattle.pc_implicit.proofs.OwnLaid.{Begins, Grows, grown_last, how_laid, is_overtaken}
-use Rattle.pc_implicit.proofs.Recorded.{evaluated_state}
 use Rattle.pc_implicit.proofs.Runs.{reply_is}
 use Rattle.pc_implicit.proofs.Written.{IsFoundNow, IsRepliedNow, IsWrittenNow, found_is, proven_cases}
 use Rattle.pc_implicit.specs.Replied.{WasProven}

@@ -7,7 +7,6 @@ use Rattle.pc_base.specs.declared.transaction.TxnId.{TxnId}
 use Rattle.pc_base.specs.declared.transaction.Who.{Who}
 use Rattle.pc_implicit.proofs.Answering.{IsAnothers, IsThere, decided-there, final-status, first-differs, get-kind, moved-there, other-differs, put-kind, refresh-kind, scan-kind, written-kind}
 use Rattle.pc_implicit.proofs.FinalMarks.{marks_final}
-use Rattle.pc_implicit.specs.ReplyKinds.{IsOfKind, IsOfSome, IsOfStaging, IsPushOutcome, IsQueryReply, IsRemoveReply}
 use Rattle.pc_proto.specs.declared.event.Event.{Event}
 use Rattle.pc_proto.specs.declared.fate.Goal.{Goal}
 use Rattle.pc_proto.specs.declared.fate.Goal.TheVariants as goals
@@ -32,6 +31,7 @@ use Rattle.pc_proto.specs.Table.{place_of}
 use Rattle.pc_proto.specs.Views.{is_final_view}
 use Rattle.pc_world.proofs.Stamps.Searches.{some-kept}
 use Rattle.pc_world.specs.After.{state_at}
+use Rattle.pc_world.specs.Answering.{IsOfSome, IsOfStaging, IsPushReply, IsQueryReply, IsRemoveReply, MayAnswer}
 use Rattle.pc_world.specs.Evaluation.{reply}
 use Rattle.pc_world.specs.Evaluation.Get.{found_at, get_blocker}
 use Rattle.pc_world.specs.Evaluation.Put.{laid, overtaken, own_outcome, write_ts}
@@ -122,17 +122,17 @@ pushed-there : (holder : TxnMeta) (by : Who) (goal : Goal) (p : Place) → IsThe
 pushed-there holder by goals.Abort p = tt
 pushed-there holder by (goals.Move target) p = tt
 
-push-outcome : (holder : TxnMeta) (by : Who) (level : Priority) (now : ℕ) (goal : Goal) (p : Place) → IsPushOutcome (answer (requests.Push holder by level now goal) p)
+push-outcome : (holder : TxnMeta) (by : Who) (level : Priority) (now : ℕ) (goal : Goal) (p : Place) → IsPushReply (answer (requests.Push holder by level now goal) p)
 push-outcome holder by level now goal p = when (is_decided p) refl
   where
     of : (there won staged : Bool) → reaches_goal goal p ≡ there → is_staged p ≡ staged → is_decided p ≡ false → let v : Verdict = if there then There else if won then (if staged then Doubt else Do) else Refuse in
-        IsPushOutcome (push_reply v p (after p (on_verdict v (pushed holder by goal p))))
+        IsPushReply (push_reply v p (after p (on_verdict v (pushed holder by goal p))))
     of true won staged there is more = some-view p (moved-there goal p there)
     of false false staged there is more = open-view p more
     of false true true there is more = staged-view p is
     of false true false there is more = some-view (after p (pushed holder by goal p)) (pushed-there holder by goal p)
 
-    when : (b : Bool) → is_decided p ≡ b → IsPushOutcome (if b then replies.Status (view_of p) else push_reply (push_verdict holder level now goal p) p (after p (push holder by level now goal p)))
+    when : (b : Bool) → is_decided p ≡ b → IsPushReply (if b then replies.Status (view_of p) else push_reply (push_verdict holder level now goal p) p (after p (push holder by level now goal p)))
     when true decided = some-view p (decided-there p decided)
     when false more = of (reaches_goal goal p) (wins holder level now p) (is_staged p) refl refl more
 
@@ -146,7 +146,7 @@ remove-kind p = by (is_decided p) refl
 -- ---- each request
 
 -- In a state in which each mark is final.
-of-kind : (request : Request) (s : RangeState) → ((id : TxnId) (m : Status) → place_of id s.table ≡ Marked m → is_final m.standing ≡ true) → IsOfKind request (reply request s)
+of-kind : (request : Request) (s : RangeState) → ((id : TxnId) (m : Status) → place_of id s.table ≡ Marked m → is_final m.standing ≡ true) → MayAnswer request (reply request s)
 of-kind (requests.Get id epoch seq ts key) s final =
     get-kind id (get_blocker id ts key s) key (found_at id epoch seq ts key s)
     (some-kept (IsAnothers id) (λ i. nat_le i.ts ts) (other_at id key s.intents) (other-differs id (intent_at key s.intents)))
@@ -169,5 +169,5 @@ of-kind (requests.Remove id anchor) s final = remove-kind (place_of id s.table)
 of-kind requests.Records s final = tt
 
 -- after every history a range answers each request by a reply of its kind
-pub replies_have_kinds : (head : Head) (history : List (Entry Event)) (range : ℕ) (request : Request) → IsOfKind request (reply request (state_at head range history))
+pub replies_have_kinds : (head : Head) (history : List (Entry Event)) (range : ℕ) (request : Request) → MayAnswer request (reply request (state_at head range history))
 replies_have_kinds head history range request = of-kind request (state_at head range history) (λ id m is. marks_final head range id history m is)

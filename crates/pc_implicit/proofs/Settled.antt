@@ -9,9 +9,9 @@ use Rattle.pc_base.specs.declared.transaction.TxnId.{TxnId}
 use Rattle.pc_history.specs.History.{MayFollow}
 use Rattle.pc_implicit.proofs.Anchored.{put_anchored}
 use Rattle.pc_implicit.proofs.CommitPoint.{ByCommit, ByRecovery, RecoversNow, decides_how}
+use Rattle.pc_implicit.proofs.Evals.{evaluated_state}
 use Rattle.pc_implicit.proofs.Homes.{home_on}
 use Rattle.pc_implicit.proofs.Places.{place_after}
-use Rattle.pc_implicit.proofs.Recorded.{evaluated_state}
 use Rattle.pc_implicit.proofs.Runs.{kept-status, reply_is}
 use Rattle.pc_implicit.proofs.StageWords.{ByDecision, ByStaging, ByTelling}
 use Rattle.pc_implicit.proofs.Because.{because}

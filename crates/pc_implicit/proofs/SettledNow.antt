@@ -11,11 +11,10 @@ use Rattle.pc_base.specs.Span.{same_key}
 use Rattle.pc_implicit.proofs.CommitPoint.{DecidesNow}
 use Rattle.pc_implicit.proofs.CommitsSent.{IsBeyond, IsInForce, IsOver, IsPassed, commits_sent}
 use Rattle.pc_implicit.proofs.Doing.{same_or_not}
-use Rattle.pc_implicit.proofs.Evals.{NamedMessage}
+use Rattle.pc_implicit.proofs.Evals.{NamedMessage, evaluated_state}
 use Rattle.pc_implicit.proofs.OwnLaid.{HasFront, StandsIn}
 use Rattle.pc_implicit.proofs.OwnStanding.{own_hold}
 use Rattle.pc_implicit.proofs.PutsSent.{AreAnswers, orderly}
-use Rattle.pc_implicit.proofs.Recorded.{evaluated_state}
 use Rattle.pc_implicit.proofs.StageWords.{CommitsBy}
 use Rattle.pc_implicit.proofs.Turns.{not_session}
 use Rattle.pc_implicit.proofs.WriteLists.{Laid, RiseAt, left_over, rise_at, rise_last}

@@ -10,7 +10,7 @@ use Rattle.pc_base.specs.declared.version.Version.{Version}
 use Rattle.pc_history.specs.History.{MayFollow}
 use Rattle.pc_implicit.proofs.Agreed.{agreed, one_txn}
 use Rattle.pc_implicit.proofs.Doing.{same_or_not}
-use Rattle.pc_implicit.proofs.Evals.{NamedMessage, of_entry, range_evaluates}
+use Rattle.pc_implicit.proofs.Evals.{NamedMessage, evaluated_state, of_entry, range_evaluates}
 use Rattle.pc_implicit.proofs.Fates.{fates_are_so}
 use Rattle.pc_implicit.proofs.Forward.{Has, commit_known, has_more}
 use Rattle.pc_implicit.proofs.Homes.{home_commits, home_on}
@@ -19,7 +19,6 @@ use Rattle.pc_implicit.proofs.LaidIntents.{own-there}
 use Rattle.pc_implicit.proofs.Metas.{EventHas, metas_agree}
 use Rattle.pc_implicit.proofs.OwnStanding.{own_hold}
 use Rattle.pc_implicit.proofs.PutsSent.{orderly}
-use Rattle.pc_implicit.proofs.Recorded.{evaluated_state}
 use Rattle.pc_implicit.proofs.RisingVersions.{LiesAbove, versions_rise}
 use Rattle.pc_implicit.proofs.Settled.{settled}
 use Rattle.pc_implicit.proofs.VersionSteps.{IsMade, version_cases}

@@ -68,6 +68,13 @@ impl PushMachine {
         }
     }
 
+    /// Whose intent stands in the way.
+    pub fn holder(&self) -> &TxnMeta
+        ensures { result.now ≡ self.now.holder }
+    {
+        &self.holder
+    }
+
     /// What is due.
     pub fn next(&self) -> Result<MachineNext, NoMemory>
         ensures due { IfOk result (λ next. next ≡ round_next self.now) }

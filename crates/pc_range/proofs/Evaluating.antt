@@ -23,14 +23,13 @@ use Rattle.pc_proto.specs.declared.request.Request.TheVariants as requests
 use Rattle.pc_proto.specs.Stamps.{request_stamps}
 use Rattle.pc_range.proofs.Serving.{cell-kept}
 use Rattle.pc_range.specs.Cell.{CellMeaning, StoresEvaluation, IsCell, IsEntered, message_end}
-use Rattle.pc_range.specs.Protocol.{unstaged_protocol}
 use Rattle.pc_range.specs.Message.{IsEvalNote, IsFullNote, evaluation, sending}
 use Rattle.pc_world.proofs.Stamps.{has_room}
 use Rattle.pc_world.specs.Evaluation.{reply, state_after}
 use Rattle.pc_world.specs.Known.Traffic.{reply_named}
 use Rattle.pc_world.specs.Local.{Head}
 use Rattle.pc_world.specs.RangeState.{RangeState}
-use Rattle.pc_world.specs.Run.{IsKept}
+use Rattle.pc_world.specs.Run.{IsKept, protocol}
 use Rattle.pc_world.specs.Stamps.{AllAtMost, AllBelowGreatest, HasRoom}
 
 -- three things that hold of what was told, where something was, give a fourth
@@ -103,7 +102,7 @@ module _ (range : ℕ) (old : CellMeaning) (first room entered last : ActorMeani
       ap reply_named (get-map (λ (r : Pair Event). r.entry) entered.part.own place _ (pair-there p place at))
 
   pub note-there : (p : Parts) (place : ℕ) → place ≡ length (entries_of room.part.own) → noted place 0 entered.part ≡ known_entry (evaluation step range sender number answer) place 0 ∷ []
-  note-there p place at = noted-at (unstaged_protocol entered.world) entered.part place 0 (pair (evaluation step range sender number answer) (Some (sending p.stored.sent sender number range request))) (pair-there p place at)
+  note-there p place at = noted-at (protocol entered.world) entered.part place 0 (pair (evaluation step range sender number answer) (Some (sending p.stored.sent sender number range request))) (pair-there p place at)
 
   pub is-there : (p : Parts) (place : ℕ) → place ≡ length (entries_of room.part.own) → IsSome (reply_named (slice_get (entries_of entered.part.own) place))
   is-there p place at = subst (λ o. IsSome o) (sym (reply-there p place at)) refl
@@ -143,7 +142,7 @@ last-note range head part state place note cell some at is =
       | inl there ↦ record {
         entry = there.0.entry;
         place = place;
-        tells = is ∙ noted-at (unstaged_protocol head) part place 0 there.0 there.2;
+        tells = is ∙ noted-at (protocol head) part place 0 there.0 there.2;
         whose = All-contains (λ (q : Pair Event). q.entry.actor ≡ actors.Range range) part.own there.0 cell.whose (get_contains part.own place there.0 there.2);
         many = omega arith;
       }

@@ -1,4 +1,3 @@
 pub mod Evaluating
 pub mod Seating
 pub mod Serving
-pub mod Unstaged

@@ -21,7 +21,6 @@ use Rattle.pc_proto.specs.declared.reply.Reply.{Reply}
 use Rattle.pc_proto.specs.declared.request.Request.{Request}
 use Rattle.pc_proto.specs.Stamps.{request_stamps}
 use Rattle.pc_range.specs.Cell.{IsCell, IsEntered, message_end}
-use Rattle.pc_range.specs.Protocol.{unstaged_protocol}
 use Rattle.pc_range.specs.Message.{ComesAfter, IsToldBefore, IsSendNote, evaluation, sending}
 use Rattle.pc_world.proofs.Stamps.{state_at_most}
 use Rattle.pc_world.specs.Caused.{IsSendTo}
@@ -29,7 +28,7 @@ use Rattle.pc_world.specs.Evaluation.{reply, state_after}
 use Rattle.pc_world.specs.Local.{Head, IsLocal as MayComeAt}
 use Rattle.pc_world.specs.Named.{request_in}
 use Rattle.pc_world.specs.RangeState.{RangeState, no_state}
-use Rattle.pc_world.specs.Run.{IsKept, clock_end}
+use Rattle.pc_world.specs.Run.{IsKept, clock_end, protocol}
 use Rattle.pc_world.specs.Stamps.{AllAtMost, all_stamps}
 use Rattle.pc_world.specs.StateOf.{evaluated, state_of, state_with}
 
@@ -41,14 +40,14 @@ same-number n = grind arith
 
 module _ (head : Head) (part : Part Event) (range step place uses number : ℕ) (sender : ActorId) (request : Request) (answer : Reply) where
   -- the evaluation names the sending of the message
-  pub names-send : IsSound (unstaged_protocol head) (knowledge (told (known_entry (sending step sender number range request) place uses ∷ []) part))
-      → named_by (unstaged_protocol head) (told (known_entry (sending step sender number range request) place uses ∷ []) part) (events.Eval sender number answer) ≡ Some (sending step sender number range request)
+  pub names-send : IsSound (protocol head) (knowledge (told (known_entry (sending step sender number range request) place uses ∷ []) part))
+      → named_by (protocol head) (told (known_entry (sending step sender number range request) place uses ∷ []) part) (events.Eval sender number answer) ≡ Some (sending step sender number range request)
   names-send sound =
-      names-told (unstaged_protocol head) part (events.Eval sender number answer) (sending step sender number range request) place uses sound
+      names-told (protocol head) part (events.Eval sender number answer) (sending step sender number range request) place uses sound
       (both-true (same_id sender sender) (number == number) (same_id-equal sender sender refl) (same-number number))
 
   -- it is caused
-  pub caused-by-send : part.id ≡ actors.Range range → IsCausedFor (unstaged_protocol head) (told (known_entry (sending step sender number range request) place uses ∷ []) part) (events.Eval sender number answer)
+  pub caused-by-send : part.id ≡ actors.Range range → IsCausedFor (protocol head) (told (known_entry (sending step sender number range request) place uses ∷ []) part) (events.Eval sender number answer)
   caused-by-send id =
       let there = knows-told part (sending step sender number range request) place uses in
       subst (λ (a : ActorId). Any (IsSendTo a sender number) (knowledge (told (known_entry (sending step sender number range request) place uses ∷ []) part))) (sym id)
@@ -56,20 +55,17 @@ module _ (head : Head) (part : Part Event) (range step place uses number : ℕ) 
 
   -- it is what the range's state and the request say
   pub local-answer : part.id ≡ actors.Range range → range ≤ length head.splits → answer ≡ reply request (state_of part.own)
-      → IsSound (unstaged_protocol head) (knowledge (told (known_entry (sending step sender number range request) place uses ∷ []) part))
-      → IsLocalFor (unstaged_protocol head) (told (known_entry (sending step sender number range request) place uses ∷ []) part) (events.Eval sender number answer)
+      → IsSound (protocol head) (knowledge (told (known_entry (sending step sender number range request) place uses ∷ []) part))
+      → IsLocalFor (protocol head) (told (known_entry (sending step sender number range request) place uses ∷ []) part) (events.Eval sender number answer)
   local-answer id there is sound =
-      rw (names-send sound) (
-        subst (λ (a : ActorId). MayComeAt head a part.own (events.Eval sender number answer) (Some (sending step sender number range request))) (sym id)
-            (record { there = there; next = is }),
-        tt,
-      )
+      rw (names-send sound)
+      (subst (λ (a : ActorId). MayComeAt head a part.own (events.Eval sender number answer) (Some (sending step sender number range request))) (sym id) (record { there = there; next = is }))
 
   -- the use of the note is enough
-  pub spends-use : 1 ≤ uses → IsSound (unstaged_protocol head) (knowledge (told (known_entry (sending step sender number range request) place uses ∷ []) part))
-      → CanSpend (unstaged_protocol head) (told (known_entry (sending step sender number range request) place uses ∷ []) part) (events.Eval sender number answer)
+  pub spends-use : 1 ≤ uses → IsSound (protocol head) (knowledge (told (known_entry (sending step sender number range request) place uses ∷ []) part))
+      → CanSpend (protocol head) (told (known_entry (sending step sender number range request) place uses ∷ []) part) (events.Eval sender number answer)
   spends-use one sound =
-      can_spend-one (unstaged_protocol head) (told (known_entry (sending step sender number range request) place uses ∷ []) part) (events.Eval sender number answer) (sending step sender number range request) (names-send sound)
+      can_spend-one (protocol head) (told (known_entry (sending step sender number range request) place uses ∷ []) part) (events.Eval sender number answer) (sending step sender number range request) (names-send sound)
       (let h = uses-told part (sending step sender number range request) place uses in omega arith)
 
 -- what the table keeps of a send holds of its request
@@ -115,20 +111,20 @@ opened sender number range request (k ∷ ks) noted = record { step = k.entry.st
 
 -- what the table asks of an evaluation
 pub record CanEnter (head : Head) (part : Part Event) (event : Event) : Type 0 where
-  pub local : IsLocalFor (unstaged_protocol head) part event
-  pub caused : IsCausedFor (unstaged_protocol head) part event
-  pub can_spend : CanSpend (unstaged_protocol head) part event
+  pub local : IsLocalFor (protocol head) part event
+  pub caused : IsCausedFor (protocol head) part event
+  pub can_spend : CanSpend (protocol head) part event
 
 module _ (before : ActorMeaning Head Event) (range number : ℕ) (sender : ActorId) (request : Request) (answer : Reply) (ks : List (KnownEntry Event)) where
   pub can-enter : before.part.id ≡ actors.Range range → range ≤ length before.world.splits → answer ≡ reply request (state_of before.part.own)
       → IsSendNote sender number range request ks → 1 ≤ uses_left ks → (mid : ActorMeaning Head Event) → mid ≡ record before { part = told ks before.part }
-      → IsSound (unstaged_protocol before.world) (knowledge mid.part) → CanEnter mid.world mid.part (events.Eval sender number answer)
+      → IsSound (protocol before.world) (knowledge mid.part) → CanEnter mid.world mid.part (events.Eval sender number answer)
   can-enter id there is noted one mid took sound =
       let o = opened sender number range request ks noted in
-      let sound' : IsSound (unstaged_protocol before.world) (knowledge (told ks before.part)) = subst (λ (a : ActorMeaning Head Event). IsSound (unstaged_protocol before.world) (knowledge a.part)) took sound in
+      let sound' : IsSound (protocol before.world) (knowledge (told ks before.part)) = subst (λ (a : ActorMeaning Head Event). IsSound (protocol before.world) (knowledge a.part)) took sound in
       let uses : 1 ≤ o.uses = subst (λ (l : List (KnownEntry Event)). 1 ≤ uses_left l) o.tells one in
       let opened' : CanEnter before.world (told (known_entry (sending o.step sender number range request) o.place o.uses ∷ []) before.part) (events.Eval sender number answer) =
-      (let s = subst (λ (l : List (KnownEntry Event)). IsSound (unstaged_protocol before.world) (knowledge (told l before.part))) o.tells sound' in record {
+      (let s = subst (λ (l : List (KnownEntry Event)). IsSound (protocol before.world) (knowledge (told l before.part))) o.tells sound' in record {
         local = local-answer before.world before.part range o.step o.place o.uses number sender request answer id there is s;
         caused = caused-by-send before.world before.part range o.step o.place o.uses number sender request answer id;
         can_spend = spends-use before.world before.part range o.step o.place o.uses number sender request answer uses s;
@@ -138,18 +134,18 @@ module _ (before : ActorMeaning Head Event) (range number : ℕ) (sender : Actor
 
   pub entered : before.part.id ≡ actors.Range range → IsSendNote sender number range request ks
       → (mid after : ActorMeaning Head Event) (step spare : ℕ) → mid ≡ record before { part = told ks before.part }
-      → after ≡ record mid { part = acted (unstaged_protocol mid.world) step (events.Eval sender number answer) mid.part; spare = spare }
-      → IsSound (unstaged_protocol before.world) (knowledge mid.part) → All (λ (e : Entry Event). e.step < step) (knowledge mid.part) → step < 2 ^ 48
+      → after ≡ record mid { part = acted (protocol mid.world) step (events.Eval sender number answer) mid.part; spare = spare }
+      → IsSound (protocol before.world) (knowledge mid.part) → All (λ (e : Entry Event). e.step < step) (knowledge mid.part) → step < 2 ^ 48
       → IsEntered before after sender number range request step answer
   entered id noted mid after step spare took did sound above small =
       let o = opened sender number range request ks noted in
       let send = sending o.step sender number range request in
       let note = known_entry send o.place o.uses ∷ [] in
       let took' : mid ≡ record before { part = told note before.part } = subst (λ (l : List (KnownEntry Event)). mid ≡ record before { part = told l before.part }) o.tells took in
-      let sound' : IsSound (unstaged_protocol before.world) (knowledge (told note before.part)) = subst (λ (a : ActorMeaning Head Event). IsSound (unstaged_protocol before.world) (knowledge a.part)) took' sound in
+      let sound' : IsSound (protocol before.world) (knowledge (told note before.part)) = subst (λ (a : ActorMeaning Head Event). IsSound (protocol before.world) (knowledge a.part)) took' sound in
       let above' : All (λ (e : Entry Event). e.step < step) (knowledge (told note before.part)) = subst (λ (a : ActorMeaning Head Event). All (λ (e : Entry Event). e.step < step) (knowledge a.part)) took' above in
-      let did' : after ≡ record before { part = acted (unstaged_protocol before.world) step (events.Eval sender number answer) (told note before.part); spare = spare } =
-      subst (λ (m : ActorMeaning Head Event). after ≡ record m { part = acted (unstaged_protocol m.world) step (events.Eval sender number answer) m.part; spare = spare }) took' did in
+      let did' : after ≡ record before { part = acted (protocol before.world) step (events.Eval sender number answer) (told note before.part); spare = spare } =
+      subst (λ (m : ActorMeaning Head Event). after ≡ record m { part = acted (protocol m.world) step (events.Eval sender number answer) m.part; spare = spare }) took' did in
       let knows = knows-told before.part send o.place o.uses in
       let later : o.step < step = All-contains (λ (e : Entry Event). e.step < step) (knowledge (told note before.part)) send above' knows in
       let named = names-send before.world before.part range o.step o.place o.uses number sender request answer sound' in
@@ -158,7 +154,7 @@ module _ (before : ActorMeaning Head Event) (range number : ℕ) (sender : Actor
         same_world = ap (λ (a : ActorMeaning Head Event). a.world) did';
         same_id = ap (λ (a : ActorMeaning Head Event). a.part.id) did';
         stored = ap (λ (a : ActorMeaning Head Event). a.part.own) did'
-            ∙ (ap (λ i. before.part.own ++ pair (entry_of step i (events.Eval sender number answer)) (named_by (unstaged_protocol before.world) (told note before.part) (events.Eval sender number answer)) ∷ []) id
+            ∙ (ap (λ i. before.part.own ++ pair (entry_of step i (events.Eval sender number answer)) (named_by (protocol before.world) (told note before.part) (events.Eval sender number answer)) ∷ []) id
             ∙ ap (λ n. before.part.own ++ pair (evaluation step range sender number answer) n ∷ []) named);
         kept = All-contains (λ (e : Entry Event). IsKept e.step e.event) (knowledge (told note before.part)) send sound'.kept knows;
         early = omega arith;

@@ -1,6 +1,4 @@
 -- One range behind its lock, and all of them.
 pub mod Cell
 pub mod Message
-pub mod Protocol
 pub mod Seats
-pub mod Unstaged

@@ -4,7 +4,7 @@ use pc_history::World;
 use pc_proto::{Event, Keys};
 use std::marker::Model;
 
-/// The protocol over these ranges, with so many sessions and recoverers: what a table of steps runs. So far nothing is staged.
+/// The protocol over these ranges, with so many sessions and recoverers: what a table of steps runs.
 ///
 /// Contracts see it as the head of a history.
 #[derive(Debug, Drop)]
@@ -36,12 +36,12 @@ impl CommitWorld {
 }
 
 impl World for CommitWorld {
-    ghost use Rattle.pc_range.specs.Protocol.{unstaged_protocol};
-    ghost use Rattle.pc_range.specs.Unstaged.{unstaged_is_world};
+    ghost use Rattle.pc_world.proofs.World.{is_world};
+    ghost use Rattle.pc_world.specs.Run.{protocol};
 
     type Event = Event;
 
-    ghost sense = { unstaged_protocol };
+    ghost sense = { protocol };
 
-    ghost laws = { unstaged_is_world };
+    ghost laws = { is_world };
 }

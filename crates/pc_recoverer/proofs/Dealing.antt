@@ -18,7 +18,7 @@ use Rattle.pc_proto.specs.declared.view.View.TheVariants as views
 use Rattle.pc_proto.specs.Replies.{view_in}
 use Rattle.pc_proto.specs.Requests.{is_about}
 use Rattle.pc_proto.specs.Stamps.{reply_stamps, view_stamps}
-use Rattle.pc_recoverer.proofs.Anchored.{anchor_is}
+use Rattle.pc_exchange.proofs.Anchored.{anchor_is}
 use Rattle.pc_recoverer.proofs.Breaking.{front_breaks}
 use Rattle.pc_recoverer.proofs.Fronts.{front_weaker, saying}
 use Rattle.pc_recoverer.proofs.Settling.{may_send_now}
@@ -50,7 +50,7 @@ may_push maker d meta may =
         read_now = ap reading_in may.in_round.opened;
       };
       stamps = All-nil (λ ts. ts ≤ (known_of d.log.part.own).top + 1);
-    }) tt tt
+    }) tt
 
 follows-none : (maker : RoundMaker) (meta : TxnMeta) (told : Reply) → ((view : View) → told ≡ replies.Status view → ⊥) → ((view : View) → told ≡ replies.Unsure view → ⊥) → FollowsPush maker meta told []
 follows-none maker meta (replies.Status view) none unsure = absurd (none view refl)

@@ -29,7 +29,6 @@ use Rattle.pc_proto.specs.declared.reply.Reply.TheVariants as replies
 use Rattle.pc_proto.specs.declared.request.Request.{Request}
 use Rattle.pc_proto.specs.declared.request.Request.TheVariants as requests
 use Rattle.pc_range.specs.Message.{evaluation}
-use Rattle.pc_range.specs.Protocol.{unstaged_protocol}
 use Rattle.pc_recoverer.proofs.Breaking.{breaks_here, breaks_weaker}
 use Rattle.pc_recoverer.proofs.Fronts.{front_of_one, front_sent, front_unsent, front_unsent_to}
 use Rattle.pc_recoverer.specs.Broken.{AreFrontOf, AreFrontOfOne, AreFrontOfOneTo, BreaksOffIn, IsOneMessageTo}
@@ -38,6 +37,7 @@ use Rattle.pc_turns.specs.Order.{IsInBetween}
 use Rattle.pc_world.specs.Exchange.{IsPossibleReply}
 use Rattle.pc_world.specs.Known.{known_of, next_number}
 use Rattle.pc_world.specs.Known.Traffic.{Heard, heard_by}
+use Rattle.pc_world.specs.Run.{protocol}
 
 or-right : (b c : Bool) → c ≡ true → (b || c) ≡ true
 or-right true c is = refl
@@ -112,7 +112,7 @@ module _ {C : Type 0} (old mid late : DeskMeaning C) (request : Request) (number
     first-is : added old.log sent.sent (events.Send number sent.range request) sent.entered ≡ sent_pair old.log.part.id sent.entered.step (next_number (known_of old.log.part.own)) sent.range request
     first-is =
         let event = events.Send number sent.range request in
-        let names : named_by (unstaged_protocol old.log.head) old.log.part event ≡ None = find_none (λ e. (unstaged_protocol old.log.head).names event e) (knowledge old.log.part) (λ e. refl) in
+        let names : named_by (protocol old.log.head) old.log.part event ≡ None = find_none (λ e. (protocol old.log.head).names event e) (knowledge old.log.part) (λ e. refl) in
         ap (pair (entry_of sent.entered.step old.log.part.id event)) names ∙ ap (λ n. sent_pair old.log.part.id sent.entered.step n sent.range request) next-is
 
     second-is : added late.log new.log (events.Hear a.number a.step) heard.entered ≡ heard_pair old.log.part.id heard.entered.step (next_number (known_of old.log.part.own)) heard.range a.step a.reply

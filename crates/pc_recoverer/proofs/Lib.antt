@@ -1,4 +1,3 @@
-pub mod Anchored
 pub mod Breaking
 pub mod Dealing
 pub mod Exchanging

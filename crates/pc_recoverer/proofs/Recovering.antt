@@ -1,11 +1,11 @@
 -- A recoverer recovers a transaction: how it begins, what each exchange of its machine leaves, and how it ends.
-use Rattle.std.proofs.Common.{◌≡◌, ℕ, zero, suc, ◌+◌, ◌≤◌, ◌⊎◌, Bool, true, false, if◌then◌else◌, All, Any, List, [], ◌∷◌, ◌++◌, map, take, drop, length, slice_get, Option, Some, None, inl, inr, refl, sym, ap, ◌∙◌, subst, arith}
-use Rattle.std.proofs.lemmas.List.{append-nil, map-append, take_more}
+use Rattle.std.proofs.Common.{◌≡◌, ℕ, ◌+◌, ◌≤◌, ◌⊎◌, Bool, true, false, if◌then◌else◌, All, Any, List, [], ◌∷◌, ◌++◌, map, take, drop, slice_get, Option, Some, None, inl, inr, refl, sym, ap, ◌∙◌, subst, arith}
+use Rattle.std.proofs.lemmas.List.{append-nil, map-append}
 use Rattle.std.proofs.lemmas.List.Elements.{All-nil, All-push, All-weaker}
-use Rattle.std.proofs.lemmas.Option.{slice_get_cases}
 use Rattle.pc_base.specs.declared.actor.ActorId.{ActorId}
 use Rattle.pc_base.specs.declared.actor.ActorId.TheVariants as actors
 use Rattle.pc_desk.specs.Desk.{DeskMeaning, MaySendNow}
+use Rattle.pc_exchange.proofs.Places.{cut_at, one_more, past_all}
 use Rattle.pc_exchange.specs.Exchange.{WasExchanged}
 use Rattle.pc_history.specs.declared.pair.Pair.{Pair}
 use Rattle.pc_lists.proofs.Anywhere.{any_last}
@@ -47,34 +47,7 @@ use Rattle.pc_world.specs.Exchange.{IsPossibleReply, WasAnswered}
 use Rattle.pc_world.specs.Known.{Known, known_of}
 use Rattle.pc_world.specs.RangeOf.{IsForOne}
 use Rattle.pc_world.specs.StateOf.{state_of}
-use Rattle.pc_world.specs.Unstaged.{IsNoStage}
 use Rattle.pc_world.specs.Views.{anchor_heard}
-
--- ---- places in the list of writes
-
-take-all : (xs : List (List ℕ × ℕ)) (n : ℕ) → length xs ≤ n → take n xs ≡ xs
-take-all [] zero low = refl
-take-all [] (suc n) low = refl
-take-all (x ∷ xs) zero low = absurd (omega arith)
-take-all (x ∷ xs) (suc n) low = ap (λ l. x ∷ l) (take-all xs n (omega arith))
-
-past-all : (writes : List (List ℕ × ℕ)) (n : ℕ) → slice_get writes n ≡ None → take n writes ≡ writes
-past-all writes n none = elim ((slice_get_cases writes n).1) [ inl (x, low, is, same) ↦ absurd cc | inr (low, is) ↦ take-all writes n low ]
-
-one-more : (writes : List (List ℕ × ℕ)) (n : ℕ) (w : List ℕ × ℕ) → slice_get writes n ≡ Some w → take (n + 1) writes ≡ take n writes ++ w ∷ []
-one-more writes n w at =
-    elim ((slice_get_cases writes n).1) [
-      | inl (x, low, is, same) ↦ let e : w ≡ x = cc in take_more writes n x low ∙ ap (λ y. take n writes ++ y ∷ []) (same ∙ sym e)
-      | inr (low, none) ↦ absurd cc
-    ]
-
--- the writes before one, it, and those behind it
-cut-at : (writes : List (List ℕ × ℕ)) (n : ℕ) (w : List ℕ × ℕ) → slice_get writes n ≡ Some w → writes ≡ take n writes ++ (w ∷ drop (n + 1) writes)
-cut-at [] n w at = absurd cc
-cut-at (x ∷ xs) zero w at = let same : x ≡ w = cc in ap (λ y. y ∷ xs) same
-cut-at (x ∷ xs) (suc n) w at =
-    let same : suc (n + 1) ≡ suc n + 1 = omega arith in
-    ap (λ l. x ∷ l) (cut-at xs n w at) ∙ ap (λ k. x ∷ (take n xs ++ (w ∷ drop k (x ∷ xs)))) same
 
 -- ---- the machine's beginning
 
@@ -103,13 +76,13 @@ module _ {C : Type 0} (maker : RoundMaker) (old : DeskMeaning C) (meta : TxnMeta
 
 -- ---- what the machine asks for
 
--- It is no stage, and names no span.
+-- It names no span.
 abbrev IsPlain : Request → Type 0
-IsPlain q = IsNoStage q × ((splits : List (List ℕ)) → IsForOne splits q)
+IsPlain q = (splits : List (List ℕ)) → IsForOne splits q
 
 plain-found : (m : Recovering) (w : Option (List ℕ × ℕ)) (request : Request) → machine.Send (asked_for w m) ≡ machine.Send request → IsPlain request
-plain-found m (Some w) request e = let is : query_of m w ≡ request = cc in subst IsPlain is (tt, λ splits. tt)
-plain-found m None request e = let is : recover_of m findings.All ≡ request = cc in subst IsPlain is (tt, λ splits. tt)
+plain-found m (Some w) request e = let is : query_of m w ≡ request = cc in subst IsPlain is (λ splits. tt)
+plain-found m None request e = let is : recover_of m findings.All ≡ request = cc in subst IsPlain is (λ splits. tt)
 
 plain-over : (b : Bool) (view : View) (request : Request) → over_by b view ≡ machine.Send request → IsPlain request
 plain-over true view request e = absurd cc
@@ -117,7 +90,7 @@ plain-over false view request e = absurd cc
 
 plain-at : (m : Recovering) (p : Progress) (request : Request) → recovering_due p m ≡ machine.Send request → IsPlain request
 plain-at m (progresses.Found found) request e = plain-found m (slice_get m.writes found) request e
-plain-at m (progresses.Missing key) request e = let is : recover_of m (findings.Missing key m.by) ≡ request = cc in subst IsPlain is (tt, λ splits. tt)
+plain-at m (progresses.Missing key) request e = let is : recover_of m (findings.Missing key m.by) ≡ request = cc in subst IsPlain is (λ splits. tt)
 plain-at m (progresses.Over view) request e = plain-over (is_final_view view) view request e
 
 -- What a query is answered.
@@ -147,7 +120,7 @@ module _ {C : Type 0} (maker : RoundMaker) (old : DeskMeaning C) (meta : TxnMeta
       let start = known_of old.log.part.own in
       let k = known_of d.log.part.own in
       let kind = plain-at m m.progress request (sym due ∙ is) in
-      may_send_now d maker request making_now (subst (RecoveringMayCome d.log.head.splits id start k m) is (may d.log.head.splits id start k f.knows)) kind.0 (kind.1 d.log.head.splits)
+      may_send_now d maker request making_now (subst (RecoveringMayCome d.log.head.splits id start k m) is (may d.log.head.splits id start k f.knows)) (kind d.log.head.splits)
 
   -- the machine's requests, by the record that it recovers
   query-is : (w : List ℕ × ℕ) → query_of m w ≡ query_for maker meta f.start.epoch f.start.ts w
@@ -178,7 +151,7 @@ module _ {C : Type 0} (maker : RoundMaker) (old : DeskMeaning C) (meta : TxnMeta
         → (told : Reply) → reply ≡ told → IsQueryReply told → To (progress_after_query told w n)
     queried-on n w at come asked replies.Found told kind =
         let there : slice_get f.start.writes n ≡ Some w = ap (λ l. slice_get l n) (sym writes-is) ∙ at in
-        let longer = one-more f.start.writes n w there in
+        let longer = one_more f.start.writes n w there in
         subst (λ ws. WereAllFound maker meta f.start.epoch f.start.ts ws (f.traffic ++ one ∷ [])) (sym longer) (record {
           asked =
               requests_both f.traffic (one ∷ [])
@@ -193,7 +166,7 @@ module _ {C : Type 0} (maker : RoundMaker) (old : DeskMeaning C) (meta : TxnMeta
           found = take n f.start.writes;
           missing = w;
           unasked = drop (n + 1) f.start.writes;
-          listed = cut-at f.start.writes n w there;
+          listed = cut_at f.start.writes n w there;
           key_is = refl;
           before = f.traffic;
           last = one;
@@ -229,7 +202,7 @@ module _ {C : Type 0} (maker : RoundMaker) (old : DeskMeaning C) (meta : TxnMeta
     found-on : (n : ℕ) (w : Option (List ℕ × ℕ)) → slice_get m.writes n ≡ w → WereAllFound maker meta f.start.epoch f.start.ts (take n f.start.writes) f.traffic → request ≡ asked_for w m → To (progress_after w reply n)
     found-on n (Some w) at come asked = queried-on n w at come asked reply refl (query-answers m w reply (subst (λ q. IsPossibleReply q reply) asked x.possible))
     found-on n None at come asked =
-        let all : take n f.start.writes ≡ f.start.writes = past-all f.start.writes n (ap (λ l. slice_get l n) (sym writes-is) ∙ at) in
+        let all : take n f.start.writes ≡ f.start.writes = past_all f.start.writes n (ap (λ l. slice_get l n) (sym writes-is) ∙ at) in
         decided-on findings.All (subst (λ ws. WereAllFound maker meta f.start.epoch f.start.ts ws f.traffic) all come) asked reply refl (status-by findings.All asked) (progresses.Found n)
 
     over-none : (b : Bool) (view : View) → over_by b view ≡ machine.Send request → ⊥
@@ -304,7 +277,7 @@ module _ {C : Type 0} (maker : RoundMaker) (old : DeskMeaning C) (meta : TxnMeta
             found = take n f.start.writes;
             missing = w;
             unasked = drop (n + 1) f.start.writes;
-            listed = cut-at f.start.writes n w at;
+            listed = cut_at f.start.writes n w at;
             key_is = refl;
             before = f.traffic;
             last = last;
@@ -320,7 +293,7 @@ module _ {C : Type 0} (maker : RoundMaker) (old : DeskMeaning C) (meta : TxnMeta
     ends-found : (n : ℕ) (w : Option (List ℕ × ℕ)) → slice_get m.writes n ≡ w → WereAllFound maker meta f.start.epoch f.start.ts (take n f.start.writes) f.traffic → request ≡ asked_for w m → AreFrontOf Whole (f.made.part ++ q)
     ends-found n (Some w) at come asked = ends-querying n w (ap (λ l. slice_get l n) (sym (writes-is maker old meta met m d f)) ∙ at) come (asked ∙ query-is maker old meta met m d f w)
     ends-found n None at come asked =
-        let all : take n f.start.writes ≡ f.start.writes = past-all f.start.writes n (ap (λ l. slice_get l n) (sym (writes-is maker old meta met m d f)) ∙ at) in
+        let all : take n f.start.writes ≡ f.start.writes = past_all f.start.writes n (ap (λ l. slice_get l n) (sym (writes-is maker old meta met m d f)) ∙ at) in
         ends-deciding findings.All (subst (λ ws. WereAllFound maker meta f.start.epoch f.start.ts ws f.traffic) all come) (asked ∙ recover-is maker old meta met m d f findings.All)
 
     over-asks : (b : Bool) (view : View) → over_by b view ≡ machine.Send request → ⊥

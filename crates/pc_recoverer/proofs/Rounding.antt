@@ -23,7 +23,6 @@ use Rattle.pc_proto.specs.declared.answer.Answer.TheVariants as answers
 use Rattle.pc_proto.specs.declared.call.Call.TheVariants as calls
 use Rattle.pc_proto.specs.declared.event.Event.{Event}
 use Rattle.pc_proto.specs.declared.event.Event.TheVariants as events
-use Rattle.pc_range.specs.Protocol.{unstaged_protocol}
 use Rattle.pc_recoverer.proofs.Breaking.{breaks_behind, breaks_by, breaks_here}
 use Rattle.pc_recoverer.proofs.Fronts.{are_entries, entries_for, listings_of, made_as, made_by_another, would_list}
 use Rattle.pc_recoverer.specs.Broken.{AreFrontOf, AreOfBrokenRound, AreOfEndedRound, BreaksOffIn}
@@ -36,6 +35,7 @@ use Rattle.pc_world.specs.Known.{Known, known_of, learn, told_first, txns_told}
 use Rattle.pc_world.specs.Known.Traffic.{replies_to}
 use Rattle.pc_world.specs.Local.{IsCallOf, MayAsk}
 use Rattle.pc_world.specs.MayTell.{MayTell}
+use Rattle.pc_world.specs.Run.{protocol}
 
 -- The maker of a round that was asked at this reading.
 abbrev pub maker_at : ℕ → Priority → ℕ → RoundMaker
@@ -216,16 +216,14 @@ module _ {C : Type 0} (number : ℕ) (level : Priority) (reading : ℕ) (old d :
           let track = making-late.back.track in
           let may : MayTell l.head.splits (actors.Recoverer number) k answers.Done = record { s = record { call = calls.Round; reading = reading }; opened = making-late.opened; told = refl } in
           record {
-            local = (
-              local_does l.head l.part.id l.part.own (events.Tell answers.Done) (named_by (unstaged_protocol l.head) l.part (events.Tell answers.Done)) track.log.client track.log.there
-                  (subst (λ (id : ActorId). MayTell l.head.splits id k answers.Done) (sym making-late.whose) may),
-              tt,
-            );
+            local =
+                local_does l.head l.part.id l.part.own (events.Tell answers.Done) (named_by (protocol l.head) l.part (events.Tell answers.Done)) track.log.client track.log.there
+                (subst (λ (id : ActorId). MayTell l.head.splits id k answers.Done) (sym making-late.whose) may);
             caused = tt;
             free = refl;
             no_ask = refl;
             keeps =
-                subst (λ id. KeepsNext id l.head.splits l.pipelining l.part.own (events.Tell answers.Done) (named_by (unstaged_protocol l.head) l.part (events.Tell answers.Done))) (sym making-late.whose) tt;
+                subst (λ id. KeepsNext id l.head.splits l.pipelining l.part.own (events.Tell answers.Done) (named_by (protocol l.head) l.part (events.Tell answers.Done))) (sym making-late.whose) tt;
           }
 
       -- its list ends before that

@@ -44,16 +44,14 @@ use Rattle.pc_world.specs.Known.{Known, known_of}
 use Rattle.pc_world.specs.Known.Transactions.{Txn}
 use Rattle.pc_world.specs.RangeOf.{IsForOne}
 use Rattle.pc_world.specs.Send.Settling.{MayFinish, ShowsFate, ShowsFinal}
-use Rattle.pc_world.specs.Unstaged.{IsNoStage}
 
 -- ---- what a recoverer may send
 
 -- nothing more is asked of a recoverer's message than that it is allowed
-pub may_send_now : {C : Type 0} (d : DeskMeaning C) (maker : RoundMaker) (request : Request) → IsMakingRound maker d → IsAllowed d.log.head.splits (actors.Recoverer maker.number) (known_of d.log.part.own) request → IsNoStage request → IsForOne d.log.head.splits request
+pub may_send_now : {C : Type 0} (d : DeskMeaning C) (maker : RoundMaker) (request : Request) → IsMakingRound maker d → IsAllowed d.log.head.splits (actors.Recoverer maker.number) (known_of d.log.part.own) request → IsForOne d.log.head.splits request
     → MaySendNow d.log request
-may_send_now d maker request making allowed unstaged one = record {
+may_send_now d maker request making allowed one = record {
   allowed = subst (λ id. IsAllowed d.log.head.splits id (known_of d.log.part.own) request) (sym making.whose) allowed;
-  unstaged = unstaged;
   one = one;
   keeps = λ number range. subst (λ id. KeepsAs id d.log.head.splits d.log.pipelining d.log.part.own (events.Send number range request) None) (sym making.whose) tt;
 }
@@ -110,14 +108,10 @@ settling_begins old meta fate locks anchor m start same first knows =
       left = ap messages_due made;
     }
 
-no_stage : (request : Request) → is_of_round_or_job request ≡ true → IsNoStage request
-no_stage (requests.Push holder by level now goal) is = tt
-no_stage (requests.Resolve id key fate) is = tt
-no_stage (requests.Remove id anchor) is = tt
-no_stage request is = absurd cc
-
 for_one : (splits : List (List ℕ)) (request : Request) → is_of_round_or_job request ≡ true → IsForOne splits request
 for_one splits (requests.Push holder by level now goal) is = tt
+for_one splits (requests.Query id epoch seq ts key by) is = tt
+for_one splits (requests.Recover id epoch ts anchor finding) is = tt
 for_one splits (requests.Resolve id key fate) is = tt
 for_one splits (requests.Remove id anchor) is = tt
 for_one splits request is = absurd cc
@@ -136,7 +130,7 @@ module _ {C : Type 0} (old : DeskMeaning C) (meta : TxnMeta) (fate : Fate) (lock
       let kind = (due_first m request (sym due ∙ is)).beside in
       may_send_now d f.start.maker request making_now
       (subst (FinishingMayCome d.log.head.splits id start k m) is (may d.log.head.splits id start k f.knows))
-      (no_stage request kind) (for_one d.log.head.splits request kind)
+      (for_one d.log.head.splits request kind)
 
   -- where its list ends in the next message, that is a front of what the fate asks for
   pub settling_breaks : (request : Request) → finishing_next m ≡ machine.Send request → (q : List (Pair Event)) → AreFrontOfOne request q → AreFrontOf (λ xs. requests_of xs ≡ settling_with meta fate locks) (f.made.part ++ q)

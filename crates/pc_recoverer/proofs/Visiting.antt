@@ -96,7 +96,6 @@ may_list maker d range making there = record {
   allowed =
       subst (λ id. IsAllowed d.log.head.splits id (known_of d.log.part.own) requests.Records) (sym making.whose)
       (record { row = ap call_in making.opened; stamps = All-nil (λ ts. ts ≤ (known_of d.log.part.own).top + 1) });
-  unstaged = tt;
   goes = there;
   keeps = λ number. subst (λ id. KeepsAs id d.log.head.splits d.log.pipelining d.log.part.own (events.Send number range requests.Records) None) (sym making.whose) tt;
 }

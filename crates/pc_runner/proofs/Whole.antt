@@ -44,7 +44,6 @@ module _ {C : Type 0} (rule : C → ℕ → ℕ → Bool) (rules : ActorId → �
     follows_so history closed goes learns = record {
       run = closed.run;
       follows = history_follows C work rules left.clients leavers history left.are have_left closed left.over goes learns;
-      unstaged = closed.unstaged;
     }
 
   -- the history of sessions that went in turns

@@ -4,7 +4,6 @@ ghost use Rattle.pc_runs.specs.Follows.{FollowsWork};
 ghost use Rattle.pc_runs.specs.Runners.{head_in_work};
 ghost use Rattle.pc_work.specs.Accepted.{IsAccepted};
 ghost use Rattle.pc_world.specs.Run.{IsRun};
-ghost use Rattle.pc_world.specs.Unstaged.{NothingIsStaged};
 
 use crate::leaving::{leave_threads, leave_turns};
 use pc_base::{Entry, NoMemory};
@@ -40,7 +39,6 @@ where
     requires turns { IsSome work.now.turns }
     ensures run { IfOk result (λ entries. IsRun (head_in_work work.now) entries.items) }
     ensures follows { IfOk result (λ entries. FollowsWork work.now (M.rules clocks.old) (head_in_work work.now) entries.items) }
-    ensures unstaged { IfOk result (λ entries. NothingIsStaged entries.items) }
 {
     match &work.turns {
         Some(stated) => {
@@ -68,7 +66,6 @@ where
     requires turns { work.now.turns ≡ None }
     ensures run { IfOk result (λ entries. IsRun (head_in_work work.now) entries.items) }
     ensures follows { IfOk result (λ entries. FollowsWork work.now (M.rules clocks.old) (head_in_work work.now) entries.items) }
-    ensures unstaged { IfOk result (λ entries. NothingIsStaged entries.items) }
 {
     let blank = blank_of(alloc, work)?;
     threads_on::<Brand, _, _, _>(rt, alloc, blank, work, clocks, gate)

@@ -10,7 +10,6 @@ use Rattle.pc_base.specs.Transaction.{same_txn}
 use Rattle.pc_implicit.proofs.IntentKeys.{each-found, each-laid, each-left}
 use Rattle.pc_implicit.proofs.MetaRows.{ReplyHas, StateHas, reply_has}
 use Rattle.pc_implicit.proofs.OwnKeys.{Ends}
-use Rattle.pc_implicit.specs.ReplyKinds.{IsOfKind}
 use Rattle.pc_lists.proofs.Each.{each-at, each-weaker}
 use Rattle.pc_lists.proofs.Same.{same_key-differs, same_txn-is, same_txn-self}
 use Rattle.pc_proto.specs.declared.fate.Fate.{Fate}
@@ -24,6 +23,7 @@ use Rattle.pc_proto.specs.declared.request.Request.TheVariants as requests
 use Rattle.pc_proto.specs.Intents.{fresh, grown, kept_if, other_at, own_at}
 use Rattle.pc_proto.specs.Replies.{is_conflict}
 use Rattle.pc_proto.specs.Table.{empty_table}
+use Rattle.pc_world.specs.Answering.{MayAnswer}
 use Rattle.pc_world.specs.Evaluation.{intents_after, reply}
 use Rattle.pc_world.specs.Evaluation.IntentChange.{IntentChange, Leave, Lay, Drop, intents_with}
 use Rattle.pc_world.specs.Evaluation.Put.{PutOutcome, Stands, Lands, first_outcome, laid, outcome_of_put, overtaken, own_outcome, put_change, write_ts}
@@ -51,7 +51,7 @@ module _ (one : TxnId) where
   bare s a = record { intents = a; records = tt }
 
   excluded : (request : Request) (s : RangeState) → Each (λ e. e.1.meta.id ≡ one) s.intents → IsForIt request → (holder : TxnMeta) (ts : ℕ) (key : List ℕ)
-      → IsOfKind request (replies.Conflict holder ts key) → reply request s ≡ replies.Conflict holder ts key → ⊥
+      → MayAnswer request (replies.Conflict holder ts key) → reply request s ≡ replies.Conflict holder ts key → ⊥
   excluded (requests.Get id epoch seq at_ts k) s a of holder ts key kind e =
       kind (subst (ReplyHas Has) e (reply_has Has (requests.Get id epoch seq at_ts k) (record s { table = empty_table }) (bare s a)) ∙ sym of)
   excluded (requests.Scan id epoch seq at_ts span) s a of holder ts key kind e =
@@ -60,10 +60,10 @@ module _ (one : TxnId) where
       kind (subst (ReplyHas Has) e (reply_has Has (requests.Put meta seq at_ts k value) (record s { table = empty_table }) (bare s a)) ∙ sym of)
   excluded request s a of holder ts key kind e = kind
 
-  pub meets_none : (request : Request) (s : RangeState) → Each (λ e. e.1.meta.id ≡ one) s.intents → IsForIt request → IsOfKind request (reply request s) → is_conflict (reply request s) ≡ false
+  pub meets_none : (request : Request) (s : RangeState) → Each (λ e. e.1.meta.id ≡ one) s.intents → IsForIt request → MayAnswer request (reply request s) → is_conflict (reply request s) ≡ false
   meets_none request s a of kind = by (reply request s) refl kind
     where
-      by : (told : Reply) → reply request s ≡ told → IsOfKind request told → is_conflict told ≡ false
+      by : (told : Reply) → reply request s ≡ told → MayAnswer request told → is_conflict told ≡ false
       by (replies.Conflict holder ts key) e is = absurd (excluded request s a of holder ts key is e)
       by told e is = refl
 

@@ -15,16 +15,14 @@ use Rattle.pc_history.specs.Own.{named_in, own, pair, same_id}
 use Rattle.pc_implicit.proofs.Agreed.{open_is}
 use Rattle.pc_implicit.proofs.Asked.{asked_is_named}
 use Rattle.pc_implicit.proofs.Doing.{same_or_not}
-use Rattle.pc_implicit.proofs.Evals.{NamedMessage, of_entry, range_evaluates}
+use Rattle.pc_implicit.proofs.Evals.{NamedMessage, evaluated_state, of_entry, range_evaluates}
 use Rattle.pc_implicit.proofs.EvaluatedAt.{goes_to, one_sent}
 use Rattle.pc_implicit.proofs.Fronts.{split_there}
 use Rattle.pc_implicit.proofs.Hearing.{heard-event, now_is_so, sent_is_so}
 use Rattle.pc_implicit.proofs.OwnKeys.{Ends}
-use Rattle.pc_implicit.proofs.Recorded.{evaluated_state}
 use Rattle.pc_implicit.proofs.ReplyKinds.{replies_have_kinds}
 use Rattle.pc_implicit.proofs.Runs.{reply_is}
 use Rattle.pc_implicit.proofs.Shown.{WasAnswered, shown}
-use Rattle.pc_implicit.specs.ReplyKinds.{IsOfKind}
 use Rattle.pc_lists.proofs.Each.{each-contains, each-weaker}
 use Rattle.pc_lists.proofs.Lists.{contains_cons, contains_head, contains_nil, contains_tail}
 use Rattle.pc_proto.specs.declared.answer.Answer.{Answer}
@@ -56,6 +54,7 @@ use Rattle.pc_world.specs.After.{known_at, state_at}
 use Rattle.pc_world.specs.Caused.{Evaluates, IsCaused}
 use Rattle.pc_world.specs.Evaluation.{reply as reply_of, state_after}
 use Rattle.pc_follows.specs.FinishingJobs.{jobs_after, jobs_of}
+use Rattle.pc_world.specs.Answering.{MayAnswer}
 use Rattle.pc_world.specs.Known.{Known, known_after, learn, told_first, txn_begun, txns_told}
 use Rattle.pc_world.specs.Known.Clock.{high_after, top_after}
 use Rattle.pc_world.specs.Known.Statements.{Statement}
@@ -183,7 +182,7 @@ module _ (head : Head) (whole : List (Entry Event)) (run : IsRun head whole) (al
     aborts-known t (n, h, inside, at, is) =
         let w = each-contains _ k.heard_now h (now_is_so head history before the_session) (n, inside, at) in
         let there = each-contains (λ g. Contains k.heard g) k.heard_now h (now_heard head history before the_session) (n, inside, at) in
-        let kind : IsOfKind h.request h.reply = subst (IsOfKind h.request) (sym w.answers) (replies_have_kinds head w.front w.range h.request) in
+        let kind : MayAnswer h.request h.reply = subst (MayAnswer h.request) (sym w.answers) (replies_have_kinds head w.front w.range h.request) in
         let f = abort-shows t.id h.request h.reply h.number h.step is kind in
         fate_there t.id k.heard h f.0 there f.1
 
@@ -420,10 +419,10 @@ module _ (head : Head) (whole : List (Entry Event)) (run : IsRun head whole) (al
 
         -- what a reply that is heard says
         hears-so : (g : Option Heard) → IfSome g (λ h. WasAnswered head history the_session h.number h.request h.reply)
-            → IfSome g (λ h. (IsOfKind h.request h.reply) × (is_conflict h.reply ≡ false) × ((m : Sent) → Contains k.sent m → h.number ≡ m.number → m.request ≡ h.request))
+            → IfSome g (λ h. (MayAnswer h.request h.reply) × (is_conflict h.reply ≡ false) × ((m : Sent) → Contains k.sent m → h.number ≡ m.number → m.request ≡ h.request))
         hears-so None is = tt
         hears-so (Some h) w = (
-          subst (IsOfKind h.request) (sym w.answers) (replies_have_kinds head w.front w.range h.request),
+          subst (MayAnswer h.request) (sym w.answers) (replies_have_kinds head w.front w.range h.request),
           subst MeetsNone w.told (st.clear w.eval w.evaluated),
           λ m there same.
               let x = each-contains _ k.sent m (sent_is_so head history before the_session) there in

@@ -14,7 +14,6 @@ use Rattle.pc_history.specs.Own.{named_in}
 use Rattle.pc_implicit.proofs.Doing.{same_or_not}
 use Rattle.pc_implicit.proofs.Hearing.{heard_is_so}
 use Rattle.pc_implicit.proofs.OwnKeys.{Ends}
-use Rattle.pc_implicit.specs.ReplyKinds.{IsOfKind}
 use Rattle.pc_lists.proofs.Each.{each-append, each-contains, each-weaker}
 use Rattle.pc_lists.proofs.Lists.{contains_head, contains_tail}
 use Rattle.pc_proto.specs.declared.answer.Answer.{Answer}
@@ -38,6 +37,7 @@ use Rattle.pc_serial.specs.QuietWire.{IsEvaluated, the_session}
 use Rattle.pc_world.proofs.Knowing.{known_other, known_same}
 use Rattle.pc_world.proofs.Prefixes.{run_induction}
 use Rattle.pc_world.specs.After.{known_at}
+use Rattle.pc_world.specs.Answering.{MayAnswer}
 use Rattle.pc_world.specs.Caused.{Evaluates}
 use Rattle.pc_world.specs.Known.{Known, first_if, open_txn, told_first, txn_begun}
 use Rattle.pc_world.specs.Known.Statements.{Statement}
@@ -162,7 +162,7 @@ heard_evaluated head history run m is =
     (w.eval, w.evaluated, subst (Evaluates the_session m.number) (sym w.told) (refl, same))
 
 -- an abort is answered by a final view
-pub abort-shows : (id : TxnId) (request : Request) (told : Reply) (number step : ℕ) → IsTrue (is_abort_of id request) → IsOfKind request told
+pub abort-shows : (id : TxnId) (request : Request) (told : Reply) (number step : ℕ) → IsTrue (is_abort_of id request) → MayAnswer request told
     → (fate : Fate) × (fate_shown id (record { number = number; request = request; reply = told; step = step }) ≡ Some fate)
 abort-shows id (requests.Abort meta why locks) told number step is kind = by told kind
   where
@@ -171,7 +171,7 @@ abort-shows id (requests.Abort meta why locks) told number step is kind = by tol
     view-fate (views.Aborted epoch cause locks) final = (fates.Aborted, refl)
     view-fate view final = absurd cc
 
-    by : (told : Reply) → IsOfKind (requests.Abort meta why locks) told
+    by : (told : Reply) → MayAnswer (requests.Abort meta why locks) told
         → (fate : Fate) × (fate_shown id (record { number = number; request = requests.Abort meta why locks; reply = told; step = step }) ≡ Some fate)
     by (replies.Status view) final = let f = view-fate view final in (f.0, ap (λ b. if b then option_and_then final_fate (Some view) else None) is ∙ f.1)
     by told kind = absurd kind

@@ -21,7 +21,6 @@ use Rattle.pc_implicit.proofs.OpenOver.{IsOpenHere, is-commit, open_over, open_u
 use Rattle.pc_implicit.proofs.ReplyKinds.{replies_have_kinds}
 use Rattle.pc_implicit.proofs.Shown.{WasAnswered}
 use Rattle.pc_implicit.proofs.StagesKnown.{HasSent}
-use Rattle.pc_implicit.specs.ReplyKinds.{IsOfKind}
 use Rattle.pc_lists.proofs.Each.{each-contains, each-weaker}
 use Rattle.pc_lists.proofs.Lists.{contains_nil}
 use Rattle.pc_proto.specs.declared.answer.Answer.{Answer}
@@ -56,6 +55,7 @@ use Rattle.pc_world.proofs.Knowing.{known_other, known_same, state_other}
 use Rattle.pc_world.proofs.Prefixes.{run_induction}
 use Rattle.pc_world.proofs.Stamps.Within.{AtMost, StateWithin, at_most-more, state-more}
 use Rattle.pc_world.specs.After.{known_at, state_at}
+use Rattle.pc_world.specs.Answering.{MayAnswer}
 use Rattle.pc_world.specs.Caused.{IsCaused}
 use Rattle.pc_world.specs.Committed.{IsCommitted}
 use Rattle.pc_world.specs.Known.{Known, call_of, first_if, known_after, learn, told_first, txns_told}
@@ -135,10 +135,10 @@ open-some true (t ∷ ts) is some = (t, refl)
 open-some false (t ∷ ts) is some = absurd cc
 
 -- only a refresh is answered that it does not hold, and none is sent
-unrefreshed-none : (n : ℕ) (request : Request) (key : List ℕ) (ts : ℕ) (told : Reply) → IsUnrefreshed key ts told → IsOfKind request told → IsLowSent n request → ⊥
+unrefreshed-none : (n : ℕ) (request : Request) (key : List ℕ) (ts : ℕ) (told : Reply) → IsUnrefreshed key ts told → MayAnswer request told → IsLowSent n request → ⊥
 unrefreshed-none n request key ts (replies.Unrefreshed at_key at) is kind low = by request kind low
   where
-    by : (request : Request) → IsOfKind request (replies.Unrefreshed at_key at) → IsLowSent n request → ⊥
+    by : (request : Request) → MayAnswer request (replies.Unrefreshed at_key at) → IsLowSent n request → ⊥
     by (requests.Refresh id from to span) kind low = low
     by request kind low = kind
 unrefreshed-none n request key ts told is kind low = is
@@ -301,7 +301,7 @@ module _ (head : Head) (whole : List (Entry Event)) (run : IsRun head whole) (al
       pub never-restart : (key : List ℕ) (ts : ℕ) → Any (λ h. IsUnrefreshed key ts h.reply) k.heard_now → ⊥
       never-restart key ts (i, h, inside, at, is) =
           let w = each-contains _ k.heard_now h (now_is_so head history before the_session) (i, inside, at) in
-          let kind : IsOfKind h.request h.reply = subst (IsOfKind h.request) (sym w.answers) (replies_have_kinds head w.front w.range h.request) in
+          let kind : MayAnswer h.request h.reply = subst (MayAnswer h.request) (sym w.answers) (replies_have_kinds head w.front w.range h.request) in
           unrefreshed-none n h.request key ts h.reply is kind (answered-sent h.number h.request h.reply w).0
 
       abbrev named : Option (Entry Event)

@@ -9,7 +9,6 @@ use Rattle.std.specs.Option.{option_to_list}
 use Rattle.pc_base.specs.declared.transaction.TxnId.{TxnId}
 use Rattle.pc_base.specs.Span.{same_key}
 use Rattle.pc_base.specs.Transaction.{same_txn}
-use Rattle.pc_implicit.specs.ReplyKinds.{IsOfKind}
 use Rattle.pc_lists.proofs.Lists.{contains_in_map}
 use Rattle.pc_lists.proofs.Same.{same_key-self, same_txn-is, same_txn-self}
 use Rattle.pc_proto.specs.declared.reply.Reply.{Reply}
@@ -18,6 +17,7 @@ use Rattle.pc_proto.specs.declared.request.Request.{Request}
 use Rattle.pc_proto.specs.declared.request.Request.TheVariants as requests
 use Rattle.pc_proto.specs.Replies.{is_conflict}
 use Rattle.pc_serial.proofs.AloneStanding.{last_of}
+use Rattle.pc_world.specs.Answering.{MayAnswer}
 use Rattle.pc_world.specs.Known.{Known}
 use Rattle.pc_world.specs.Known.Statements.{Statement}
 use Rattle.pc_world.specs.Known.Traffic.{Heard, Sent}
@@ -210,7 +210,7 @@ module _ (k : Known) (awaited : AreAwaited k k.txns) where
   -- a reply is heard
   pub awaited_heard : (later : Known) (g : Option Heard) → later.sent ≡ k.sent → later.heard ≡ k.heard ++ option_to_list g → last_of later ≡ last_of k → later.is_open ≡ k.is_open
       → later.statement ≡ k.statement → later.sent_now ≡ k.sent_now
-      → IfSome g (λ h. (IsOfKind h.request h.reply) × (is_conflict h.reply ≡ false) × ((m : Sent) → Contains k.sent m → h.number ≡ m.number → m.request ≡ h.request))
+      → IfSome g (λ h. (MayAnswer h.request h.reply) × (is_conflict h.reply ≡ false) × ((m : Sent) → Contains k.sent m → h.number ≡ m.number → m.request ≡ h.request))
       → AreAwaited later (map (txn_heard k.sent g) k.txns)
   awaited_heard later g sent heard last opens stated now so u there w written unproved =
       let t = contains_in_map (txn_heard k.sent g) k.txns u there in
@@ -230,13 +230,13 @@ module _ (k : Known) (awaited : AreAwaited k k.txns) where
         ],
       )
     where
-      written-of : (request : Request) (told : Reply) (id0 : TxnId) (epoch0 : ℕ) (w0 : Write) → IsPutOfWrite id0 epoch0 w0 request → IsOfKind request told → is_conflict told ≡ false → (ts : ℕ) × (told ≡ replies.Written ts)
+      written-of : (request : Request) (told : Reply) (id0 : TxnId) (epoch0 : ℕ) (w0 : Write) → IsPutOfWrite id0 epoch0 w0 request → MayAnswer request told → is_conflict told ≡ false → (ts : ℕ) × (told ≡ replies.Written ts)
       written-of (requests.Put meta seq ts key value) (replies.Written at) id0 epoch0 w0 put kind clear = (at, refl)
       written-of (requests.Put meta seq ts key value) (replies.Conflict holder at met) id0 epoch0 w0 put kind clear = absurd (cc clear)
       written-of (requests.Put meta seq ts key value) told id0 epoch0 w0 put kind clear = absurd kind
       written-of request told id0 epoch0 w0 put kind clear = absurd put
 
-      answered : (h : Heard) → IsOfKind h.request h.reply → is_conflict h.reply ≡ false → ((m : Sent) → Contains k.sent m → h.number ≡ m.number → m.request ≡ h.request)
+      answered : (h : Heard) → MayAnswer h.request h.reply → is_conflict h.reply ≡ false → ((m : Sent) → Contains k.sent m → h.number ≡ m.number → m.request ≡ h.request)
           → (id : TxnId) (epoch : ℕ) (w0 : Write) → Heals id epoch h.request h.reply w w0 → (a : IsAwaited k.sent k.heard id epoch w0) → (b : Bool) → (h.number == a.m.number) ≡ b → b ≡ false
       answered h kind clear same id epoch w0 heal a false is = refl
       answered h kind clear same id epoch w0 heal a true is =
@@ -246,7 +246,7 @@ module _ (k : Known) (awaited : AreAwaited k k.txns) where
           let proved = heal.proves wrote.0 wrote.1 put in
           let both = sym proved ∙ unproved in cc both
 
-      by : (g : Option Heard) → IfSome g (λ h. (IsOfKind h.request h.reply) × (is_conflict h.reply ≡ false) × ((m : Sent) → Contains k.sent m → h.number ≡ m.number → m.request ≡ h.request)) → (t : Txn) → Contains k.txns t
+      by : (g : Option Heard) → IfSome g (λ h. (MayAnswer h.request h.reply) × (is_conflict h.reply ≡ false) × ((m : Sent) → Contains k.sent m → h.number ≡ m.number → m.request ≡ h.request)) → (t : Txn) → Contains k.txns t
           → Contains (writes_heard t.id t.epoch g t.writes) w → (a : IsAwaited k.sent (k.heard ++ option_to_list g) t.id t.epoch w) × IsOpenOrEarlier k t.id a.m
       by None so t mine inside = let a = awaited t mine w inside unproved in (record { m = a.0.m; listed = a.0.listed; put = a.0.put; unheard = subst (λ l. is_heard l a.0.m ≡ false) (sym (append-nil k.heard)) a.0.unheard }, a.1)
       by (Some h) so t mine inside =

@@ -7,7 +7,7 @@ use Rattle.std.specs.List.{list_any}
 use Rattle.pc_coord.specs.Coming.{ComesOf}
 use Rattle.pc_coord.specs.Coordination.{Coordination, awaits_number, opened_by}
 use Rattle.pc_coord.specs.declared.due.Opened.{Opened}
-use Rattle.pc_coord.specs.Events.{HearsAwaited, IsAnsweredAlive}
+use Rattle.pc_coord.specs.Events.{HearsAwaited, IsAnsweredAlive, IsAnsweredUnstaged}
 use Rattle.pc_coord.specs.Knows.{Knows}
 use Rattle.pc_desk.proofs.Making.{added, known_after_it}
 use Rattle.pc_desk.proofs.Turns.{oldest_waits}
@@ -15,7 +15,7 @@ use Rattle.pc_desk.specs.declared.answered.Answered.{Answered}
 use Rattle.pc_desk.specs.Desk.{DeskMeaning, HasDelivered, HasHeardFirst, IsAnsweredBy, KeepsTrack, MayHearNow, Posted, WaitInTurn, is_on_way}
 use Rattle.pc_desk.specs.Keeping.{KeepsSessionStep}
 use Rattle.pc_desk.specs.OwnLog.{LogMeaning}
-use Rattle.pc_exchange.proofs.AnsweredAlive.{answered_alive, first_mapped}
+use Rattle.pc_exchange.proofs.AnsweredAlive.{answered_alive, answered_unstaged, first_mapped}
 use Rattle.pc_exchange.proofs.Growing.{grows_else, grows_entered}
 use Rattle.pc_exchange.proofs.HeardKinds.{heard_kind, heard_past}
 use Rattle.pc_exchange.proofs.Waves.{ends_where_heard}
@@ -237,6 +237,15 @@ module _ {C : Type 0} (old : SessionMeaning C) (reading : ℕ) (calls : HasOpenC
         (answered_alive d.log heard.entered.log h there k (ap (λ (x : Known). x.sent) known_is) (ap (λ (x : Known). x.heard) known_is)
         (λ t opened. (txn_heard k.sent (Some h) t, ap open_txn known_is ∙ first_mapped (txn_heard k.sent (Some h)) k.is_open k.txns t opened, refl)))
 
+    unstaged : (request : Request) → request_sent a.number k.sent ≡ Some request → IsAnsweredUnstaged k request a.reply
+    unstaged request said =
+        let both : Some by.request ≡ Some request = sym by.said ∙ said in
+        let same : by.request ≡ request = cc in
+        let there : Contains (known_of d.log.part.own).heard h = subst (λ (x : Known). Contains x.heard h) (sym known_is) (Contains-push k.heard h) in
+        subst (λ q. IsAnsweredUnstaged k q a.reply) same
+        (answered_unstaged d.log heard.entered.log h there k
+        (λ t opened. (txn_heard k.sent (Some h) t, ap open_txn known_is ∙ first_mapped (txn_heard k.sent (Some h)) k.is_open k.txns t opened, refl)))
+
     hears-awaited : HearsAwaited old.coordinator a.number a.step a.reply k p
     hears-awaited = record {
       waited = waited;
@@ -249,6 +258,7 @@ module _ {C : Type 0} (old : SessionMeaning C) (reading : ℕ) (calls : HasOpenC
       kind = kind;
       past = past;
       alive = alive;
+      unstaged = unstaged;
     }
 
     left_on : HasLeft d.log.part.own old.jobs
@@ -280,7 +290,7 @@ module _ {C : Type 0} (old : SessionMeaning C) (reading : ℕ) (calls : HasOpenC
 
     plain : goal_in by.request ≡ None
     unfolding by by-it
-    plain = let kind = for-call a there-first in no_goal by.request (plain_kind kind.s.call by.request kind.kind).no_round
+    plain = let kind = for-call a there-first in no_goal by.request (plain_kind kind.s.call by.request kind.kind)
 
     least : (n : ℕ) → awaits_number n old.coordinator.due ≡ true → a.number ≤ n
     least n waits = least_on_way old.desk a d.replies calls.track heard.first n (sym (calls.way n) ∙ waits)

@@ -34,7 +34,6 @@ use Rattle.pc_world.specs.Known.{Known, call_in, known_of}
 use Rattle.pc_world.specs.Known.Statements.{Statement}
 use Rattle.pc_world.specs.Known.Traffic.{Heard}
 use Rattle.pc_world.specs.Tell.Refusal.{is_heard}
-use Rattle.pc_world.specs.Unstaged.{IsNoStage}
 
 -- what a session's event keeps, as that of an actor
 pub keeps_as : (id : ActorId) (session : ℕ) (splits : List (List ℕ)) (pipelining : Bool) (own : List (Pair Event)) (event : Event) (h : Option Heard) → id ≡ actors.Session session → pipelining ≡ false
@@ -42,41 +41,36 @@ pub keeps_as : (id : ActorId) (session : ℕ) (splits : List (List ℕ)) (pipeli
 keeps_as id session splits pipelining own event h whose unpiped keeps =
     subst (λ i. KeepsAs i splits pipelining own event h) (sym whose) (subst (λ b. KeepsSessionStep splits b own event h) (sym unpiped) keeps)
 
--- What the coordinator's requests have in common: they are no messages of a conflict's round, and stage nothing.
-pub record IsPlainRequest (request : Request) : Type 0 where
-  pub no_round : round_of request ≡ None
-  pub unstaged : IsNoStage request
-
 -- such a request is no push
 pub no_goal : (request : Request) → round_of request ≡ None → goal_in request ≡ None
 no_goal (requests.Push holder by level now goal) none = absurd cc
 no_goal request none = refl
 
-plain_get : (request : Request) → IsTrue (is_get request) → IsPlainRequest request
-plain_get (requests.Get id epoch seq ts key) is = record { no_round = refl; unstaged = tt }
+plain_get : (request : Request) → IsTrue (is_get request) → round_of request ≡ None
+plain_get (requests.Get id epoch seq ts key) is = refl
 plain_get request is = absurd cc
 
-plain_scan : (request : Request) → IsTrue (is_scan request) → IsPlainRequest request
-plain_scan (requests.Scan id epoch seq ts span) is = record { no_round = refl; unstaged = tt }
+plain_scan : (request : Request) → IsTrue (is_scan request) → round_of request ≡ None
+plain_scan (requests.Scan id epoch seq ts span) is = refl
 plain_scan request is = absurd cc
 
-plain_put : (key : List ℕ) (request : Request) → IsPutOn key request → IsPlainRequest request
-plain_put key (requests.Put meta seq ts own value) is = record { no_round = refl; unstaged = tt }
+plain_put : (key : List ℕ) (request : Request) → IsPutOn key request → round_of request ≡ None
+plain_put key (requests.Put meta seq ts own value) is = refl
 plain_put key request is = absurd is
 
-plain_commit : (request : Request) → IsTrue (is_commit request) → IsPlainRequest request
-plain_commit (requests.Commit meta ts locks) is = record { no_round = refl; unstaged = tt }
+plain_commit : (request : Request) → IsTrue (is_commit request) → round_of request ≡ None
+plain_commit (requests.Commit meta ts locks) is = refl
 plain_commit request is = absurd cc
 
-plain_refresh : (request : Request) → IsTrue (is_refresh request) → IsPlainRequest request
-plain_refresh (requests.Refresh id from to span) is = record { no_round = refl; unstaged = tt }
+plain_refresh : (request : Request) → IsTrue (is_refresh request) → round_of request ≡ None
+plain_refresh (requests.Refresh id from to span) is = refl
 plain_refresh request is = absurd cc
 
-plain_abort : (request : Request) → IsTrue (is_abort request) → IsPlainRequest request
-plain_abort (requests.Abort meta why locks) is = record { no_round = refl; unstaged = tt }
+plain_abort : (request : Request) → IsTrue (is_abort request) → round_of request ≡ None
+plain_abort (requests.Abort meta why locks) is = refl
 plain_abort request is = absurd cc
 
-plain_for : (call : Call) (request : Request) → IsFor call request → IsPlainRequest request
+plain_for : (call : Call) (request : Request) → IsFor call request → round_of request ≡ None
 plain_for (calls.Get key) request is = plain_get request is
 plain_for (calls.Scan span) request is = plain_scan request is
 plain_for (calls.Put key value) request is = plain_put key request is
@@ -86,11 +80,11 @@ plain_for calls.Commit request (inr is) = plain_refresh request is
 plain_for calls.Rollback request is = plain_abort request is
 plain_for call request is = absurd is
 
-plain_beat : (request : Request) → IsTrue (is_heartbeat request) → IsPlainRequest request
-plain_beat (requests.Beat meta ts now) is = record { no_round = refl; unstaged = tt }
+plain_beat : (request : Request) → IsTrue (is_heartbeat request) → round_of request ≡ None
+plain_beat (requests.Beat meta ts now) is = refl
 plain_beat request is = absurd cc
 
-pub plain_kind : (call : Call) (request : Request) → IsFor call request ⊎ ShowsLife call request → IsPlainRequest request
+pub plain_kind : (call : Call) (request : Request) → IsFor call request ⊎ ShowsLife call request → round_of request ≡ None
 plain_kind call request (inl is) = plain_for call request is
 plain_kind call request (inr life) = plain_beat request life.1
 
@@ -111,7 +105,7 @@ keeps_sent cut own number range request splits session may answered over piece e
   early_proof = λ _ _. tt;
   written = tt;
   puts = tt;
-  resends = λ s opened again. (answered, subst (MayGoAgain (known_of own) request) (sym (plain_kind may.kind.s.call request may.kind.kind).no_round) (may.again again));
+  resends = λ s opened again. (answered, subst (MayGoAgain (known_of own) request) (sym (plain_kind may.kind.s.call request may.kind.kind)) (may.again again));
   calls = λ s opened. inl may.kind;
   beats = λ s t opened is. may.beats t is;
   finishes = λ none. let e : Some may.kind.s ≡ None = sym may.kind.opened ∙ none in absurd cc;
@@ -119,7 +113,7 @@ keeps_sent cut own number range request splits session may answered over piece e
   rolled_back = tt;
   writes = λ s opened. may.own;
   refreshes = may.refresh;
-  rounds = λ s opened. in-turn (known_of own) request (plain_kind may.kind.s.call request may.kind.kind).no_round over;
+  rounds = λ s opened. in-turn (known_of own) request (plain_kind may.kind.s.call request may.kind.kind) over;
   eighth = λ s opened. (may.below, may.before);
   waves = ends;
   pieces = tt;

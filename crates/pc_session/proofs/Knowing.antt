@@ -18,13 +18,13 @@ use Rattle.pc_proto.specs.declared.event.Event.{Event}
 use Rattle.pc_proto.specs.declared.event.Event.TheVariants as events
 use Rattle.pc_proto.specs.declared.request.Request.{Request}
 use Rattle.pc_proto.specs.Stamps.{answer_stamps, greatest_of, reply_stamps, request_stamps}
-use Rattle.pc_range.specs.Protocol.{unstaged_protocol}
 use Rattle.pc_follows.specs.FinishingJobs.{Duty, duty_after, jobs_after, jobs_of}
 use Rattle.pc_world.specs.Known.{Known, known_after, known_of, learn, nothing_known, txns_told}
 use Rattle.pc_world.specs.Known.Clock.{high_told}
 use Rattle.pc_world.specs.Known.Statements.{begun_told, is_open_told}
 use Rattle.pc_world.specs.Known.Traffic.{Heard, Sent, heard_as, heard_by}
 use Rattle.pc_world.specs.Known.Transactions.{txn_heard, txn_sent}
+use Rattle.pc_world.specs.Run.{protocol}
 
 -- What a session knows once it was asked this.
 abbrev pub with_asked : Call → ℕ → Known → Known
@@ -88,13 +88,13 @@ module _ (e : Entry Event) (k : Known) where
 module _ {C : Type 0} (old new : LogMeaning C) where
   -- the entry of a call, a message or an answer names none
   pub of_ask : (call : Call) (reading : ℕ) (entered : HasEntered old new (events.Ask call reading)) → IsOf (events.Ask call reading) (added old new (events.Ask call reading) entered)
-  of_ask call reading entered = record { says = refl; names = names-nothing (unstaged_protocol old.head) old.part (events.Ask call reading) (λ e. refl) }
+  of_ask call reading entered = record { says = refl; names = names-nothing (protocol old.head) old.part (events.Ask call reading) (λ e. refl) }
 
   pub of_send : (number range : ℕ) (request : Request) (entered : HasEntered old new (events.Send number range request)) → IsOf (events.Send number range request) (added old new (events.Send number range request) entered)
-  of_send number range request entered = record { says = refl; names = names-nothing (unstaged_protocol old.head) old.part (events.Send number range request) (λ e. refl) }
+  of_send number range request entered = record { says = refl; names = names-nothing (protocol old.head) old.part (events.Send number range request) (λ e. refl) }
 
   pub of_tell : (answer : Answer) (entered : HasEntered old new (events.Tell answer)) → IsOf (events.Tell answer) (added old new (events.Tell answer) entered)
-  of_tell answer entered = record { says = refl; names = names-nothing (unstaged_protocol old.head) old.part (events.Tell answer) (λ e. refl) }
+  of_tell answer entered = record { says = refl; names = names-nothing (protocol old.head) old.part (events.Tell answer) (λ e. refl) }
 
   -- what the session knows then
   pub known_asked : (call : Call) (reading : ℕ) → HasEntered old new (events.Ask call reading) → known_of new.part.own ≡ with_asked call reading (known_of old.part.own)

@@ -36,7 +36,6 @@ use Rattle.pc_proto.specs.declared.call.Call.TheVariants as calls
 use Rattle.pc_proto.specs.declared.event.Event.{Event}
 use Rattle.pc_proto.specs.declared.event.Event.TheVariants as events
 use Rattle.pc_proto.specs.Stamps.{event_stamps, fate_stamps, greatest_of}
-use Rattle.pc_range.specs.Protocol.{unstaged_protocol}
 use Rattle.pc_session.proofs.Inside.{halted_on, one_on}
 use Rattle.pc_session.proofs.Jobs.{HasJobs}
 use Rattle.pc_session.proofs.Keeping.{keeps_as}
@@ -52,6 +51,7 @@ use Rattle.pc_world.specs.Caused.{TellsCommitted}
 use Rattle.pc_world.specs.Known.{Known, known_after, known_of, learn}
 use Rattle.pc_world.specs.Known.Traffic.{Heard, Sent}
 use Rattle.pc_world.specs.Named.{is_tell}
+use Rattle.pc_world.specs.Run.{protocol}
 
 -- ---- what is due is told
 
@@ -145,18 +145,18 @@ module _ {C : Type 0} (old : SessionMeaning C) (reading : ℕ) (token : TokenMea
   away number = sym (calls.way number) ∙ ap (awaits_number number) learning.due
 
   module _ (track : KeepsTrack desk_told) where
-    names_it : named_by (unstaged_protocol desk_told.log.head) desk_told.log.part event ≡ Some telling
+    names_it : named_by (protocol desk_told.log.head) desk_told.log.part event ≡ Some telling
     names_it =
         let at : (telling.step == token.step) ≡ true = eq-eqb telling.step token.step commit.at in
         let tells : is_tell telling.event ≡ true = subst (λ event. is_tell event ≡ true) (sym commit.says) refl in
-        names-known (unstaged_protocol desk_told.log.head) desk_told.log.part event telling track.log.sound knows_it (and_from (telling.step == token.step) (is_tell telling.event) at tells)
+        names-known (protocol desk_told.log.head) desk_told.log.part event telling track.log.sound knows_it (and_from (telling.step == token.step) (is_tell telling.event) at tells)
 
     -- the session may meet it
     pub may_meet : MayEnter desk_told.log event
     may_meet =
         let l = desk_told.log in
         record {
-          local = (local_does l.head l.part.id l.part.own event (named_by (unstaged_protocol l.head) l.part event) track.log.client track.log.there (record { id = token.id; asked = learning.asked }), tt);
+          local = local_does l.head l.part.id l.part.own event (named_by (protocol l.head) l.part event) track.log.client track.log.there (record { id = token.id; asked = learning.asked });
           caused = (knows_it.0, telling, knows_it.1, knows_it.2, record { at = commit.at; tell = subst (TellsCommitted token.id) (sym commit.says) refl });
           free = refl;
           no_ask = refl;

@@ -56,7 +56,6 @@ module _ {C : Type 0} (old : SessionMeaning C) (reading : ℕ) (request : Reques
       let mine : MaySendRow old.desk.log.head.splits (actors.Session old.coordinator.session) k request = subst (λ splits. MaySendRow splits (actors.Session old.coordinator.session) k request) calls.one.splits may.row in
       record {
         allowed = record { row = subst (λ id. MaySendRow old.desk.log.head.splits id k request) (sym calls.one.whose) mine; stamps = may.stamps };
-        unstaged = (plain_kind may.kind.s.call request may.kind.kind).unstaged;
         one = subst (λ splits. IsForOne splits request) calls.one.splits one-range;
         keeps = λ number range.
             keeps_as old.desk.log.part.id old.coordinator.session old.desk.log.head.splits old.desk.log.pipelining old.desk.log.part.own (events.Send number range request) None calls.one.whose calls.one.unpiped
@@ -142,7 +141,7 @@ module _ {C : Type 0} (old : SessionMeaning C) (reading : ℕ) (request : Reques
       goes_out = λ ends. sent_goes_out old.coordinator k request calls.one.knows due calls.turn c number comes;
       turn =
           sent_turn old.coordinator k request calls.one.knows due calls.turn (known_of d.log.part.own) c number sent.range (ap (λ (x : Known). x.sent_now) known_is) (ap (λ (x : Known). x.heard_now) known_is)
-          (no_goal request (plain_kind may.kind.s.call request may.kind.kind).no_round) (sent.next ∙ next-is) comes;
+          (no_goal request (plain_kind may.kind.s.call request may.kind.kind)) (sent.next ∙ next-is) comes;
     }
 
     -- and no wave is half heard

@@ -22,7 +22,6 @@ use Rattle.pc_proto.specs.declared.answer.Answer.{Answer}
 use Rattle.pc_proto.specs.declared.answer.Answer.TheVariants as answers
 use Rattle.pc_proto.specs.declared.event.Event.{Event}
 use Rattle.pc_proto.specs.declared.event.Event.TheVariants as events
-use Rattle.pc_range.specs.Protocol.{unstaged_protocol}
 use Rattle.pc_session.proofs.Away.{all_heard, all_heard_now, none_answered, none_posted}
 use Rattle.pc_session.proofs.Due.{holds, quiet_tell, tell_due}
 use Rattle.pc_session.proofs.Inside.{one_on}
@@ -38,6 +37,7 @@ use Rattle.pc_follows.specs.FinishingJobs.{left_by, with_job}
 use Rattle.pc_world.specs.Known.{Known, known_of, learn}
 use Rattle.pc_world.specs.Known.Statements.{Statement}
 use Rattle.pc_world.specs.MayTell.{MayTell, MayTellIn}
+use Rattle.pc_world.specs.Run.{protocol}
 use Rattle.pc_world.specs.Tell.Begin.{MayTellBegun}
 
 -- a transaction that an answer begins is the session's next one
@@ -64,7 +64,7 @@ module _ {C : Type 0} (old : SessionMeaning C) (reading : ℕ) (answer : Answer)
       let l = old.desk.log in
       let mine : MayTell l.head.splits (actors.Session old.coordinator.session) k answer = subst (λ splits. MayTell splits (actors.Session old.coordinator.session) k answer) calls.one.splits may.may in
       record {
-        local = (local_does l.head l.part.id l.part.own event (named_by (unstaged_protocol l.head) l.part event) calls.track.log.client calls.track.log.there (subst (λ (id : ActorId). MayTell l.head.splits id k answer) (sym calls.one.whose) mine), tt);
+        local = local_does l.head l.part.id l.part.own event (named_by (protocol l.head) l.part event) calls.track.log.client calls.track.log.there (subst (λ (id : ActorId). MayTell l.head.splits id k answer) (sym calls.one.whose) mine);
         caused = tt;
         free = refl;
         no_ask = refl;

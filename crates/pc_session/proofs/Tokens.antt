@@ -14,10 +14,10 @@ use Rattle.pc_history.specs.Parts.{known_entry, noted}
 use Rattle.pc_proto.specs.declared.answer.Answer.TheVariants as answers
 use Rattle.pc_proto.specs.declared.event.Event.{Event}
 use Rattle.pc_proto.specs.declared.event.Event.TheVariants as events
-use Rattle.pc_range.specs.Protocol.{unstaged_protocol}
 use Rattle.pc_session.specs.Token.{IsOfCommit, commit_read, told_commit_ts}
 use Rattle.pc_world.specs.Caused.{TellsCommitted}
 use Rattle.pc_world.specs.Local.{Head}
+use Rattle.pc_world.specs.Run.{protocol}
 
 -- an event that tells a commit has its timestamp
 told_ts : (event : Event) (id : TxnId) → TellsCommitted id event → (ts : ℕ) × (told_commit_ts event ≡ Some ts) × (event ≡ events.Tell (answers.Committed id ts))
@@ -54,7 +54,7 @@ token_of head id part place step ts told is =
     let both : (e.step, t.0) ≡ (step, ts) = same_Some (e.step, t.0) (step, ts) (sym (read id part.own place told) ∙ is) in
     record {
       entry = known_entry e place 0;
-      knows = noted-at (unstaged_protocol head) part place 0 told.pair told.there;
+      knows = noted-at (protocol head) part place 0 told.pair told.there;
       at = ap (λ (x : ℕ × ℕ). x.0) both;
       says = t.2 ∙ ap (λ (x : ℕ × ℕ). events.Tell (answers.Committed id x.1)) both;
     }

@@ -219,7 +219,7 @@ module _ (c : Coordination) (k : Known) (number : ℕ) (conflict : Reply) (reade
     settled_turn : IsSettledRound met.holder.id met.key k now → ComesOf (first_changed (conflicts_at number) goes_again wave) e.due → KeepsTurn now e.due
     settled_turn settled of =
         let made : MakesRound k now rounds_of.o.txn.id (replies.Conflict met.holder met.ts met.key) =
-        makes_round c k now rounds_of.o.txn met.holder met.ts met.key rounds_of.held later settled rounds_of.in_call.paced.resolves in
+        makes_round c k now rounds_of.o.txn met.holder met.ts met.key rounds_of.held later settled rounds_of.in_call.paced.behind in
         let round_made : MadeRound k now conflict = record {
           sent_more = made.sent_more;
           heard_more = made.heard_more;

@@ -26,5 +26,4 @@ pub mod StageFate
 pub mod Stamps
 pub mod StateOf
 pub mod Tell
-pub mod Unstaged
 pub mod Views

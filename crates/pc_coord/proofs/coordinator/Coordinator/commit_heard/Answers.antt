@@ -32,7 +32,7 @@ returns-in-Refused-clause-knows c = λ k heard number refusals is commits at.
 pub returns-in-Nothing-clause-knows : goal.returns-in-Nothing-clause-knows
 returns-in-Nothing-clause-knows c = λ k heard number refusals is commits at.
     let kind = commit_kind c.args.self.now c.args.call c.args.txn number c.args.reply.now k heard is refusals commits in
-    absurd (decided kind.0 kind.1 c.args.reply.now kind.2 (sym c.in_ok-decision.ensures ∙ c.in-Nothing.is))
+    absurd (decided c.args.reply.now kind.0 kind.1 (sym c.in_ok-decision.ensures ∙ c.in-Nothing.is))
 
 pub returns-in-Committed-clause-comes : goal.returns-in-Committed-clause-comes
 returns-in-Committed-clause-comes c = λ messages none.

@@ -1,3 +1,4 @@
+use Rattle.pc_world.specs.Run.{protocol}
 use Rattle.std.proofs.Common.{◌≡◌, ℕ, sym, ap, subst, ◌∙◌}
 use Rattle.pc_desk.proofs.Desking.{has_heard, hear_may, hear_waves}
 use Rattle.std.proofs.lemmas.Result.{err_from_is_err_and}
@@ -8,7 +9,6 @@ use Rattle.pc_desk.specs.Waves.{KeepsWavesNext}
 use Rattle.pc_history.specs.Parts.{named_by}
 use Rattle.pc_proto.specs.declared.event.Event.{Event}
 use Rattle.pc_proto.specs.declared.event.Event.TheVariants as events
-use Rattle.pc_range.specs.Protocol.{unstaged_protocol}
 use Rattle.pc_desk.proofs.desk.Desk.hear.Goals as goal
 
 pub enter-requires-clause-may : goal.enter-requires-clause-may
@@ -20,7 +20,7 @@ enter-requires-clause-may g c =
 pub enter-requires-clause-waves : goal.enter-requires-clause-waves
 enter-requires-clause-waves g c =
     let a = c.in-Some.answered in
-    subst (λ l. KeepsWavesNext l.beside l.part.own (events.Hear a.number a.step) (named_by (unstaged_protocol l.head) l.part (events.Hear a.number a.step))) (sym (ap (λ d. d.log) c.self.view_is))
+    subst (λ l. KeepsWavesNext l.beside l.part.own (events.Hear a.number a.step) (named_by (protocol l.head) l.part (events.Hear a.number a.step))) (sym (ap (λ d. d.log) c.self.view_is))
     (hear_waves c.args.self.now a c.pop_front.new.self.items c.requires.track (sym (ap (λ d. d.replies) c.self.view_is) ∙ c.in-Some.ensures.items))
 
 pub returns-clause-ok : goal.returns-clause-ok
