@@ -3,6 +3,7 @@ use Rattle.std.proofs.Common.{◌≡◌, ℕ, ◌≤◌, ◌<◌, nat_lt, Bool, 
 use Rattle.std.proofs.lemmas.Bool.{and_parts, eq-eqb, ltb-true}
 use Rattle.std.proofs.lemmas.Option.{same_Some}
 use Rattle.std.proofs.lemmas.List.Elements.{All-cons, All-head, All-map, All-nil, All-tail, All-weaker}
+use Rattle.pc_call.specs.Setting.{Setting}
 use Rattle.pc_base.specs.declared.limits.TheConstants.{MOST_CONFLICTS}
 use Rattle.pc_base.specs.declared.span.Span.{Span}
 use Rattle.pc_call.proofs.Beginning.{AreTwo, any_true, none_held, none_met, none_paced, requests_are, unmet_now}
@@ -36,6 +37,7 @@ use Rattle.pc_txn.specs.Standing.{TxnStands}
 use Rattle.pc_wave.proofs.Lists.{at_least-before, at_least-fewer}
 use Rattle.pc_wave.specs.Messages.{is_to_send, message_to_send}
 use Rattle.pc_wave.specs.Standing.{AreOfTwo, MayGoOut, MessageStands, Pairwise, WaveStands, goes_beside}
+use Rattle.pc_wave.specs.Course.{plain_course}
 use Rattle.pc_world.specs.Counting.{AtLeast}
 use Rattle.pc_world.specs.Known.{Known}
 use Rattle.pc_world.specs.Known.Reads.{IsGoodAt}
@@ -45,16 +47,17 @@ use Rattle.pc_world.specs.Known.Transactions.{Txn}
 use Rattle.pc_world.specs.SameRequest.{IsSameRequest}
 use Rattle.pc_world.specs.Tell.Data.{was_sent_now}
 use Rattle.pc_world.specs.Tell.Refusal.{IsConflictOf, WasMoved, is_heard, is_moved}
+use Rattle.pc_call.proofs.Facts.{beat_moves}
 
 module _ (k : Known) (unmet : All (λ h. is_conflict h.reply ≡ false) k.heard_now) where
-  ready_to_go : (r : Request) → goes_beside r ≡ false → MayGoOut k r → MessageStands k (message_to_send r)
-  ready_to_go r own out = record { as_far = (out, lit< tt); counted = record { heard = tt; no_more = none_met k unmet r }; sent = tt; no_round = own }
+  ready_to_go : (r : Request) → goes_beside r ≡ false → MayGoOut plain_course k r → MessageStands plain_course k (message_to_send r)
+  ready_to_go r own out = record { as_far = (out, lit< tt); counted = record { heard = tt; no_more = none_met k unmet r }; sent = tt; tries = refl; no_round = own }
 
-  all_go : (rs : List Request) → All (λ r. goes_beside r ≡ false) rs → All (MayGoOut k) rs → All (MessageStands k) (map message_to_send rs)
-  all_go [] own out = All-nil (MessageStands k)
+  all_go : (rs : List Request) → All (λ r. goes_beside r ≡ false) rs → All (MayGoOut plain_course k) rs → All (MessageStands plain_course k) (map message_to_send rs)
+  all_go [] own out = All-nil (MessageStands plain_course k)
   all_go (r ∷ rs) own out =
-      All-cons (MessageStands k) (message_to_send r) (map message_to_send rs) (ready_to_go r (All-head (λ r. goes_beside r ≡ false) r rs own) (All-head (MayGoOut k) r rs out))
-      (all_go rs (All-tail (λ r. goes_beside r ≡ false) r rs own) (All-tail (MayGoOut k) r rs out))
+      All-cons (MessageStands plain_course k) (message_to_send r) (map message_to_send rs) (ready_to_go r (All-head (λ r. goes_beside r ≡ false) r rs own) (All-head (MayGoOut plain_course k) r rs out))
+      (all_go rs (All-tail (λ r. goes_beside r ≡ false) r rs own) (All-tail (MayGoOut plain_course k) r rs out))
 
   two_of : (r : Request) (rs : List Request) → All (AreTwo r) rs → All (AreOfTwo (message_to_send r)) (map message_to_send rs)
   two_of r [] a = All-nil (AreOfTwo (message_to_send r))
@@ -66,17 +69,18 @@ module _ (k : Known) (unmet : All (λ h. is_conflict h.reply ≡ false) k.heard_
   each_of [] two = tt
   each_of (r ∷ rs) two = (two_of r rs two.0, each_of rs two.1)
 
-  wave_goes : (rs : List Request) → All (λ r. goes_beside r ≡ false) rs → All (MayGoOut k) rs → Pairwise AreTwo rs → WaveStands k (map message_to_send rs)
+  wave_goes : (rs : List Request) → All (λ r. goes_beside r ≡ false) rs → All (MayGoOut plain_course k) rs → Pairwise AreTwo rs → WaveStands plain_course k (map message_to_send rs)
   wave_goes rs own out two = record { stand = all_go rs own out; differ = each_of rs two }
 
-module _ (splits : List (List ℕ)) (bound n : ℕ) (k : Known) (t : Txn) (x : OpenTxn) (s : Statement) (c : CommitsUpTo bound n k t x s) where
+module _ (set : Setting) (bound n : ℕ) (k : Known) (t : Txn) (x : OpenTxn) (s : Statement) (c : CommitsUpTo bound n k t x s) where
   -- the commit goes on with these messages
-  goes_on : (p : Purpose) (rs : List Request) → All (λ r. goes_beside r ≡ false) rs → All (MayGoOut k) rs → Pairwise AreTwo rs → out_of p (map message_to_send rs) ≡ None → HasBeatenBy p k t → Serves splits k s t x p (map message_to_send rs)
-      → InCall splits k x p (map message_to_send rs)
+  goes_on : (p : Purpose) (rs : List Request) → All (λ r. goes_beside r ≡ false) rs → All (MayGoOut set.course k) rs → Pairwise AreTwo rs → out_of p (map message_to_send rs) ≡ None → HasBeatenBy p k t → Serves set k s t x p (map message_to_send rs)
+      → InCall set k x p (map message_to_send rs)
   goes_on p rs own goes two out beaten serves = record {
     t = t;
     open_in = c.open_in;
     stands = subst (λ o. TxnStands k [] o t x) (sym out) c.stands;
+    unmissed = c.unmissed;
     cause = c.client;
     s = s;
     opened = c.opened;
@@ -86,7 +90,7 @@ module _ (splits : List (List ℕ)) (bound n : ℕ) (k : Known) (t : Txn) (x : O
     fewer = λ r none eight. none_met k c.commits.unmet r (at_least-fewer (IsConflictOf r) 1 MOST_CONFLICTS k.heard_now (omega arith) eight);
     done =
         subst (AreAskedOrDone k) (sym (requests_are rs))
-        (asked_anew k rs (past_unmet k c.commits.unmet) (All-weaker (MayGoOut k) (λ r. All (λ m. IsSameRequest r m.request → ⊥) k.sent_now) (unsent_unmet k c.commits.unmet) rs goes));
+        (asked_anew k rs (past_unmet k c.split c.commits.unmet) (All-weaker (MayGoOut set.course k) (λ r. All (λ m. IsSameRequest r m.request → ⊥) k.sent_now) (unsent_unmet k c.commits.unmet) rs goes));
     beaten = beaten;
     serves = serves;
   }
@@ -119,7 +123,7 @@ module _ (n : ℕ) (k : Known) (x : OpenTxn) (s : Statement) (c : CommitsNow n k
   not_said : (m : Sent) → m.request ≡ said → (h : Heard) → IsRefusedBy c.t.write_ts m h → ⊥
   not_said m is h r = let low : x.write_ts < c.t.write_ts = subst (IsCommitBelow c.t.write_ts) is r.past in omega (arith, low, writes_at)
 
-  commit_goes : MayGoOut k said
+  commit_goes : MayGoOut plain_course k said
   commit_goes = record {
     answered =
         All-weaker (WasRefusedIfCommit c.t.write_ts k.heard_now) (λ m. IsSameRequest said m.request → IsTrue (is_heard k.heard_now m))
@@ -131,10 +135,10 @@ module _ (n : ℕ) (k : Known) (x : OpenTxn) (s : Statement) (c : CommitsNow n k
         absurd (not_said f.0 is r.1 r.4);
   }
 
-  pub commit_begins : (splits : List (List ℕ)) → InCall splits k x (purposes.Commit n) (message_to_send said ∷ [])
-  commit_begins splits =
-      goes_on splits c.t.write_ts n k c.t x s c.on (purposes.Commit n) (said ∷ []) (All-cons (λ r. goes_beside r ≡ false) said [] refl (All-nil (λ r. goes_beside r ≡ false)))
-      (All-cons (MayGoOut k) said [] commit_goes (All-nil (MayGoOut k))) (All-nil (AreTwo said), tt) refl c.on.beaten
+  pub commit_begins : (set : Setting) → InCall set k x (purposes.Commit n) (message_to_send said ∷ [])
+  commit_begins set =
+      goes_on set c.t.write_ts n k c.t x s c.on (purposes.Commit n) (said ∷ []) (All-cons (λ r. goes_beside r ≡ false) said [] refl (All-nil (λ r. goes_beside r ≡ false)))
+      (All-cons (MayGoOut plain_course k) said [] commit_goes (All-nil (MayGoOut plain_course k))) (All-nil (AreTwo said), tt) refl c.on.beaten
       (record {
         commits = c.on.commits;
         refused =
@@ -168,7 +172,7 @@ module _ (n : ℕ) (k : Known) (x : OpenTxn) (c : CommitsOn n k x) (behind : x.r
       All-weaker (λ m. IsRefreshUpTo c.t.read_ts m.request) (λ m. IsSameRequest (asks span) m.request → ⊥)
       (λ m up same. let low : x.write_ts ≤ c.t.read_ts = subst (IsRefreshUpTo c.t.read_ts) (same_refresh x span m.request same) up in omega (arith, low, reads_at, behind)) k.sent_now c.on.refreshes
 
-  refresh_goes : (span : Span) → MayGoOut k (asks span)
+  refresh_goes : (span : Span) → MayGoOut plain_course k (asks span)
   refresh_goes span = record {
     answered = All-weaker (λ m. IsSameRequest (asks span) m.request → ⊥) (λ m. IsSameRequest (asks span) m.request → IsTrue (is_heard k.heard_now m)) (λ m none same. absurd (none same)) k.sent_now (unsent span);
     again = λ some.
@@ -194,10 +198,10 @@ module _ (n : ℕ) (k : Known) (x : OpenTxn) (c : CommitsOn n k x) (behind : x.r
     are_two spans d.1,
   )
 
-  pub refresh_begins : (splits : List (List ℕ)) → InCall splits k x (purposes.Refresh n) (map message_to_send (map asks x.reads.spans))
-  refresh_begins splits =
-      goes_on splits c.t.read_ts n k c.t x c.s c.on (purposes.Refresh n) (map asks x.reads.spans) (all_asked (λ r. goes_beside r ≡ false) (λ span. refl) x.reads.spans)
-      (all_asked (MayGoOut k) refresh_goes x.reads.spans) (are_two x.reads.spans (sorted_apart x.reads.spans c.on.stands.reads.ordered)) refl c.on.beaten
+  pub refresh_begins : (set : Setting) → InCall set k x (purposes.Refresh n) (map message_to_send (map asks x.reads.spans))
+  refresh_begins set =
+      goes_on set c.t.read_ts n k c.t x c.s c.on (purposes.Refresh n) (map asks x.reads.spans) (all_asked (λ r. goes_beside r ≡ false) (λ span. refl) x.reads.spans)
+      (all_asked (MayGoOut plain_course k) refresh_goes x.reads.spans) (are_two x.reads.spans (sorted_apart x.reads.spans c.on.stands.reads.ordered)) refl c.on.beaten
       (record {
         commits = c.on.commits;
         refused = c.on.refused;
@@ -223,6 +227,7 @@ commits_at_once n k x c good = record {
   on = record {
     open_in = c.on.open_in;
     stands = c.on.stands;
+    unmissed = c.on.unmissed;
     client = c.on.client;
     opened = c.on.opened;
     split = c.on.split;
@@ -251,10 +256,6 @@ undecided_no_write : (reply : Reply) → is_undecided_status reply ≡ true → 
 undecided_no_write (replies.Status view) is = refl
 undecided_no_write reply is = absurd cc
 
-beat_moves : (r : Request) (reply : Reply) → is_heartbeat r ≡ true → is_moved r reply ≡ false
-beat_moves (requests.Beat meta ts now) reply beat = refl
-beat_moves r reply beat = absurd cc
-
 pub beats_unmoved : (k : Known) → All (λ h. is_heartbeat h.request ≡ true) k.heard_now → AtLeast (WasMoved k) 1 k.heard_now → ⊥
 beats_unmoved k heard one =
     at_least-before (WasMoved k) 1 [] k.heard_now
@@ -268,10 +269,11 @@ commit_asked_now k x s why anchor f call anchored none = record {
   on = record {
     open_in = f.open_in;
     stands = f.stands;
+    unmissed = f.unmissed;
     client = f.client;
     opened = f.opened;
     split = f.split;
-    paced = none_paced k f.t x s f.open_in f.stands f.client f.opened f.split f.heard;
+    paced = none_paced k f.t x s f.open_in f.stands f.unmissed f.client f.opened f.split f.heard;
     commits = record {
       call = call;
       anchor = anchor;
@@ -279,7 +281,7 @@ commit_asked_now k x s why anchor f call anchored none = record {
       none_in_flight = none;
       few = lit< tt;
       moves = record { moved = tt; no_more = λ one. beats_unmoved k (All-weaker ShowsAlive (λ h. is_heartbeat h.request ≡ true) (λ h a. a.beat) k.heard_now f.heard) one };
-      unmet = unmet_now k f.t x s f.open_in f.stands f.client f.opened f.split f.heard;
+      unmet = unmet_now k f.t x s f.open_in f.stands f.unmissed f.client f.opened f.split f.heard;
     };
     refused = All-weaker (λ m. is_heartbeat m.request ≡ true) (WasRefusedIfCommit f.t.write_ts k.heard_now) (λ m beat commits. absurd (beat_no_commit m.request beat commits)) k.sent_now f.sent;
     refreshes = All-weaker (λ m. is_heartbeat m.request ≡ true) (λ m. IsRefreshUpTo f.t.read_ts m.request) (λ m beat. beat_no_refresh f.t.read_ts m.request beat) k.sent_now f.sent;

@@ -3,35 +3,38 @@ use Rattle.std.proofs.Common.{◌≡◌, ℕ, ◌+◌, ◌≤◌, max, not, Bool
 use Rattle.std.specs.List.{list_any}
 use Rattle.std.specs.Option.{option_to_list}
 use Rattle.std.proofs.lemmas.List.{append-nil}
-use Rattle.std.proofs.lemmas.List.Elements.{All-cons, All-map, All-nil, All-push, All-weaker}
-use Rattle.std.proofs.lemmas.Bool.{and_from, eq-eqb}
+use Rattle.std.proofs.lemmas.List.Elements.{All-cons, All-contains, All-map, All-nil, All-push, All-weaker}
+use Rattle.std.proofs.lemmas.Bool.{and_from, eq-eqb, ne_eqb}
 use Rattle.std.proofs.lemmas.Option.{same_Some}
+use Rattle.pc_call.specs.Setting.{Setting}
 use Rattle.pc_base.specs.declared.limits.TheConstants.{MOST_CONFLICTS}
 use Rattle.pc_base.specs.declared.transaction.TxnId.{TxnId}
 use Rattle.pc_base.specs.Span.{same_key}
 use Rattle.pc_base.specs.Transaction.{same_txn}
 use Rattle.pc_call.proofs.Behind.{not_behind}
 use Rattle.pc_call.proofs.Beating.{beaten_heard}
-use Rattle.pc_call.proofs.Beside.{IsAskedOrBeside, IsSentOnceMore, all_past, asked-kept}
+use Rattle.pc_call.proofs.Beside.{IsAskedOrBeside, asked-kept}
 use Rattle.pc_call.proofs.Eighths.{none_eighth, same_sym}
 use Rattle.pc_call.proofs.Facts.{are_numbered, open_is}
 use Rattle.pc_call.proofs.Holders.{holders_heard, is_id, met_by}
-use Rattle.pc_call.proofs.Lists.{all_behind, all_unmapped, kept_by, only_found}
-use Rattle.pc_call.proofs.Meeting.{any_changed, gone_out_on, low-more, low_now, met-more}
+use Rattle.pc_call.proofs.Lists.{all_behind, all_changed, all_unmapped, all_with, any_other, kept_by, only_found}
+use Rattle.pc_call.proofs.Meeting.{any_changed, any_goes_on, gone_out_on, low-more, low_now, met-more}
 use Rattle.pc_call.proofs.Silent.{AreSilent, IsBeatPurpose, IsSilent, silent}
 use Rattle.pc_call.proofs.Turning.{back_out, turn_heard}
-use Rattle.pc_call.specs.Beside.{AreAskedOrDone, ArePastOrBeside}
+use Rattle.pc_call.specs.Beside.{AreAskedOrDone}
 use Rattle.pc_call.specs.declared.purpose.Purpose.{Purpose}
 use Rattle.pc_call.specs.declared.purpose.Purpose.TheVariants as purposes
-use Rattle.pc_call.specs.Ended.{landed_first, landed_with, laying, laying_as, laying_first}
+use Rattle.pc_call.specs.Ended.{landed_awaited, landed_by, landed_first, landed_with}
 use Rattle.pc_call.specs.Learned.{known_heard}
 use Rattle.pc_call.specs.Opening.{GoesOn}
 use Rattle.pc_call.specs.Paced.{IsPaced, was_met, was_pushed}
-use Rattle.pc_call.specs.Serving.{AreReadsOf, HasBeatenBy, InCall, IsAnswerTo, IsMetUpTo, IsOpenIn, IsReadFor, IsRefreshGoneOut, IsRefusedBy, IsSplit, LaysLast, LaysNext, MetNoOtherWrite, NoOtherMetEighth, Serves, ServesRead, ServesRefresh, ServesWrite, WasRefusedIfCommit, WroteNothingNew, holders_met, out_of, write_call}
+use Rattle.pc_call.specs.Serving.{AreReadsOf, HasBeatenBy, InCall, IsAnswerTo, IsMetUpTo, IsOpenFor, IsOpenIn, IsReadFor, IsRefreshGoneOut, IsRefusedBy, IsSplit, LaysLast, LaysNext, MetNoOtherWrite, NoOtherMetEighth, SendsAgain, Serves, ServesProve, ServesRead, ServesRefresh, ServesWrite, WasRefusedIfCommit, holders_met, out_of, write_call}
+use Rattle.pc_call.specs.Suiting.{SuitsFlight}
+use Rattle.pc_call.specs.Waiting.{depends_on}
 use Rattle.pc_follows.specs.Heartbeats.{HasBeaten}
 use Rattle.pc_lists.proofs.Anywhere.{any_head, any_kept, any_last, any_later}
-use Rattle.pc_lists.proofs.Lists.{contains_head}
-use Rattle.pc_lists.proofs.Same.{same_key-self}
+use Rattle.pc_lists.proofs.Lists.{all_from_contains, contains_filter, contains_head, contains_in_filter}
+use Rattle.pc_lists.proofs.Same.{same_key-equal, same_key-self}
 use Rattle.pc_lists.proofs.Counts.{count-cons, count-push, one_if}
 use Rattle.pc_proto.specs.declared.call.Call.{Call}
 use Rattle.pc_proto.specs.declared.call.Call.TheVariants as calls
@@ -48,6 +51,7 @@ use Rattle.pc_reads.specs.ReadsStanding.{refresh_to}
 use Rattle.pc_reads.specs.Replies.{unrefreshed_by, unrefreshed_in}
 use Rattle.pc_refusals.proofs.Counted.{refusals_go}
 use Rattle.pc_refusals.specs.Moves.{IsNoMove}
+use Rattle.pc_txn.proofs.Again.{asked_heard}
 use Rattle.pc_txn.proofs.Keeping.{quiet_leaves, stands_on}
 use Rattle.pc_txn.proofs.Laying.{put_landed, seq_low}
 use Rattle.pc_txn.proofs.Puts.{puts-one, puts-own}
@@ -55,22 +59,23 @@ use Rattle.pc_txn.specs.Counted.{IsCounted}
 use Rattle.pc_flight.specs.InFlight.{is_another}
 use Rattle.pc_flight.specs.declared.write.WriteInFlight.{WriteInFlight}
 use Rattle.pc_txn.specs.declared.txn.OpenTxn.{OpenTxn}
-use Rattle.pc_txn.specs.Opened.{landed_at, meta_now, opened_as, own_get, own_put, own_scan}
-use Rattle.pc_txn.specs.Standing.{HasMovedOn, LeavesAsIs, TxnStands, is_plain, is_query_of}
-use Rattle.pc_txn.specs.Writing.{PutsUpTo}
+use Rattle.pc_txn.specs.Opened.{landed_at, meta_now, opened_as, own_get, own_put, own_scan, put_at}
+use Rattle.pc_txn.specs.Standing.{HasMovedOn, LeavesAsIs, TxnStands, is_plain, is_query_of, MissedNothing, WasMissedAt}
+use Rattle.pc_txn.specs.Writing.{PutsUpTo, WasAskedAt}
 use Rattle.pc_wave.proofs.Changed.{found_all, found_passes, found_some}
 use Rattle.pc_wave.proofs.Hearing.{awaits_as, came_request, wave_heard}
 use Rattle.pc_wave.proofs.Lists.{at_least-before}
 use Rattle.pc_wave.specs.declared.message.Message.{Message}
-use Rattle.pc_wave.specs.Messages.{awaits_at, back_with, back_with_by, first_changed, progress_awaits, wave_awaits}
-use Rattle.pc_wave.specs.Standing.{HasMore, IsAsFar, IsHeardTo, IsMessageAt, IsOnItsWay, MessageStands, WaveStands, goes_beside}
+use Rattle.pc_wave.specs.declared.message.Progress.TheVariants as progresses
+use Rattle.pc_wave.specs.Messages.{awaits_at, back_with, back_with_by, first_changed, has_answer, is_to_send, progress_awaits, progress_has_answer, progress_to_send, wave_awaits}
+use Rattle.pc_wave.specs.Standing.{AreOfTwo, HasMore, IsAsFar, IsHeardTo, IsMessageAt, IsOnItsWay, MessageStands, WaveStands, goes_beside}
 use Rattle.pc_world.specs.Answering.{IsRefreshReply, MayAnswer}
 use Rattle.pc_follows.specs.Eighth.{MetEighth}
 use Rattle.pc_follows.specs.PipelinedPuts.{IsHeardOf, IsToOwnPut}
 use Rattle.pc_world.specs.Known.{Known}
 use Rattle.pc_world.specs.Known.Statements.{Statement}
 use Rattle.pc_world.specs.Known.Traffic.{Heard, Sent}
-use Rattle.pc_world.specs.Known.Transactions.{Txn, meta_of, txn_heard}
+use Rattle.pc_world.specs.Known.Transactions.{Txn, meta_of, raised_to, txn_heard}
 use Rattle.pc_world.specs.Known.Writes.{Write, last_seq_of}
 use Rattle.pc_world.specs.RangeOf.{pieces}
 use Rattle.pc_world.specs.Send.Put.{AsksFor}
@@ -78,6 +83,7 @@ use Rattle.pc_world.specs.StageFate.{SentStage, is_write_refuted}
 use Rattle.pc_world.specs.SameRequest.{IsSameRequest}
 use Rattle.pc_world.specs.Tell.Data.{IsFirstPut, IsPutFor, MayTellWritten, sent_before}
 use Rattle.pc_world.specs.Tell.Refusal.{IsConflictOf, is_moved}
+use Rattle.pc_txn.proofs.Above.{none_missed_on, none_missed}
 
 every : {X : Type 0} (P : X → Type 0) → ((x : X) → P x) → (xs : List X) → All P xs
 every P all [] = All-nil P
@@ -150,6 +156,7 @@ no_push : (id : TxnId) (r : Request) → goes_beside r ≡ false → is_push_of 
 no_push id (requests.Push holder by level now goal) e = absurd cc
 no_push id r e = refl
 
+
 -- a reply shows no more holders than it is a conflict with
 held_once : (id : TxnId) (reply : Reply) → count_by (is_id id) (option_to_list (met_by reply)) ≤ one_if (is_conflict_with id reply)
 held_once id (replies.Conflict holder ts key) = let e = count-cons (is_id id) holder.id [] in omega arith
@@ -205,30 +212,40 @@ first_by one other seq before id epoch none = first_same one other seq before id
 not_false : {b : Bool} → b ≡ false → IsTrue (not b)
 not_false {b = b} e = subst (λ b. IsTrue (not b)) (sym e) refl
 
--- The write of an open call was heard to be written: none is in flight, and the call may be told so; or, where the write was of an earlier call, the
--- call has sent no write of its own yet. No request met its eighth.
-pub record IsLanded (ms : List Message) (again : Bool) (k : Known) (x : OpenTxn) : Type 0 where
+-- where fewer writes are in flight the call suits them, too
+fewer_suit : (call : Call) (key : List ℕ) (value : Option (List ℕ)) → call ≡ write_call key value → (test : WriteInFlight → Bool) (ws : List WriteInFlight) → SuitsFlight call ws → SuitsFlight call (filter test ws)
+fewer_suit call key value is test ws suits = subst (λ c. SuitsFlight c (filter test ws)) (sym is) (by value ws (subst (λ c. SuitsFlight c ws) is suits))
+  where
+    by : (value : Option (List ℕ)) (ws : List WriteInFlight) → SuitsFlight (write_call key value) ws → SuitsFlight (write_call key value) (filter test ws)
+    by value [] s = tt
+    by None (f ∷ []) s = elim (test f) as (λ b. SuitsFlight (calls.Delete key) (cond b (f ∷ []) [])) [ true ↦ s | false ↦ tt ]
+    by (Some what) (f ∷ []) s = elim (test f) as (λ b. SuitsFlight (calls.Put key what) (cond b (f ∷ []) [])) [ true ↦ s | false ↦ tt ]
+    by None (f ∷ g ∷ ws) s = absurd s
+    by (Some what) (f ∷ g ∷ ws) s = absurd s
+
+-- The write of an open call was heard to be written: none is in flight, and the call may be told so. No request met its eighth.
+pub record IsLanded (k : Known) (x : OpenTxn) : Type 0 where
   pub t : Txn
   pub open_in : IsOpenIn k t
   pub stands : TxnStands k [] None t x
+  pub unmissed : MissedNothing x.id k.heard
   pub cause : x.cause ≡ whys.Client
   pub s : Statement
   pub opened : k.statement ≡ Some s
   pub key : List ℕ
   pub value : Option (List ℕ)
   pub call : s.call ≡ write_call key value
-  pub was : (y : OpenTxn) → laying_first ms y ≡ Some (laying y key value)
   pub none_in_flight : x.in_flight ≡ []
-  pub split : IsSplit k
-  pub paced : IsPaced [] k.heard_now
   pub unmet : (r : Request) → MetEighth k r → ⊥
-  pub past : ArePastOrBeside k
   pub beaten : HasBeaten k t
-  pub told : again ≡ false → MayTellWritten k s
-  pub heard : again ≡ false → IsHeardOf false k s t
-  pub next : again ≡ true → WroteNothingNew k s t
+  pub told : MayTellWritten k s
+  pub heard : IsHeardOf false k s t
 
-module _ (session clock count : ℕ) (splits : List (List ℕ)) (k : Known) (x : OpenTxn) (p : Purpose) (ms : List Message) (counted : IsCounted session clock count k) (w : InCall splits k x p ms)
+no_query : (id : TxnId) (r : Request) → goes_beside r ≡ false → is_query_of id r ≡ false
+no_query id (requests.Query other epoch seq ts key by) beside = absurd cc
+no_query id r beside = refl
+
+module _ (session clock count : ℕ) (set : Setting) (k : Known) (x : OpenTxn) (p : Purpose) (ms : List Message) (counted : IsCounted session clock count k) (w : InCall set k x p ms)
     (number : ℕ) (reply : Reply) (h : Heard) (waited : wave_awaits number ms ≡ true) (is : IsHeardTo k number reply h) where
   abbrev k2 : Known
   k2 = known_heard h k
@@ -242,11 +259,11 @@ module _ (session clock count : ℕ) (splits : List (List ℕ)) (k : Known) (x :
   pub found : (m : Message) × (find (awaits_at number) ms ≡ Some m)
   found = found_some (awaits_at number) ms waited
 
-  stands_m : MessageStands k found.0
-  stands_m = found_all (awaits_at number) (MessageStands k) ms found.0 found.1 w.wave.stand
+  stands_m : MessageStands set.course k found.0
+  stands_m = found_all (awaits_at number) (MessageStands set.course k) ms found.0 found.1 w.wave.stand
 
-  pub far : IsOnItsWay k number found.0.request × (found.0.conflicts < MOST_CONFLICTS)
-  far = subst (λ p. IsAsFar k found.0.request found.0.conflicts p) (awaits_as number found.0.progress (found_passes (awaits_at number) ms found.0 found.1)) stands_m.as_far
+  pub far : IsOnItsWay set.course k number found.0.request × (found.0.conflicts < MOST_CONFLICTS)
+  far = subst (λ p. IsAsFar set.course k found.0.request found.0.conflicts p) (awaits_as number found.0.progress (found_passes (awaits_at number) ms found.0 found.1)) stands_m.as_far
 
   pub same_request : h.request ≡ found.0.request
   same_request = same_Some h.request found.0.request (sym is.asked ∙ far.0.out.said)
@@ -257,8 +274,8 @@ module _ (session clock count : ℕ) (splits : List (List ℕ)) (k : Known) (x :
   pub gone : HasMovedOn k k2 [] (h ∷ [])
   gone = record { sent = sym (append-nil k.sent); heard = refl; begun = omega arith; high = omega arith }
 
-  pub wave2 : WaveStands k2 ms2
-  wave2 = wave_heard k k2 ms number reply h w.wave waited is more
+  pub wave2 : WaveStands set.course k2 ms2
+  wave2 = wave_heard set.course k k2 ms number reply h w.wave waited is more
 
   requests2 : map (λ m. m.request) ms2 ≡ map (λ m. m.request) ms
   requests2 = kept_by (awaits_at number) (back_with number reply) (λ (m : Message). m.request) ms (came_request number reply)
@@ -312,15 +329,16 @@ module _ (session clock count : ℕ) (splits : List (List ℕ)) (k : Known) (x :
 
   -- a heartbeat is heard only where that is the purpose
   pub beaten_on : (IsBeatPurpose p → ⊥) → HasBeaten k2 t2
-  beaten_on other = by p other w.beaten (silent splits k w.s w.t x p ms w.serves)
+  beaten_on other = by p other w.beaten (silent set k w.s w.t x p ms w.serves)
     where
       on : All (λ m. IsSilent m.request) ms → HasBeaten k w.t → HasBeaten k2 t2
       on none b = beaten_heard k w.t h w.open_in (subst IsSilent (sym same_request) (found_all (awaits_at number) (λ (m : Message). IsSilent m.request) ms found.0 found.1 none)) b
 
       by : (q : Purpose) → (IsBeatPurpose q → ⊥) → HasBeatenBy q k w.t → AreSilent q ms → HasBeaten k2 t2
       by (purposes.Beat call reading) never b none = absurd (never tt)
+      by (purposes.Prove call) never b none = on none b
       by purposes.Read never b none = on none b
-      by (purposes.Write again) never b none = on none b
+      by purposes.Write never b none = on none b
       by (purposes.Refresh n) never b none = on none b
       by (purposes.Commit n) never b none = on none b
       by (purposes.Abort why) never b none = on none b
@@ -330,8 +348,9 @@ module _ (session clock count : ℕ) (splits : List (List ℕ)) (k : Known) (x :
     where
       by : (q : Purpose) → ((IsBeatPurpose q → ⊥) → HasBeaten k2 t2) → HasBeatenBy q k2 t2
       by (purposes.Beat call reading) on = tt
+      by (purposes.Prove call) on = on (λ is. is)
       by purposes.Read on = on (λ is. is)
-      by (purposes.Write again) on = on (λ is. is)
+      by purposes.Write on = on (λ is. is)
       by (purposes.Refresh n) on = on (λ is. is)
       by (purposes.Commit n) on = on (λ is. is)
       by (purposes.Abort why) on = on (λ is. is)
@@ -342,16 +361,24 @@ module _ (session clock count : ℕ) (splits : List (List ℕ)) (k : Known) (x :
     sent = w.split.sent;
     heard_first = w.split.heard_first;
     heard = ap (λ hs. hs ++ h ∷ []) w.split.heard ∙ append_assoc w.split.heard_first k.heard_now (h ∷ []);
+    unheard = w.split.unheard;
   }
 
+  -- no query of the call's transaction is waited for in a wave
+  pub unmissed2 : MissedNothing x.id k2.heard
+  unmissed2 =
+      none_missed_on x.id k.heard (h ∷ []) w.unmissed
+      (All-cons (λ h. is_query_of x.id h.request ≡ false) h [] (no_query x.id h.request (ap goes_beside same_request ∙ stands_m.no_round)) (All-nil (λ h. is_query_of x.id h.request ≡ false)))
+
   -- the call goes on where the reply leaves its transaction as it is
-  gone_on : t2 ≡ w.t → LeavesAsIs w.t h → out_of p ms2 ≡ out_of p ms → Serves splits k2 w.s w.t x p ms2 → InCall splits k2 x p ms2
+  gone_on : t2 ≡ w.t → LeavesAsIs w.t h → out_of p ms2 ≡ out_of p ms → Serves set k2 w.s w.t x p ms2 → InCall set k2 x p ms2
   gone_on same leaves out serves = record {
     t = w.t;
     open_in = record { others = map (txn_heard k.sent (Some h)) w.open_in.others; is_open = w.open_in.is_open; first = ap (map (txn_heard k.sent (Some h))) w.open_in.first ∙ ap (λ t. t ∷ map (txn_heard k.sent (Some h)) w.open_in.others) same };
     stands =
         subst (λ o. TxnStands k2 [] o w.t x) (sym out)
         (stands_on k k2 [] (out_of p ms) w.t x [] (h ∷ []) w.stands gone (All-nil (λ (m : Sent). IsTrue (is_plain m.request))) (All-cons (LeavesAsIs w.t) h [] leaves (All-nil (LeavesAsIs w.t))));
+    unmissed = unmissed2;
     cause = w.cause;
     s = w.s;
     opened = w.opened;
@@ -382,9 +409,9 @@ module _ (session clock count : ℕ) (splits : List (List ℕ)) (k : Known) (x :
           by later true here = let same : y ≡ found.0 = cc in any_head (λ r. r ≡ h.request) y.request (map (λ (m : Message). m.request) ys) (ap (λ (m : Message). m.request) same ∙ sym same_request)
           by later false f = any_later (λ r. r ≡ h.request) y.request (map (λ (m : Message). m.request) ys) (later f)
 
-  read_serves : ServesRead splits k w.s x ms → ServesRead splits k2 w.s x ms2
+  read_serves : ServesRead set.splits k w.s x ms → ServesRead set.splits k2 w.s x ms2
   read_serves r = record {
-    asked = subst (λ rs. AreReadsOf splits x w.s.call rs) (sym requests2) r.asked;
+    asked = subst (λ rs. AreReadsOf set.splits x w.s.call rs) (sym requests2) r.asked;
     none_in_flight = r.none_in_flight;
     heard = All-push (IsReadFor (map (λ m. m.request) ms2)) k.heard_now h (subst (λ rs. All (IsReadFor rs) k.heard_now) (sym requests2) r.heard) (inr in_requests);
   }
@@ -434,13 +461,21 @@ module _ (session clock count : ℕ) (splits : List (List ℕ)) (k : Known) (x :
       answered_by true e = absurd cc
       answered_by false e = record { asked = sym same_request; met = ap unrefreshed_by (sym is.told) }
 
+  -- none of its writes was missed
+  none_below : (key : List ℕ) (seq at ts : ℕ) → WasMissedAt k.heard w.t.id w.t.epoch key seq ts → ts < at
+  none_below key seq at ts was = absurd (none_missed w.t.id k.heard w.t.epoch key seq ts (subst (λ id. MissedNothing id k.heard) (ap (λ x. x.id) w.stands.same) w.unmissed) was)
+
   first_back : (m : Sent) → IsFirstPut k2 w.s w.t m → IsFirstPut k w.s w.t m
   first_back m f = record { seq = f.seq; key = f.key; value = f.value; asked = f.asked; put = f.put; first = f.first }
 
   new_on : All (λ m. IsFirstPut k w.s w.t m → ⊥) k.sent_now → All (λ m. IsFirstPut k2 w.s w.t m → ⊥) k.sent_now
   new_on a = All-weaker (λ m. IsFirstPut k w.s w.t m → ⊥) (λ m. IsFirstPut k2 w.s w.t m → ⊥) (λ m none f. none (first_back m f)) k.sent_now a
 
-  module _ (again : Bool) (e : p ≡ purposes.Write again) (r : ServesWrite again k w.s w.t x ms) where
+  -- what was heard moves no stage or commit, where this reply does not
+  no_move_on : All IsNoMove k.heard_now → IsNoMove h → All IsNoMove k2.heard_now
+  no_move_on still one = All-push IsNoMove k.heard_now h still one
+
+  module _ (e : p ≡ purposes.Write) (r : ServesWrite k w.s w.t x ms) where
     out_is : out_of p ms ≡ None
     out_is = ap (λ q. out_of q ms) e
 
@@ -463,7 +498,7 @@ module _ (session clock count : ℕ) (splits : List (List ℕ)) (k : Known) (x :
     ms2_is = ap (first_changed (awaits_at number) (back_with number reply)) r.one ∙ ap (λ b. cond b (back_with number reply r.m ∷ []) (r.m ∷ [])) at_number
 
     module _ (conflict : is_conflict reply ≡ true) where
-      lays_on : LaysNext k w.s w.t x r.key r.value again r.m ⊎ LaysLast k w.s w.t x r.key r.value again r.m → InCall splits k2 x p ms2
+      lays_on : LaysNext k w.s w.t x r.key r.value r.m ⊎ LaysLast k w.t x r.key r.value r.m → InCall set k2 x p ms2
       lays_on (inl l) = let f : false ≡ true = ap (progress_awaits number) (sym l.to_send) ∙ at_number in absurd cc
       lays_on (inr l) =
           let said : h.request ≡ own_put x l.anchor l.w = same_request ∙ sym (ap (λ (m : Message). m.request) is_m) ∙ l.said in
@@ -484,12 +519,13 @@ module _ (session clock count : ℕ) (splits : List (List ℕ)) (k : Known) (x :
             unrefuted = λ s whose. ap (is_write_refuted s h.request) is.told ∙ ap (λ q. is_write_refuted s q reply) said ∙ conflict_refutes s reply meta l.w.seq x.write_ts l.w.key l.w.value conflict;
           } in
           gone_on same leaves (ap (λ q. out_of q ms2) e ∙ sym out_is)
-          (subst (λ q. Serves splits k2 w.s w.t x q ms2) (sym e) (record {
+          (subst (λ q. Serves set k2 w.s w.t x q ms2) (sym e) (record {
             key = r.key;
             value = r.value;
             call = r.call;
             m = back_with number reply r.m;
             one = ms2_is;
+            unmoved = no_move_on r.unmoved (ap (λ q. is_moved q h.reply) said);
             lays = inr (record {
               w = l.w;
               in_flight = l.in_flight;
@@ -499,19 +535,14 @@ module _ (session clock count : ℕ) (splits : List (List ℕ)) (k : Known) (x :
               anchored = l.anchored;
               said = came_request number reply r.m ∙ l.said;
               first = l.first;
-              old = λ f. new_on (l.old f);
-              before = l.before;
             });
           }))
 
-      write_on : InCall splits k2 x p ms2
+      write_on : InCall set k2 x p ms2
       write_on = lays_on r.lays
 
     few_m : found.0.conflicts < MOST_CONFLICTS
     few_m = far.1
-
-    came_back : is_conflict reply ≡ false → IsSentOnceMore (back_with number reply r.m)
-    came_back plain = subst (λ b. IsSentOnceMore (back_with_by b number reply r.m)) (sym plain) refl
 
     unmet1 : (q : Request) → MetEighth k q → ⊥
     unmet1 =
@@ -529,7 +560,7 @@ module _ (session clock count : ℕ) (splits : List (List ℕ)) (k : Known) (x :
       low : at ≤ k2.high
       low = let f : greatest_of (reply_stamps h.reply) ≡ max 0 at = ap (λ y. greatest_of (reply_stamps y)) (is.told ∙ written) in omega (arith, f)
 
-      landed : LaysNext k w.s w.t x r.key r.value again r.m ⊎ LaysLast k w.s w.t x r.key r.value again r.m → IsLanded ms again k2 (landed_first ms at h.step x)
+      landed : LaysNext k w.s w.t x r.key r.value r.m ⊎ LaysLast k w.t x r.key r.value r.m → IsLanded k2 (landed_first ms at h.step x)
       landed (inl l) = let f : false ≡ true = ap (progress_awaits number) (sym l.to_send) ∙ at_number in absurd cc
       landed (inr l) =
           let f : WriteInFlight = l.w in
@@ -542,71 +573,276 @@ module _ (session clock count : ℕ) (splits : List (List ℕ)) (k : Known) (x :
           let made : landed_first ms at h.step x ≡ landed_at f.key f.seq at h.step x = ap (λ ms. landed_first ms at h.step x) r.one ∙ ap (λ q. landed_with q at h.step x) l.said in
           let stands2 : TxnStands k2 [] None t2 (landed_first ms at h.step x) =
           subst (TxnStands k2 [] None t2) (sym made)
-          (put_landed k [] None w.t x st f there k2 h meta x.write_ts at f.value (ap (λ x. x.id) st.same) (ap (λ x. x.epoch) st.same) said (is.told ∙ written) gone low) in
+          (put_landed k [] None w.t x st f there k2 h meta x.write_ts at f.value (ap (λ x. x.id) st.same) (ap (λ x. x.epoch) st.same) said (is.told ∙ written) (none_below f.key f.seq at) gone low) in
           let id : t2.id ≡ w.t.id = ap (λ t. t.id) same in
           let epoch : t2.epoch ≡ w.t.epoch = ap (λ t. t.epoch) same in
           let own_id : x.id ≡ w.t.id = ap (λ x. x.id) st.same in
           let own_epoch : x.epoch ≡ w.t.epoch = ap (λ x. x.epoch) st.same in
           let opened2 : IsOpenIn k2 t2 = record { others = map (txn_heard k.sent (Some h)) w.open_in.others; is_open = w.open_in.is_open; first = ap (map (txn_heard k.sent (Some h))) w.open_in.first } in
           let out : Any (IsMessageAt number found.0.request) k.sent_now = far.0.out.now in
-          let first : again ≡ false → IsFirstPut k2 w.s t2 out.1 = λ own. record {
+          let first : IsFirstPut k2 w.s t2 out.1 = record {
             seq = f.seq;
             key = r.key;
             value = r.value;
             asked = asks_for w.s r.key r.value r.call;
             put = subst (λ q. IsPutFor t2 r.key r.value f.seq q) (sym (out.4.asked ∙ sym same_request ∙ said)) (own_id ∙ sym id, own_epoch ∙ sym epoch, refl, l.place, l.what);
-            first = not_false (first_by t2 w.t f.seq (sent_before k) id epoch (l.first own));
+            first = not_false (first_by t2 w.t f.seq (sent_before k) id epoch l.first);
           } in
           record {
             t = t2;
             open_in = opened2;
             stands = stands2;
+            unmissed = subst (λ id. MissedNothing id k2.heard) (sym (ap (λ x. x.id) made)) unmissed2;
             cause = ap (λ x. x.cause) made ∙ w.cause;
             s = w.s;
             opened = w.opened;
             key = r.key;
             value = r.value;
             call = r.call;
-            was = λ y. ap (λ ms. laying_first ms y) r.one ∙ ap (λ q. laying_as q y) l.said ∙ ap (λ key. Some (laying y key f.value)) l.place ∙ ap (λ value. Some (laying y r.key value)) l.what;
             none_in_flight = ap (λ x. x.in_flight) made ∙ ap (filter (is_another f.key f.seq)) l.in_flight ∙ gone_from f;
-            split = split2;
-            paced = record { pushes = λ id. let a = paced2.pushes id in omega arith; behind = paced2.behind };
             unmet = unmet2 (ap is_conflict (is.told ∙ written));
-            past = all_past k2 ms2 wave2 done2 (subst (λ ms. All IsSentOnceMore ms) (sym ms2_is) (All-cons IsSentOnceMore (back_with number reply r.m) [] (came_back (ap is_conflict written)) (All-nil IsSentOnceMore)));
             beaten = beaten_on (λ beat. subst IsBeatPurpose e beat);
-            told = λ own. record { t = t2; opened = open_is k2 t2 opened2; sent = (out.0, out.1, out.2, out.3, first own) };
-            heard = λ own.
+            told = record { t = t2; opened = open_is k2 t2 opened2; sent = (out.0, out.1, out.2, out.3, first) };
+            heard =
                 any_last (λ h. IsToOwnPut k2 w.s t2 h × IsTrue (is_written h.reply)) k.heard_now h
-                (record { m = out.1; sent = (out.0, out.2, out.3); own = first own; to = is.numbered ∙ sym out.4.numbered }, ap is_written (is.told ∙ written));
-            next = λ old. All-weaker (λ m. IsFirstPut k w.s w.t m → ⊥) (λ m. IsFirstPut k2 w.s t2 m → ⊥)
-                (λ m none f. none (record {
-                  seq = f.seq;
-                  key = f.key;
-                  value = f.value;
-                  asked = f.asked;
-                  put = put_back t2 w.t id epoch f.key f.value f.seq m.request f.put;
-                  first = subst (λ b. IsTrue (not b)) (first_same t2 w.t f.seq (sent_before k) id epoch) f.first;
-                })) k.sent_now (l.old old);
+                (record { m = out.1; sent = (out.0, out.2, out.3); own = first; to = is.numbered ∙ sym out.4.numbered }, ap is_written (is.told ∙ written));
           }
 
-      write_landed : IsLanded ms again k2 (landed_first ms at h.step x)
+      write_landed : IsLanded k2 (landed_first ms at h.step x)
       write_landed = landed r.lays
 
-  heard_by : (q : Purpose) → p ≡ q → Serves splits k w.s w.t x q ms → GoesOn q reply → InCall splits k2 x p ms2
+  -- ---- a write of an earlier call
+
+  module _ (call : Call) (e : p ≡ purposes.Prove call) (r : ServesProve call k w.s w.t x ms) where
+    prove_none : out_of p ms ≡ None
+    prove_none = ap (λ q. out_of q ms) e
+
+    prove_st : TxnStands k [] None w.t x
+    prove_st = subst (λ o. TxnStands k [] o w.t x) prove_none w.stands
+
+    own : SendsAgain call k w.t x found.0
+    own = found_all (awaits_at number) (SendsAgain call k w.t x) ms found.0 found.1 r.again
+
+    own_sent : found.0.progress ≡ progresses.Sent number
+    own_sent = awaits_as number found.0.progress (found_passes (awaits_at number) ms found.0 found.1)
+
+    flies : Contains x.in_flight own.w
+    flies = own.there (ap progress_has_answer own_sent)
+
+    own_said : h.request ≡ put_at x own.anchor own.ts own.w
+    own_said = same_request ∙ own.said
+
+    own_asked : WasAskedAt w.t own.w.seq own.ts
+    own_asked = elim own.goes_at [ inl now ↦ let f : false ≡ true = sym (ap progress_to_send own_sent) ∙ now.0 in absurd cc | inr was ↦ was ]
+
+    module _ (conflict : is_conflict reply ≡ true) where
+      met_same : t2 ≡ w.t
+      met_same =
+          ap (λ q. txn_heard k.sent (Some (record { number = h.number; request = q; reply = h.reply; step = h.step })) w.t) own_said
+          ∙ ap (λ y. txn_heard k.sent (Some (record { number = h.number; request = put_at x own.anchor own.ts own.w; reply = y; step = h.step })) w.t) is.told
+          ∙ conflict_heard w.t k.sent h.number h.step reply (meta_now x own.anchor) own.w.seq own.ts own.w.key own.w.value conflict
+
+      met_put : PutsUpTo w.t (last_seq_of w.t.writes) (put_at x own.anchor own.ts own.w)
+      met_put =
+          subst (λ y. PutsUpTo w.t (last_seq_of w.t.writes) (put_at y own.anchor own.ts own.w)) (sym prove_st.same)
+          (puts-one w.t own.w.seq (last_seq_of w.t.writes) (put_at (opened_as x.shown x.cause x.reads.spans x.in_flight x.staging w.t) own.anchor own.ts own.w)
+          (puts-own (meta_of w.t own.anchor) own.w.seq own.ts own.w.key own.w.value) (seq_low k [] None w.t x prove_st own.w flies))
+
+      met_leaves : LeavesAsIs w.t h
+      met_leaves = record {
+        other = ap (is_about w.t.id) own_said;
+        put = subst (PutsUpTo w.t (last_seq_of w.t.writes)) (sym own_said) met_put;
+        unwritten = λ seq put. ap is_written is.told ∙ conflict_unwritten reply conflict;
+        unrefuted = λ s whose. ap (is_write_refuted s h.request) is.told ∙ ap (λ q. is_write_refuted s q reply) own_said ∙ conflict_refutes s reply (meta_now x own.anchor) own.w.seq own.ts own.w.key own.w.value conflict;
+      }
+
+      met_own : SendsAgain call k w.t x found.0 → SendsAgain call k2 w.t x (back_with number reply found.0)
+      met_own a =
+          subst (λ b. SendsAgain call k2 w.t x (back_with_by b number reply found.0)) (sym conflict) (record {
+            w = own.w;
+            waits = own.waits;
+            before = own.before;
+            anchor = own.anchor;
+            anchored = own.anchored;
+            ts = own.ts;
+            said = own.said;
+            low = own.low;
+            goes_at = inr own_asked;
+            there = λ none. flies;
+          })
+
+      met_other : (y : Message) → AreOfTwo y found.0 ⊎ AreOfTwo found.0 y → SendsAgain call k w.t x y → SendsAgain call k2 w.t x y
+      met_other y apart a = record {
+        w = a.w;
+        waits = a.waits;
+        before = a.before;
+        anchor = a.anchor;
+        anchored = a.anchored;
+        ts = a.ts;
+        said = a.said;
+        low = a.low;
+        goes_at = a.goes_at;
+        there = a.there;
+      }
+
+      met_open : (f : WriteInFlight) (y : Message) → IsOpenFor f y → IsOpenFor f (back_with number reply y)
+      met_open f y goes = ((goes.0.0, goes.0.1, came_request number reply y ∙ goes.0.2), subst (λ b. has_answer (back_with_by b number reply y) ≡ false) (sym conflict) refl)
+
+      prove_met : InCall set k2 x p ms2
+      prove_met =
+          gone_on met_same met_leaves (ap (λ q. out_of q ms2) e ∙ sym prove_none)
+          (subst (λ q. Serves set k2 w.s w.t x q ms2) (sym e) (record {
+            key = r.key;
+            value = r.value;
+            writes = r.writes;
+            asked = r.asked;
+            suits = r.suits;
+            again = all_changed AreOfTwo (awaits_at number) (back_with number reply) (SendsAgain call k w.t x) (SendsAgain call k2 w.t x) found.0 met_own met_other ms found.1 w.wave.differ r.again;
+            each =
+                All-weaker (λ f. depends_on call f.key ≡ true → Any (IsOpenFor f) ms) (λ f. depends_on call f.key ≡ true → Any (IsOpenFor f) ms2)
+                (λ f some waits. any_goes_on (awaits_at number) (back_with number reply) (IsOpenFor f) (λ y at goes. met_open f y goes) ms (some waits)) x.in_flight r.each;
+            new = new_on r.new;
+            unmoved = no_move_on r.unmoved (ap (λ q. is_moved q h.reply) own_said);
+          }))
+
+    module _ (at : ℕ) (written : reply ≡ replies.Written at) (whole : All (λ m. is_to_send m ≡ false) ms) where
+      abbrev x2 : OpenTxn
+      x2 = landed_at own.w.key own.w.seq at h.step x
+
+      made_so : landed_awaited number ms at h.step x ≡ x2
+      made_so = ap (λ o. landed_by o at h.step x) found.1 ∙ ap (λ q. landed_with q at h.step x) own.said
+
+      low_then : at ≤ k2.high
+      low_then = let f : greatest_of (reply_stamps h.reply) ≡ max 0 at = ap (λ y. greatest_of (reply_stamps y)) (is.told ∙ written) in omega (arith, f)
+
+      stands_then : TxnStands k2 [] None t2 x2
+      stands_then =
+          put_landed k [] None w.t x prove_st own.w flies k2 h (meta_now x own.anchor) own.ts at own.w.value (ap (λ x. x.id) prove_st.same) (ap (λ x. x.epoch) prove_st.same) own_said (is.told ∙ written) (none_below own.w.key own.w.seq at) gone low_then
+
+      risen : w.t.write_ts ≤ t2.write_ts
+      risen = let up : w.t.write_ts ≤ max w.t.write_ts (raised_to w.t.id k.sent h.request h.reply) = omega arith in up
+
+      own_then : (SendsAgain call k w.t x found.0) × (is_to_send found.0 ≡ false) → SendsAgain call k2 t2 x2 (back_with number reply found.0)
+      own_then a =
+          subst (λ b. SendsAgain call k2 t2 x2 (back_with_by b number reply found.0)) (sym (ap is_conflict written)) (record {
+            w = own.w;
+            waits = own.waits;
+            before = own.before;
+            anchor = own.anchor;
+            anchored = own.anchored;
+            ts = own.ts;
+            said = own.said;
+            low = omega (arith, own.low, risen);
+            goes_at = inr (asked_heard own.w.seq own.ts w.t k.sent h own_asked);
+            there = λ none. absurd cc;
+          })
+
+      -- the writes of the other messages are others
+      apart_seq : (y : Message) → AreOfTwo y found.0 ⊎ AreOfTwo found.0 y → (a : SendsAgain call k w.t x y) → a.w.seq ≡ own.w.seq → ⊥
+      apart_seq y apart a same =
+          let one : IsSameRequest y.request found.0.request =
+          subst (λ q. IsSameRequest q found.0.request) (sym a.said) (subst (λ q. IsSameRequest (put_at x a.anchor a.ts a.w) q) (sym own.said) (inr (refl, refl, same))) in
+          let back : IsSameRequest found.0.request y.request =
+          subst (λ q. IsSameRequest q y.request) (sym own.said) (subst (λ q. IsSameRequest (put_at x own.anchor own.ts own.w) q) (sym a.said) (inr (refl, refl, sym same))) in
+          elim apart [ inl two ↦ two.differ one | inr two ↦ two.differ back ]
+
+      abbrev test : WriteInFlight → Bool
+      test f = is_another own.w.key own.w.seq f
+
+      other_then : (y : Message) → AreOfTwo y found.0 ⊎ AreOfTwo found.0 y → (SendsAgain call k w.t x y) × (is_to_send y ≡ false) → SendsAgain call k2 t2 x2 y
+      other_then y apart both =
+          let a : SendsAgain call k w.t x y = both.0 in
+          let another : test a.w ≡ true = ap (λ b. not (b && same_key a.w.key own.w.key)) (ne_eqb a.w.seq own.w.seq (apart_seq y apart a)) in
+          record {
+            w = a.w;
+            waits = a.waits;
+            before = a.before;
+            anchor = a.anchor;
+            anchored = a.anchored;
+            ts = a.ts;
+            said = a.said;
+            low = omega (arith, a.low, risen);
+            goes_at = elim a.goes_at [ inl now ↦ let f : false ≡ true = sym both.1 ∙ now.0 in absurd cc | inr was ↦ inr (asked_heard a.w.seq a.ts w.t k.sent h was) ];
+            there = λ none. contains_in_filter test x.in_flight a.w (a.there none) another;
+          }
+
+      not_open : (f : WriteInFlight) → test f ≡ true → IsOpenFor f found.0 → ⊥
+      not_open f another goes =
+          let same : requests.Put goes.0.0 f.seq goes.0.1 f.key f.value ≡ put_at x own.anchor own.ts own.w = sym goes.0.2 ∙ own.said in
+          let seq : f.seq ≡ own.w.seq = cc in
+          let key : f.key ≡ own.w.key = cc in
+          let hit : not (f.seq == own.w.seq && same_key f.key own.w.key) ≡ false = ap not (and_from (f.seq == own.w.seq) (same_key f.key own.w.key) (eq-eqb f.seq own.w.seq seq) (same_key-equal f.key own.w.key key)) in
+          let none : false ≡ true = sym hit ∙ another in
+          absurd cc
+
+      each_then : (f : WriteInFlight) → Contains (filter test x.in_flight) f → depends_on call f.key ≡ true → Any (IsOpenFor f) ms2
+      each_then f there waits =
+          let g = contains_filter test x.in_flight f there in
+          any_other (awaits_at number) (back_with number reply) (IsOpenFor f) found.0 (not_open f g.1) ms found.1
+          (All-contains (λ f. depends_on call f.key ≡ true → Any (IsOpenFor f) ms) x.in_flight f r.each g.0 waits)
+
+      first_then : (m : Sent) → IsFirstPut k2 w.s t2 m → IsFirstPut k w.s w.t m
+      first_then m f = record {
+        seq = f.seq;
+        key = f.key;
+        value = f.value;
+        asked = f.asked;
+        put = put_back t2 w.t refl refl f.key f.value f.seq m.request f.put;
+        first = f.first;
+      }
+
+      prove_landed : InCall set k2 x2 p ms2
+      prove_landed = record {
+        t = t2;
+        open_in = record { others = map (txn_heard k.sent (Some h)) w.open_in.others; is_open = w.open_in.is_open; first = ap (map (txn_heard k.sent (Some h))) w.open_in.first };
+        stands = subst (λ q. TxnStands k2 [] (out_of q ms2) t2 x2) (sym e) stands_then;
+        unmissed = unmissed2;
+        cause = w.cause;
+        s = w.s;
+        opened = w.opened;
+        split = split2;
+        wave = wave2;
+        paced = paced2;
+        fewer = fewer2;
+        done = done2;
+        beaten = beaten2;
+        serves = subst (λ q. Serves set k2 w.s t2 x2 q ms2) (sym e) (record {
+          key = r.key;
+          value = r.value;
+          writes = r.writes;
+          asked = r.asked;
+          suits = fewer_suit call r.key r.value r.writes test x.in_flight r.suits;
+          again =
+              all_changed AreOfTwo (awaits_at number) (back_with number reply) (λ y. SendsAgain call k w.t x y × (is_to_send y ≡ false)) (SendsAgain call k2 t2 x2) found.0 own_then other_then ms found.1 w.wave.differ
+              (all_with (SendsAgain call k w.t x) (λ y. is_to_send y ≡ false) ms r.again whole);
+          each = all_from_contains (λ f. depends_on call f.key ≡ true → Any (IsOpenFor f) ms2) (filter test x.in_flight) each_then;
+          new = All-weaker (λ m. IsFirstPut k w.s w.t m → ⊥) (λ m. IsFirstPut k2 w.s t2 m → ⊥) (λ m none f. none (first_then m f)) k.sent_now r.new;
+          unmoved = no_move_on r.unmoved (ap (λ q. is_moved q h.reply) own_said);
+        });
+      }
+
+  heard_by : (q : Purpose) → p ≡ q → Serves set k w.s w.t x q ms → GoesOn q reply → InCall set k2 x p ms2
   heard_by (purposes.Beat call reading) e r on = absurd on
+  heard_by (purposes.Prove call) e r on = prove_met call e r on
   heard_by purposes.Read e r on =
-      let still : is_still h.request ≡ true = of_request (λ r. is_still r ≡ true) (reads_still splits x w.s.call (map (λ m. m.request) ms) r.asked) in
-      gone_on (still_same still) (still_leaves still) (ap (λ q. out_of q ms2) e ∙ sym (ap (λ q. out_of q ms) e)) (subst (λ q. Serves splits k2 w.s w.t x q ms2) (sym e) (read_serves r))
-  heard_by (purposes.Write again) e r on = write_on again e r on
+      let still : is_still h.request ≡ true = of_request (λ r. is_still r ≡ true) (reads_still set.splits x w.s.call (map (λ m. m.request) ms) r.asked) in
+      gone_on (still_same still) (still_leaves still) (ap (λ q. out_of q ms2) e ∙ sym (ap (λ q. out_of q ms) e)) (subst (λ q. Serves set k2 w.s w.t x q ms2) (sym e) (read_serves r))
+  heard_by purposes.Write e r on = write_on e r on
   heard_by (purposes.Refresh n) e r on =
       let still : is_still h.request ≡ true = of_request (λ r. is_still r ≡ true) (refreshes_still x (map (λ m. m.request) ms) r.asked) in
-      gone_on (still_same still) (still_leaves still) (ap (λ q. out_of q ms2) e ∙ sym (ap (λ q. out_of q ms) e)) (subst (λ q. Serves splits k2 w.s w.t x q ms2) (sym e) (refresh_serves n still r))
+      gone_on (still_same still) (still_leaves still) (ap (λ q. out_of q ms2) e ∙ sym (ap (λ q. out_of q ms) e)) (subst (λ q. Serves set k2 w.s w.t x q ms2) (sym e) (refresh_serves n still r))
   heard_by (purposes.Commit n) e r on = absurd on
   heard_by (purposes.Abort why) e r on = absurd on
 
-  pub call_heard : GoesOn p reply → InCall splits k2 x p ms2
+  pub call_heard : GoesOn p reply → InCall set k2 x p ms2
   call_heard on = heard_by p refl w.serves on
 
   -- its write was written
-  pub call_written : (again : Bool) (at : ℕ) → p ≡ purposes.Write again → reply ≡ replies.Written at → IsLanded ms again k2 (landed_first ms at h.step x)
-  call_written again at e written = write_landed again e (subst (λ q. Serves splits k w.s w.t x q ms) e w.serves) at written
+  pub call_written : (at : ℕ) → p ≡ purposes.Write → reply ≡ replies.Written at → IsLanded k2 (landed_first ms at h.step x)
+  call_written at e written = write_landed e (subst (λ q. Serves set k w.s w.t x q ms) e w.serves) at written
+
+  -- so was one that it proves
+  pub call_proved : (call : Call) (at : ℕ) → p ≡ purposes.Prove call → reply ≡ replies.Written at → All (λ m. is_to_send m ≡ false) ms → InCall set k2 (landed_awaited number ms at h.step x) p ms2
+  call_proved call at e written whole =
+      let r : ServesProve call k w.s w.t x ms = subst (λ q. Serves set k w.s w.t x q ms) e w.serves in
+      subst (λ y. InCall set k2 y p ms2) (sym (made_so call e r at written whole)) (prove_landed call e r at written whole)

@@ -1,9 +1,10 @@
 -- A call shows first that its transaction is alive: its heartbeat is to be sent, and is heard.
-use Rattle.std.proofs.Common.{◌≡◌, ◌≢◌, ℕ, zero, suc, ◌+◌, ◌≤◌, nat_le, max, Bool, true, false, ◌&&◌, ◌==◌, inl, is_some, List, [], ◌∷◌, ◌++◌, map, Some, None, refl, sym, ap, ◌∙◌, subst, arith, All, Any, IsTrue}
+use Rattle.std.proofs.Common.{◌≡◌, ◌≢◌, ℕ, zero, suc, ◌+◌, ◌≤◌, nat_le, max, Bool, true, false, ◌&&◌, ◌==◌, inl, is_some, List, [], ◌∷◌, ◌++◌, map, Some, None, refl, sym, ap, ◌∙◌, subst, arith, All, Any, IsTrue, ◌⊎◌}
 use Rattle.std.proofs.lemmas.Bool.{and_parts, eq-eqb, le-leb, leb-true}
 use Rattle.std.proofs.lemmas.List.Elements.{All-cons, All-head, All-nil, All-tail, All-weaker}
 use Rattle.std.proofs.lemmas.List.{append-nil}
 use Rattle.std.proofs.lemmas.Option.{same_Some}
+use Rattle.pc_call.specs.Setting.{Setting}
 use Rattle.pc_base.specs.declared.limits.TheConstants.{HEARTBEAT, MOST_CONFLICTS, MOST_REFUSALS}
 use Rattle.pc_base.specs.Transaction.{same_txn}
 use Rattle.pc_call.proofs.Beating.{not_aborted}
@@ -13,7 +14,7 @@ use Rattle.pc_call.proofs.Closing.{closing-left, closing-may, opened3}
 use Rattle.pc_call.proofs.Decided.{one_out}
 use Rattle.pc_call.proofs.Ending.{EndsWith, IsFinalAs, final_aborted}
 use Rattle.pc_call.proofs.Facts.{open_is}
-use Rattle.pc_call.proofs.Hearing.{far, found, gone, one_asked, same_request, split2}
+use Rattle.pc_call.proofs.Hearing.{far, found, gone, one_asked, same_request, split2, unmissed2}
 use Rattle.pc_call.proofs.Told.{may_tell, still_open}
 use Rattle.pc_call.specs.Alive.{GoesOnAlive}
 use Rattle.pc_call.specs.declared.purpose.Purpose.{Purpose}
@@ -59,6 +60,7 @@ use Rattle.pc_world.specs.Known.Traffic.{Heard, Sent}
 use Rattle.pc_world.specs.Known.Transactions.{Txn, txn_heard}
 use Rattle.pc_world.specs.MayTell.{is_past_range}
 use Rattle.pc_world.specs.SameRequest.{IsSameRequest}
+use Rattle.pc_world.specs.StageFate.{IsLate}
 use Rattle.pc_world.specs.Send.Abort.{own_cause}
 use Rattle.pc_world.specs.Tell.Refusal.{IsConflictOf, MayBlock, WasMoved, is_heard}
 use Rattle.pc_world.specs.Views.{ShowsAborted}
@@ -87,6 +89,7 @@ module _ (k : Known) (x : OpenTxn) (call : Call) (reading : ℕ) (why : Why) (f 
     sent = sym (append-nil k.sent) ∙ ap (λ ms. k.sent ++ ms) (sym f.none_sent);
     heard_first = k.heard;
     heard = sym (append-nil k.heard) ∙ ap (λ hs. k.heard ++ hs) (sym f.none_heard);
+    unheard = nothing_sent (λ m. IsTrue (goes_beside m.request) ⊎ (is_heard k.heard m ≡ false));
   }
 
   shown_is : x.shown ≡ last_shown f.t k.sent
@@ -109,6 +112,7 @@ module _ (k : Known) (x : OpenTxn) (call : Call) (reading : ℕ) (why : Why) (f 
     t = f.t;
     open_in = f.open_in;
     stands = f.stands;
+    unmissed = f.unmissed;
     client = f.client;
     cause = f.cause;
     low = f.low;
@@ -133,11 +137,11 @@ module _ (k : Known) (x : OpenTxn) (call : Call) (reading : ℕ) (why : Why) (f 
       fresh_so (λ d. aside (subst MayBlock (sym (ap (λ (s : Statement). s.call) (same_Some (record { call = call; reading = reading }) d.s (sym f.opened ∙ d.opened)))) d.asks))
 
   -- else its heartbeat is to be sent
-  pub beat_begins : (splits : List (List ℕ)) (anchor : List ℕ) → MayBlock call → SuitsFlight call x.in_flight → is_silent reading x ≡ true → x.anchor ≡ Some anchor → InCall splits k x (purposes.Beat call reading) (message_to_send (own_beat x reading anchor) ∷ [])
-  beat_begins splits anchor asks suits silent anchored =
+  pub beat_begins : (set : Setting) (anchor : List ℕ) → MayBlock call → SuitsFlight call x.in_flight → is_silent reading x ≡ true → x.anchor ≡ Some anchor → InCall set k x (purposes.Beat call reading) (message_to_send (own_beat x reading anchor) ∷ [])
+  beat_begins set anchor asks suits silent anchored =
       let beat = own_beat x reading anchor in
       let own : f.t.anchor ≡ Some anchor = sym (ap (λ x. x.anchor) f.stands.same) ∙ anchored in
-      begins_so k f.t x (record { call = call; reading = reading }) f.open_in f.stands f.client f.opened split_asked (nothing_heard ShowsAlive) splits (purposes.Beat call reading) (beat ∷ [])
+      begins_so k f.t x (record { call = call; reading = reading }) f.open_in f.stands f.unmissed f.client f.opened split_asked (nothing_heard ShowsAlive) set (purposes.Beat call reading) (beat ∷ [])
       (All-cons (λ r. goes_beside r ≡ false) beat [] refl (All-nil (λ r. goes_beside r ≡ false)))
       (All-cons (λ r. All (λ m. IsSameRequest r m.request → ⊥) k.sent_now) beat [] (nothing_sent (λ m. IsSameRequest beat m.request → ⊥)) (All-nil (λ r. All (λ m. IsSameRequest r m.request → ⊥) k.sent_now)))
       (All-nil (AreTwo beat), tt) refl tt
@@ -173,7 +177,7 @@ module _ (k : Known) (x : OpenTxn) (call : Call) (reading : ℕ) (why : Why) (f 
           let l : x.shown + HEARTBEAT ≤ reading = leb-true (x.shown + HEARTBEAT) reading test in
           omega (arith, l, shown_is)
 
-module _ (session clock count : ℕ) (splits : List (List ℕ)) (k : Known) (x : OpenTxn) (p : Purpose) (ms : List Message) (counted : IsCounted session clock count k) (w : InCall splits k x p ms)
+module _ (session clock count : ℕ) (set : Setting) (k : Known) (x : OpenTxn) (p : Purpose) (ms : List Message) (counted : IsCounted session clock count k) (w : InCall set k x p ms)
     (number : ℕ) (view : View) (h : Heard) (waited : wave_awaits number ms ≡ true) (is : IsHeardTo k number (replies.Status view) h) (call : Call) (reading : ℕ) (e : p ≡ purposes.Beat call reading) where
   abbrev k2 : Known
   k2 = known_heard h k
@@ -182,7 +186,7 @@ module _ (session clock count : ℕ) (splits : List (List ℕ)) (k : Known) (x :
   t2 = txn_heard k.sent (Some h) w.t
 
   abbrev b : ServesBeat call reading k w.s w.t x ms
-  b = subst (λ q. Serves splits k w.s w.t x q ms) e w.serves
+  b = subst (λ q. Serves set k w.s w.t x q ms) e w.serves
 
   st : TxnStands k [] None w.t x
   st = subst (λ o. TxnStands k [] o w.t x) (ap (λ q. out_of q ms) e) w.stands
@@ -191,7 +195,7 @@ module _ (session clock count : ℕ) (splits : List (List ℕ)) (k : Known) (x :
   out = one_out number b.m (subst (λ ms. wave_awaits number ms ≡ true) b.one waited)
 
   said : h.request ≡ own_beat x reading b.anchor
-  said = one_asked session clock count splits k x p ms counted w number (replies.Status view) h waited is b.m b.one ∙ b.said
+  said = one_asked session clock count set k x p ms counted w number (replies.Status view) h waited is b.m b.one ∙ b.said
 
   same_id : x.id ≡ w.t.id
   same_id = ap (λ x. x.id) w.stands.same
@@ -221,13 +225,13 @@ module _ (session clock count : ℕ) (splits : List (List ℕ)) (k : Known) (x :
 
   beats_heard : AreBeatsHeard k2
   beats_heard =
-      let way = far session clock count splits k x p ms counted w number (replies.Status view) h waited is in
+      let way = far session clock count set k x p ms counted w number (replies.Status view) h waited is in
       all_both (λ (s : Sent). s.request ≡ own_beat x reading b.anchor) (λ s. IsSameRequest b.m.request s.request → s.number ≢ number → IsTrue (is_heard k.heard_now s)) (λ s. IsTrue (is_heartbeat s.request) → IsTrue (is_heard k2.heard s))
       (λ s same rest beat. heard_now s same rest) k.sent_now b.sent
       (subst (λ r. All (λ s. IsSameRequest r s.request → s.number ≢ number → IsTrue (is_heard k.heard_now s)) k.sent_now) found_is way.0.rest)
     where
-      found_is : (found session clock count splits k x p ms counted w number (replies.Status view) h waited is).0.request ≡ b.m.request
-      found_is = sym (same_request session clock count splits k x p ms counted w number (replies.Status view) h waited is) ∙ one_asked session clock count splits k x p ms counted w number (replies.Status view) h waited is b.m b.one
+      found_is : (found session clock count set k x p ms counted w number (replies.Status view) h waited is).0.request ≡ b.m.request
+      found_is = sym (same_request session clock count set k x p ms counted w number (replies.Status view) h waited is) ∙ one_asked session clock count set k x p ms counted w number (replies.Status view) h waited is b.m b.one
 
   heard_one : k2.heard_now ≡ h ∷ []
   heard_one = ap (λ hs. hs ++ h ∷ []) b.unheard
@@ -254,12 +258,13 @@ module _ (session clock count : ℕ) (splits : List (List ℕ)) (k : Known) (x :
         open_in = open2;
         stands =
             beat_heard k k2 [] None w.t x (meta_now x b.anchor) x.write_ts reading (views.Pending epoch recorded) recorded h st same_id b.anchored said told refl refl (λ epoch at staging. absurd cc) (λ at staging. absurd cc)
-            (gone session clock count splits k x p ms counted w number (replies.Status view) h waited is) low;
+            (All-nil (IsLate k.heard)) (gone session clock count set k x p ms counted w number (replies.Status view) h waited is) low;
+        unmissed = unmissed2 session clock count set k x p ms counted w number (replies.Status view) h waited is;
         client = w.cause;
         cause = refl;
         low = All-weaker (λ ts. ts ≤ k.top + 1) (λ ts. ts ≤ k2.top + 1) (λ ts low. omega (arith, low)) (why_stamps (own_cause w.t.restart)) b.low;
         opened = w.opened ∙ ap (λ s. Some s) b.asked;
-        split = split2 session clock count splits k x p ms counted w number (replies.Status view) h waited is;
+        split = split2 session clock count set k x p ms counted w number (replies.Status view) h waited is;
         sent = beats;
         heard = all_alive;
         beaten = record {
@@ -327,12 +332,12 @@ module _ (session clock count : ℕ) (splits : List (List ℕ)) (k : Known) (x :
     within : is_past_range w.s ≡ false
     within = ap is_past_range b.asked ∙ blocks_within call reading b.asks
 
-    pub found_aborted_over : MayTellOver splits session k2 (record { answer = answers.Aborted why; left = left_at x.anchor fates.Aborted x })
+    pub found_aborted_over : MayTellOver set session k2 (record { answer = answers.Aborted why; left = left_at x.anchor fates.Aborted x })
     found_aborted_over =
         let answer = answers.Aborted why in
         record {
           may = record {
-            may = may_tell splits session k2 w.s answer w.opened w.open_in.is_open within (record {
+            may = may_tell set session k2 w.s answer w.opened w.open_in.is_open within (record {
               t = t2;
               opened = opened3 k x w.t b.anchor fates.Aborted h w.open_in w.stands.same over;
               heard = any_last (ShowsAborted w.t.id why) k.heard h (record { about = over.about; view = view; told = ap view_in is.told; cause = subst (AbortsWith why) (sym v) refl });

@@ -3,6 +3,7 @@ use Rattle.std.proofs.Common.{◌≡◌, ℕ, ◌<◌, true, false, cond, ◌==�
 use Rattle.std.specs.List.{flat_map}
 use Rattle.std.proofs.lemmas.Bool.{eq-eqb}
 use Rattle.std.proofs.lemmas.List.Elements.{All-append, All-cons, All-head, All-map, All-nil, All-tail, All-weaker, Contains-append_left, Contains-append_right}
+use Rattle.pc_call.specs.Setting.{Setting}
 use Rattle.pc_base.specs.declared.actor.ActorId.TheVariants as actors
 use Rattle.pc_base.specs.declared.limits.TheConstants.{MOST_CONFLICTS}
 use Rattle.pc_base.specs.declared.span.Span.{Span}
@@ -41,6 +42,7 @@ use Rattle.pc_wave.specs.declared.step.Step.TheVariants as steps
 use Rattle.pc_wave.specs.Due.{MayBeDue, WasAnsweredWith}
 use Rattle.pc_wave.specs.Messages.{step_of}
 use Rattle.pc_wave.specs.Standing.{IsAsFar, IsMessageAt, IsReplyAt, IsSentUnder, MessageStands}
+use Rattle.pc_wave.specs.Course.{plain_course}
 use Rattle.pc_world.specs.Answering.{MayAnswer}
 use Rattle.pc_follows.specs.Eighth.{MetEighth}
 use Rattle.pc_world.specs.Known.{Known}
@@ -91,16 +93,16 @@ plain_tells (requests.Scan id epoch seq at span) reply may plain = absurd may
 plain_tells q reply may plain = All-nil (λ span. Any (λ (r : Read). r.span ≡ span) (read_heard q reply))
 
 -- where each message was answered, none met its eighth
-pub all_few : (k : Known) (ms : List Message) → All (MessageStands k) ms → All (WasAnsweredWith k) ms → All (λ m. m.conflicts < MOST_CONFLICTS) ms
+pub all_few : (k : Known) (ms : List Message) → All (MessageStands plain_course k) ms → All (WasAnsweredWith plain_course k) ms → All (λ m. m.conflicts < MOST_CONFLICTS) ms
 all_few k [] stand answered = All-nil (λ (m : Message). m.conflicts < MOST_CONFLICTS)
 all_few k (m ∷ ms) stand answered =
-    let a = All-head (WasAnsweredWith k) m ms answered in
-    let far = subst (λ p. IsAsFar k m.request m.conflicts p) a.progress (All-head (MessageStands k) m ms stand).as_far in
-    All-cons (λ (m : Message). m.conflicts < MOST_CONFLICTS) m ms far.1 (all_few k ms (All-tail (MessageStands k) m ms stand) (All-tail (WasAnsweredWith k) m ms answered))
+    let a = All-head (WasAnsweredWith plain_course k) m ms answered in
+    let far = subst (λ p. IsAsFar plain_course k m.request m.conflicts p) a.progress (All-head (MessageStands plain_course k) m ms stand).as_far in
+    All-cons (λ (m : Message). m.conflicts < MOST_CONFLICTS) m ms far.1 (all_few k ms (All-tail (MessageStands plain_course k) m ms stand) (All-tail (WasAnsweredWith plain_course k) m ms answered))
 
 module _ (k : Known) where
   -- what was heard to a message of the call was heard to one that was sent in it
-  pub sent_in : (number : ℕ) (request : Request) (h : Heard) → IsSentUnder k number request → h.number ≡ number → was_sent_now k h ≡ true
+  pub sent_in : (number : ℕ) (request : Request) (h : Heard) → IsSentUnder plain_course k number request → h.number ≡ number → was_sent_now k h ≡ true
   sent_in number request h out numbered =
       any_true (λ m. m.number == h.number) k.sent_now
       (any_weaker (IsMessageAt number request) (λ m. IsTrue (m.number == h.number)) (λ m at. eq-eqb m.number h.number (at.numbered ∙ sym numbered)) k.sent_now out.now)
@@ -128,11 +130,11 @@ module _ (k : Known) where
       [ true ↦ All-append P (read_heard h.request h.reply) (reads_heard (replies_to sent heard)) here later | false ↦ later ]
 
   -- each span of a message that was answered was told
-  told_spans : (ms : List Message) → All (WasAnsweredWith k) ms → All (λ span. Any (λ r. r.span ≡ span) (reads_heard (replies_to k.sent_now k.heard_now))) (spans_read ms)
+  told_spans : (ms : List Message) → All (WasAnsweredWith plain_course k) ms → All (λ span. Any (λ r. r.span ≡ span) (reads_heard (replies_to k.sent_now k.heard_now))) (spans_read ms)
   told_spans [] a = All-nil (λ span. Any (λ r. r.span ≡ span) (reads_heard (replies_to k.sent_now k.heard_now)))
   told_spans (m ∷ ms) a =
       let P : Span → Type 0 = λ span. Any (λ r. r.span ≡ span) (reads_heard (replies_to k.sent_now k.heard_now)) in
-      let w = All-head (WasAnsweredWith k) m ms a in
+      let w = All-head (WasAnsweredWith plain_course k) m ms a in
       let b = w.back in
       let tells : TellsRead m.request w.reply = plain_tells m.request w.reply b.kind b.plain in
       All-append P (span_read m.request) (spans_read ms)
@@ -142,7 +144,7 @@ module _ (k : Known) where
       (λ h at. (sent_in w.number m.request h b.out at.numbered, subst (λ y. Any (λ r. r.span ≡ span) (read_heard h.request y)) (sym at.told) (subst (λ q. Any (λ r. r.span ≡ span) (read_heard q w.reply)) (sym at.asked) some)))
       k.heard_now b.heard))
       (span_read m.request) tells)
-      (told_spans ms (All-tail (WasAnsweredWith k) m ms a))
+      (told_spans ms (All-tail (WasAnsweredWith plain_course k) m ms a))
 
 -- the spans of one of the messages are among those of all
 in_spans : (m : Message) (ms : List Message) (span : Span) → Contains ms m → Contains (span_read m.request) span → Contains (spans_read ms) span
@@ -174,13 +176,13 @@ all_in ts spans (m ∷ ms) on at =
     (read_in ts m.request reply (All-head (ReadsAt ts) m.request (map (λ (m : Message). m.request) ms) at)))
     (all_in ts spans ms (λ span there. on span (Contains-append_right (span_read m.request) (spans_read ms) span there)) (All-tail (ReadsAt ts) m.request (map (λ (m : Message). m.request) ms) at))
 
-module _ (session clock count : ℕ) (splits : List (List ℕ)) (k : Known) (x : OpenTxn) (p : Purpose) (ms : List Message) (counted : IsCounted session clock count k) (w : InCall splits k x p ms)
+module _ (session clock count : ℕ) (set : Setting) (k : Known) (x : OpenTxn) (p : Purpose) (ms : List Message) (counted : IsCounted session clock count k) (w : InCall set k x p ms)
     (e : p ≡ purposes.Read) (due : step_of ms ≡ steps.Answered) where
-  abbrev r : ServesRead splits k w.s x ms
-  r = subst (λ q. Serves splits k w.s w.t x q ms) e w.serves
+  abbrev r : ServesRead set.splits k w.s x ms
+  r = subst (λ q. Serves set k w.s w.t x q ms) e w.serves
 
-  answered : All (WasAnsweredWith k) ms
-  answered = subst (MayBeDue k ms) due (may_be_due k ms w.wave)
+  answered : All (WasAnsweredWith set.course k) ms
+  answered = subst (MayBeDue set.course k ms) due (may_be_due set.course k ms w.wave)
 
   st : TxnStands k [] None w.t x
   st = subst (λ o. TxnStands k [] o w.t x) (ap (λ q. out_of q ms) e) w.stands
@@ -196,7 +198,7 @@ module _ (session clock count : ℕ) (splits : List (List ℕ)) (k : Known) (x :
   InSpans q = (reply : Reply) → All (IsReadIn spans2 x.reads.ts) (read_heard q reply)
 
   all_spans : All InSpans (map (λ m. m.request) ms)
-  all_spans = all_in x.reads.ts spans2 ms (λ span there. more_has x.reads.spans (spans_read ms) span there) (reads_at splits x w.s.call (map (λ m. m.request) ms) r.asked)
+  all_spans = all_in x.reads.ts spans2 ms (λ span there. more_has x.reads.spans (spans_read ms) span there) (reads_at set.splits x w.s.call (map (λ m. m.request) ms) r.asked)
 
   one_in : (h : Heard) → IsReadFor (map (λ m. m.request) ms) h → All (IsReadIn spans2 x.reads.ts) (read_heard h.request h.reply)
   one_in h (inl none) = subst (λ rs. All (IsReadIn spans2 x.reads.ts) rs) (sym none) (All-nil (IsReadIn spans2 x.reads.ts))
@@ -234,7 +236,7 @@ module _ (session clock count : ℕ) (splits : List (List ℕ)) (k : Known) (x :
   abbrev x2 : OpenTxn
   x2 = record x { reads = record { spans = spans2; ts = x.reads.ts } }
 
-  value_heard : (key : List ℕ) (m : Message) → m.request ≡ own_get x key → WasAnsweredWith k m → Any (λ h. IsTrue (was_sent_now k h) × IsValueOf (value_answered m.progress) h.request h.reply) k.heard_now
+  value_heard : (key : List ℕ) (m : Message) → m.request ≡ own_get x key → WasAnsweredWith set.course k m → Any (λ h. IsTrue (was_sent_now k h) × IsValueOf (value_answered m.progress) h.request h.reply) k.heard_now
   value_heard key m asked a =
       any_weaker (IsReplyAt a.number m.request a.reply) (λ h. IsTrue (was_sent_now k h) × IsValueOf (value_answered m.progress) h.request h.reply)
       (λ h at. (
@@ -251,7 +253,7 @@ module _ (session clock count : ℕ) (splits : List (List ℕ)) (k : Known) (x :
       is_value (replies.Conflict holder ts place) may plain = absurd cc
       is_value reply may plain = absurd may
 
-  rows_heard : (span : Span) (m : Message) → m.request ≡ own_scan x span → WasAnsweredWith k m → Any (λ h. IsTrue (was_sent_now k h) × AreRowsOf span (rows_answered m.progress) h.request h.reply) k.heard_now
+  rows_heard : (span : Span) (m : Message) → m.request ≡ own_scan x span → WasAnsweredWith set.course k m → Any (λ h. IsTrue (was_sent_now k h) × AreRowsOf span (rows_answered m.progress) h.request h.reply) k.heard_now
   rows_heard span m asked a =
       any_weaker (IsReplyAt a.number m.request a.reply) (λ h. IsTrue (was_sent_now k h) × AreRowsOf span (rows_answered m.progress) h.request h.reply)
       (λ h at. (
@@ -268,7 +270,7 @@ module _ (session clock count : ℕ) (splits : List (List ℕ)) (k : Known) (x :
       are_rows (replies.Conflict holder ts place) may plain = absurd cc
       are_rows reply may plain = absurd may
 
-  all_rows : (ps : List (ℕ × Span)) (xs : List Message) → map (λ m. m.request) xs ≡ map (λ p. own_scan x p.1) ps → All (WasAnsweredWith k) xs → AreRowsOfAll k ps (flat_map rows_found xs)
+  all_rows : (ps : List (ℕ × Span)) (xs : List Message) → map (λ m. m.request) xs ≡ map (λ p. own_scan x p.1) ps → All (WasAnsweredWith set.course k) xs → AreRowsOfAll k ps (flat_map rows_found xs)
   all_rows [] [] same a = refl
   all_rows [] (m ∷ xs) same a = absurd cc
   all_rows (q ∷ ps) [] same a = absurd cc
@@ -277,9 +279,9 @@ module _ (session clock count : ℕ) (splits : List (List ℕ)) (k : Known) (x :
       let there : map (λ (m : Message). m.request) xs ≡ map (λ (p : ℕ × Span). own_scan x p.1) ps = cc in (
         rows_answered m.progress,
         flat_map rows_found xs,
-        rows_heard q.1 m here (All-head (WasAnsweredWith k) m xs a),
+        rows_heard q.1 m here (All-head (WasAnsweredWith set.course k) m xs a),
         refl,
-        all_rows ps xs there (All-tail (WasAnsweredWith k) m xs a),
+        all_rows ps xs there (All-tail (WasAnsweredWith set.course k) m xs a),
       )
 
   abbrev asks : Call → Statement
@@ -291,10 +293,10 @@ module _ (session clock count : ℕ) (splits : List (List ℕ)) (k : Known) (x :
   beaten : HasBeaten k w.t
   beaten = subst (λ q. HasBeatenBy q k w.t) e w.beaten
 
-  tells_value : (value : Option (List ℕ)) → (w.s.call ≡ calls.Commit → ⊥) → is_past_range w.s ≡ false → MayTellRow splits (actors.Session session) k w.s (answers.Value value) → MayTellOpen splits session k (answers.Value value) x2
+  tells_value : (value : Option (List ℕ)) → (w.s.call ≡ calls.Commit → ⊥) → is_past_range w.s ≡ false → MayTellRow set (actors.Session session) k w.s (answers.Value value) → MayTellOpen set session k (answers.Value value) x2
   tells_value value other within row = record {
     may = record {
-      may = may_tell splits session k w.s (answers.Value value) w.opened w.open_in.is_open within row;
+      may = may_tell set session k w.s (answers.Value value) w.opened w.open_in.is_open within row;
       written = tt;
       aborts = tt;
       rolled_back = tt;
@@ -303,14 +305,14 @@ module _ (session clock count : ℕ) (splits : List (List ℕ)) (k : Known) (x :
       beats = beaten_tells k w.t (answers.Value value) w.open_in beaten;
     };
     left = refl;
-    after = stays_open k w.t x w.open_in st w.cause (answers.Value value) (value_keeps value) spans2 read_stands;
+    after = stays_open k w.t x w.open_in st w.unmissed w.cause (answers.Value value) (value_keeps value) spans2 read_stands;
     suits = λ s is. r.none_in_flight;
   }
 
-  tells_rows : (rows : List (List ℕ × Origin × List ℕ)) → (w.s.call ≡ calls.Commit → ⊥) → is_past_range w.s ≡ false → MayTellRow splits (actors.Session session) k w.s (answers.Rows rows) → MayTellOpen splits session k (answers.Rows rows) x2
+  tells_rows : (rows : List (List ℕ × Origin × List ℕ)) → (w.s.call ≡ calls.Commit → ⊥) → is_past_range w.s ≡ false → MayTellRow set (actors.Session session) k w.s (answers.Rows rows) → MayTellOpen set session k (answers.Rows rows) x2
   tells_rows rows other within row = record {
     may = record {
-      may = may_tell splits session k w.s (answers.Rows rows) w.opened w.open_in.is_open within row;
+      may = may_tell set session k w.s (answers.Rows rows) w.opened w.open_in.is_open within row;
       written = tt;
       aborts = tt;
       rolled_back = tt;
@@ -319,18 +321,18 @@ module _ (session clock count : ℕ) (splits : List (List ℕ)) (k : Known) (x :
       beats = beaten_tells k w.t (answers.Rows rows) w.open_in beaten;
     };
     left = refl;
-    after = stays_open k w.t x w.open_in st w.cause (answers.Rows rows) (rows_keep rows) spans2 read_stands;
+    after = stays_open k w.t x w.open_in st w.unmissed w.cause (answers.Rows rows) (rows_keep rows) spans2 read_stands;
     suits = λ s is. r.none_in_flight;
   }
 
-  read_key : (key : List ℕ) (xs : List Message) → ms ≡ xs → w.s.call ≡ calls.Get key → map (λ m. m.request) xs ≡ own_get x key ∷ [] → All (WasAnsweredWith k) xs → MayTellOpen splits session k (answer_read xs) x2
+  read_key : (key : List ℕ) (xs : List Message) → ms ≡ xs → w.s.call ≡ calls.Get key → map (λ m. m.request) xs ≡ own_get x key ∷ [] → All (WasAnsweredWith set.course k) xs → MayTellOpen set session k (answer_read xs) x2
   read_key key [] is call same a = absurd cc
   read_key key (m ∷ []) is call same a =
       let here : m.request ≡ own_get x key = cc in
       let told : answer_read (m ∷ []) ≡ answers.Value (value_answered m.progress) = ap (λ q. answer_by q m (m ∷ [])) here in
-      subst (λ answer. MayTellOpen splits session k answer x2) (sym told)
+      subst (λ answer. MayTellOpen set session k answer x2) (sym told)
       (tells_value (value_answered m.progress) (λ commit. let f : calls.Get key ≡ calls.Commit = sym call ∙ commit in cc) (ap (λ call. is_past_range (asks call)) call)
-      (record { key = key; asked = call; heard = value_heard key m here (All-head (WasAnsweredWith k) m [] a) }))
+      (record { key = key; asked = call; heard = value_heard key m here (All-head (WasAnsweredWith set.course k) m [] a) }))
   read_key key (m ∷ other ∷ xs) is call same a = absurd cc
 
   rows_are : (ps : List (ℕ × Span)) (xs : List Message) → map (λ m. m.request) xs ≡ map (λ p. own_scan x p.1) ps → answer_read xs ≡ answers.Rows (flat_map rows_found xs)
@@ -338,20 +340,20 @@ module _ (session clock count : ℕ) (splits : List (List ℕ)) (k : Known) (x :
   rows_are [] (m ∷ xs) same = absurd cc
   rows_are (q ∷ ps) (m ∷ xs) same = let here : m.request ≡ own_scan x q.1 = cc in ap (λ r. answer_by r m (m ∷ xs)) here
 
-  read_all : (call : Call) → w.s.call ≡ call → AreReadsOf splits x call (map (λ m. m.request) ms) → MayTellOpen splits session k (answer_read ms) x2
+  read_all : (call : Call) → w.s.call ≡ call → AreReadsOf set.splits x call (map (λ m. m.request) ms) → MayTellOpen set session k (answer_read ms) x2
   read_all (calls.Get key) is asked = read_key key ms refl is asked answered
   read_all (calls.Scan span) is asked =
-      subst (λ answer. MayTellOpen splits session k answer x2) (sym (rows_are (pieces splits span) ms asked))
+      subst (λ answer. MayTellOpen set session k answer x2) (sym (rows_are (pieces set.splits span) ms asked))
       (tells_rows (flat_map rows_found ms) (λ commit. let f : calls.Scan span ≡ calls.Commit = sym is ∙ commit in cc) (ap (λ call. is_past_range (asks call)) is)
-      (record { span = span; asked = is; heard = all_rows (pieces splits span) ms asked answered }))
+      (record { span = span; asked = is; heard = all_rows (pieces set.splits span) ms asked answered }))
   read_all call is asked = absurd asked
 
   -- the call may be told what it read
-  pub read_told : MayTellOpen splits session k (answer_read ms) x2
+  pub read_told : MayTellOpen set session k (answer_read ms) x2
   read_told = read_all w.s.call refl r.asked
 
 -- so what a call gives that gives what was read
-pub told_ok : {E : Type 0} (splits : List (List ℕ)) (session : ℕ) (k : Known) (x now : OpenTxn) (answer : Answer) (r : Result Answer E) → IfOk r (λ a. a ≡ answer) → now ≡ x → MayTellOpen splits session k answer x
-    → IfOk r (λ a. MayTellOpen splits session k a now)
-told_ok splits session k x now answer (Ok a) is same told = subst (λ x. MayTellOpen splits session k a x) (sym same) (subst (λ a. MayTellOpen splits session k a x) (sym is) told)
-told_ok splits session k x now answer (Err e) is same told = is
+pub told_ok : {E : Type 0} (set : Setting) (session : ℕ) (k : Known) (x now : OpenTxn) (answer : Answer) (r : Result Answer E) → IfOk r (λ a. a ≡ answer) → now ≡ x → MayTellOpen set session k answer x
+    → IfOk r (λ a. MayTellOpen set session k a now)
+told_ok set.splits session k x now answer (Ok a) is same told = subst (λ x. MayTellOpen set session k a x) (sym same) (subst (λ a. MayTellOpen set session k a x) (sym is) told)
+told_ok set.splits session k x now answer (Err e) is same told = is

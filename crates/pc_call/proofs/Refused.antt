@@ -2,6 +2,7 @@
 use Rattle.std.proofs.Common.{◌≡◌, ℕ, ◌+◌, ◌<◌, ◌≤◌, max, nat_lt, Bool, true, false, cond, ◌&&◌, ◌⊎◌, inl, inr, List, [], ◌∷◌, map, Option, None, Some, refl, sym, ap, ◌∙◌, subst, arith, All, Contains, IsTrue}
 use Rattle.std.proofs.lemmas.Bool.{ltb-false, ltb-true}
 use Rattle.std.proofs.lemmas.List.Elements.{All-push, All-weaker}
+use Rattle.pc_call.specs.Setting.{Setting}
 use Rattle.pc_base.specs.declared.limits.TheConstants.{MOST_REFUSALS}
 use Rattle.pc_call.proofs.Beating.{beaten_tells}
 use Rattle.pc_call.proofs.Silent.{IsBeatPurpose}
@@ -9,7 +10,7 @@ use Rattle.pc_follows.specs.Heartbeats.{HasBeaten}
 use Rattle.pc_call.proofs.Decided.{commit_known, commit_out, commit_said, commit_stands, commits, one_out, within}
 use Rattle.pc_call.proofs.Eighths.{told_moved}
 use Rattle.pc_call.proofs.Facts.{open_is, unmoved}
-use Rattle.pc_call.proofs.Hearing.{beaten_on, far, gone, paced2, split2}
+use Rattle.pc_call.proofs.Hearing.{beaten_on, far, gone, paced2, split2, unmissed2}
 use Rattle.pc_call.proofs.Reading.{sent_in}
 use Rattle.pc_call.proofs.Told.{may_tell, moved_keeps, stays_as_is}
 use Rattle.pc_call.specs.Committing.{AreRefusals, CommitsOn, IsRefusalOf, IsUsedUp}
@@ -58,7 +59,7 @@ below-more low high r up below = tt
 refused-more : (low high : ℕ) (m : Sent) → low ≤ high → (h : Heard) → IsRefusedBy low m h → IsRefusedBy high m h
 refused-more low high m up h r = record { numbered = r.numbered; asked = r.asked; undecided = r.undecided; past = below-more low high m.request up r.past }
 
-module _ (session clock count : ℕ) (splits : List (List ℕ)) (k : Known) (x : OpenTxn) (p : Purpose) (ms : List Message) (counted : IsCounted session clock count k) (w : InCall splits k x p ms)
+module _ (session clock count : ℕ) (set : Setting) (k : Known) (x : OpenTxn) (p : Purpose) (ms : List Message) (counted : IsCounted session clock count k) (w : InCall set k x p ms)
     (number epoch recorded : ℕ) (h : Heard) (waited : wave_awaits number ms ≡ true) (is : IsHeardTo k number (replies.Status (views.Pending epoch recorded)) h) (n : ℕ) (e : p ≡ purposes.Commit n) where
   abbrev view : View
   view = views.Pending epoch recorded
@@ -73,10 +74,10 @@ module _ (session clock count : ℕ) (splits : List (List ℕ)) (k : Known) (x :
   x2 = refused_at recorded h.step x
 
   abbrev c : ServesCommit n k w.s w.t x ms
-  c = commits session clock count splits k x p ms counted w number view h waited is n e
+  c = commits session clock count set k x p ms counted w number view h waited is n e
 
   said : h.request ≡ commit_request (commit_now w.t c.commits.anchor)
-  said = commit_known session clock count splits k x p ms counted w number view h waited is n e
+  said = commit_known session clock count set k x p ms counted w number view h waited is n e
 
   low : recorded ≤ k2.high
   low = let f : greatest_of (reply_stamps h.reply) ≡ max 0 recorded = ap (λ y. greatest_of (reply_stamps y)) is.told in omega (arith, f)
@@ -88,8 +89,8 @@ module _ (session clock count : ℕ) (splits : List (List ℕ)) (k : Known) (x :
 
   stands2 : TxnStands k2 [] None t2 x2
   stands2 =
-      commit_refused k k2 [] w.t x (commit_now w.t c.commits.anchor) view recorded h (commit_stands session clock count splits k x p ms counted w number view h waited is n e) c.commits.anchored said is.told refl refl past
-      (λ epoch ts staging. absurd cc) (λ ts staging. absurd cc) (gone session clock count splits k x p ms counted w number (replies.Status view) h waited is) low
+      commit_refused k k2 [] w.t x (commit_now w.t c.commits.anchor) view recorded h (commit_stands session clock count set k x p ms counted w number view h waited is n e) c.commits.anchored said is.told refl refl past
+      (λ epoch ts staging. absurd cc) (λ ts staging. absurd cc) (gone session clock count set k x p ms counted w number (replies.Status view) h waited is) low
 
   open2 : IsOpenIn k2 t2
   open2 = record { others = map (txn_heard k.sent (Some h)) w.open_in.others; is_open = w.open_in.is_open; first = ap (map (txn_heard k.sent (Some h))) w.open_in.first }
@@ -98,12 +99,12 @@ module _ (session clock count : ℕ) (splits : List (List ℕ)) (k : Known) (x :
   writes_at = sym (ap (λ x. x.write_ts) stands2.same) ∙ ap (λ (x : OpenTxn). max x.write_ts recorded) w.stands.same
 
   was_now : was_sent_now k h ≡ true
-  was_now = sent_in k number _ h (far session clock count splits k x p ms counted w number (replies.Status view) h waited is).0.out is.numbered
+  was_now = sent_in k number _ h (far session clock count set k x p ms counted w number (replies.Status view) h waited is).0.out is.numbered
 
   -- the reply shows where the record stands
   pub shows : ShowsRecord k x.write_ts recorded h
   shows = record {
-    asked = subst (DecidesAt x.write_ts) (sym (commit_said session clock count splits k x p ms counted w number view h waited is n e)) refl;
+    asked = subst (DecidesAt x.write_ts) (sym (commit_said session clock count set k x p ms counted w number view h waited is n e)) refl;
     undecided = ap is_undecided_status is.told;
     shown = ap status_ts is.told;
     now = was_now;
@@ -118,7 +119,7 @@ module _ (session clock count : ℕ) (splits : List (List ℕ)) (k : Known) (x :
   out_is : (m : Sent) → IsOutHere ms (commit_request (commit_now w.t c.commits.anchor)) m → m.number ≡ number
   out_is m o =
       let here : c.m.progress ≡ progresses.Sent m.number = one_out m.number c.m (subst (λ ms. wave_awaits m.number ms ≡ true) c.one o.waited) in
-      let there : c.m.progress ≡ progresses.Sent number = commit_out session clock count splits k x p ms counted w number view h waited is n e in
+      let there : c.m.progress ≡ progresses.Sent number = commit_out session clock count set k x p ms counted w number view h waited is n e in
       cc
 
   refused_now : (m : Sent) → m.number ≡ number → m.request ≡ commit_request (commit_now w.t c.commits.anchor) → WasRefusedIfCommit t2.write_ts k2.heard_now m
@@ -144,15 +145,15 @@ module _ (session clock count : ℕ) (splits : List (List ℕ)) (k : Known) (x :
 
   paced_none : IsPaced [] k2.heard_now
   paced_none =
-      let paced = paced2 session clock count splits k x p ms counted w number (replies.Status view) h waited is in
+      let paced = paced2 session clock count set k x p ms counted w number (replies.Status view) h waited is in
       record { pushes = λ id. let a = paced.pushes id in omega arith; behind = paced.behind }
 
   reads_there : w.t.read_ts ≡ w.t.write_ts
   reads_there =
-      c.there (ap progress_to_send (commit_out session clock count splits k x p ms counted w number view h waited is n e))
+      c.there (ap progress_to_send (commit_out session clock count set k x p ms counted w number view h waited is n e))
 
   beaten_now : HasBeaten k2 t2
-  beaten_now = beaten_on session clock count splits k x p ms counted w number (replies.Status view) h waited is (λ beat. subst IsBeatPurpose e beat)
+  beaten_now = beaten_on session clock count set k x p ms counted w number (replies.Status view) h waited is (λ beat. subst IsBeatPurpose e beat)
 
   -- the commit goes on where it was moved fewer times than it may be
   pub refused_goes_on : (n2 : ℕ) → CountsMoves k2 n2 → (WasMovedEighth k2 → ⊥) → CommitsOn n2 k2 x2
@@ -162,9 +163,10 @@ module _ (session clock count : ℕ) (splits : List (List ℕ)) (k : Known) (x :
     on = record {
       open_in = open2;
       stands = stands2;
+      unmissed = unmissed2 session clock count set k x p ms counted w number (replies.Status view) h waited is;
       client = w.cause;
       opened = w.opened;
-      split = split2 session clock count splits k x p ms counted w number (replies.Status view) h waited is;
+      split = split2 session clock count set k x p ms counted w number (replies.Status view) h waited is;
       paced = paced_none;
       commits = record {
         call = c.commits.call;
@@ -187,10 +189,10 @@ module _ (session clock count : ℕ) (splits : List (List ℕ)) (k : Known) (x :
       few2 false e = absurd (fewer (at_least-fewer (WasMoved k2) MOST_REFUSALS n2 k2.heard_now (ltb-false n2 MOST_REFUSALS e) counts.moved))
 
   -- and is given up where it was moved as often
-  pub refused_given_up : IsUsedUp k2 recorded → MayTellOpen splits session k2 (answers.Moved recorded) x2
+  pub refused_given_up : IsUsedUp k2 recorded → MayTellOpen set session k2 (answers.Moved recorded) x2
   refused_given_up used = record {
     may = record {
-      may = may_tell splits session k2 w.s (answers.Moved recorded) w.opened w.open_in.is_open (within session clock count splits k x p ms counted w number view h waited is n e) (record {
+      may = may_tell set session k2 w.s (answers.Moved recorded) w.opened w.open_in.is_open (within session clock count set k x p ms counted w number view h waited is n e) (record {
         t = t2;
         opened = open_is k2 t2 open2;
         asked = c.commits.call;
@@ -206,11 +208,11 @@ module _ (session clock count : ℕ) (splits : List (List ℕ)) (k : Known) (x :
       beats = beaten_tells k2 t2 (answers.Moved recorded) open2 beaten_now;
     };
     left = refl;
-    after = stays_as_is k2 t2 x2 open2 stands2 w.cause (answers.Moved recorded) (moved_keeps recorded) refl;
+    after = stays_as_is k2 t2 x2 open2 stands2 (unmissed2 session clock count set k x p ms counted w number (replies.Status view) h waited is) w.cause (answers.Moved recorded) (moved_keeps recorded) refl;
     suits = λ s is. subst (λ f. SuitsFlight s.call f) (sym c.commits.none_in_flight) tt;
   }
 
-  pub refusal : (r : Option ℕ) → AreRefusals k2 recorded r → IsRefusalOf splits session k2 recorded x2 r
+  pub refusal : (r : Option ℕ) → AreRefusals k2 recorded r → IsRefusalOf set session k2 recorded x2 r
   refusal None used = refused_given_up used
   refusal (Some n2) counts = refused_goes_on n2 counts.0 counts.1
 

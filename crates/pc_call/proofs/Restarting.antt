@@ -10,6 +10,7 @@ use Rattle.std.proofs.lemmas.Cmp.{tied_itself}
 use Rattle.std.proofs.lemmas.List.{append-nil}
 use Rattle.std.proofs.lemmas.Option.{same_Some}
 use Rattle.std.proofs.lemmas.List.Elements.{All-cons, All-head, All-nil, All-contains, All-tail, All-weaker, Contains-append_right}
+use Rattle.pc_call.specs.Setting.{Setting}
 use Rattle.pc_base.specs.declared.span.Span.{Span}
 use Rattle.pc_base.specs.declared.transaction.TxnId.{TxnId}
 use Rattle.pc_base.specs.SpanOrder.{span_cmp}
@@ -139,16 +140,16 @@ module _ (id : TxnId) (from to : ℕ) where
       by first later rest (inl here) false e f = let g : true ≡ false = sym here.1 ∙ e in cc
       by first later rest (inr there) false e f = rest f there
 
-module _ (session clock count : ℕ) (splits : List (List ℕ)) (k : Known) (x : OpenTxn) (p : Purpose) (ms : List Message) (counted : IsCounted session clock count k) (w : InCall splits k x p ms)
+module _ (session clock count : ℕ) (set : Setting) (k : Known) (x : OpenTxn) (p : Purpose) (ms : List Message) (counted : IsCounted session clock count k) (w : InCall set k x p ms)
     (n : ℕ) (e : p ≡ purposes.Refresh n) (due : step_of ms ≡ steps.Answered) where
   abbrev r : ServesRefresh n k w.s w.t x ms
-  r = subst (λ q. Serves splits k w.s w.t x q ms) e w.serves
+  r = subst (λ q. Serves set k w.s w.t x q ms) e w.serves
 
   beaten : HasBeaten k w.t
   beaten = subst (λ q. HasBeatenBy q k w.t) e w.beaten
 
-  answered : All (WasAnsweredWith k) ms
-  answered = subst (MayBeDue k ms) due (may_be_due k ms w.wave)
+  answered : All (WasAnsweredWith set.course k) ms
+  answered = subst (MayBeDue set.course k ms) due (may_be_due set.course k ms w.wave)
 
   st : TxnStands k [] None w.t x
   st = subst (λ o. TxnStands k [] o w.t x) (ap (λ q. out_of q ms) e) w.stands
@@ -157,14 +158,14 @@ module _ (session clock count : ℕ) (splits : List (List ℕ)) (k : Known) (x :
   heard_all h there = subst (λ hs. Contains hs h) (sym w.split.heard) (Contains-append_right w.split.heard_first k.heard_now h there)
 
   -- where none met a write, each span held
-  all_held : (spans : List Span) (xs : List Message) → map (λ m. m.request) xs ≡ map (refresh_to x.id x.reads.ts x.write_ts) spans → All (WasAnsweredWith k) xs → All (λ m. shows_unrefreshed m ≡ false) xs
+  all_held : (spans : List Span) (xs : List Message) → map (λ m. m.request) xs ≡ map (refresh_to x.id x.reads.ts x.write_ts) spans → All (WasAnsweredWith set.course k) xs → All (λ m. shows_unrefreshed m ≡ false) xs
       → All (λ span. WasRefreshed w.t.id k.heard span x.reads.ts x.write_ts) spans
   all_held [] xs same a none = All-nil (λ span. WasRefreshed w.t.id k.heard span x.reads.ts x.write_ts)
   all_held (span ∷ spans) [] same a none = absurd cc
   all_held (span ∷ spans) (m ∷ xs) same a none =
       let here : m.request ≡ refresh_to x.id x.reads.ts x.write_ts span = cc in
       let there : map (λ (m : Message). m.request) xs ≡ map (refresh_to x.id x.reads.ts x.write_ts) spans = cc in
-      let at = All-head (WasAnsweredWith k) m xs a in
+      let at = All-head (WasAnsweredWith set.course k) m xs a in
       let plain : unrefreshed_by at.reply ≡ None = ap unrefreshed_in (sym at.progress) ∙ unshown (unrefreshed_in m.progress) (All-head (λ m. shows_unrefreshed m ≡ false) m xs none) in
       let held : at.reply ≡ replies.Refreshed = held_reply at.reply (subst (λ q. MayAnswer q at.reply) here at.back.kind) plain in
       let h = at.back.heard in
@@ -175,7 +176,7 @@ module _ (session clock count : ℕ) (splits : List (List ℕ)) (k : Known) (x :
         asked = h.4.asked ∙ here ∙ ap (λ id. refresh_to id x.reads.ts x.write_ts span) (ap (λ x. x.id) st.same);
         told = h.4.told ∙ held;
       })
-      (all_held spans xs there (All-tail (WasAnsweredWith k) m xs a) (All-tail (λ m. shows_unrefreshed m ≡ false) m xs none))
+      (all_held spans xs there (All-tail (WasAnsweredWith set.course k) m xs a) (All-tail (λ m. shows_unrefreshed m ≡ false) m xs none))
 
   -- so the reads are good where the transaction writes, and it commits
   pub refreshed_commits : find shows_unrefreshed ms ≡ None → CommitsNow n k x w.s
@@ -189,6 +190,7 @@ module _ (session clock count : ℕ) (splits : List (List ℕ)) (k : Known) (x :
         on = record {
           open_in = w.open_in;
           stands = st;
+          unmissed = w.unmissed;
           client = w.cause;
           opened = w.opened;
           split = w.split;
@@ -209,8 +211,8 @@ module _ (session clock count : ℕ) (splits : List (List ℕ)) (k : Known) (x :
           sym f.2.met ∙ unshown (unrefreshed_in f.0.progress) f.1
 
   module _ (m : Message) (found : find shows_unrefreshed ms ≡ Some m) (key : List ℕ) (ts : ℕ) (met : unrefreshed_in m.progress ≡ Some (key, ts)) where
-    at : WasAnsweredWith k m
-    at = found_all shows_unrefreshed (WasAnsweredWith k) ms m found answered
+    at : WasAnsweredWith set.course k m
+    at = found_all shows_unrefreshed (WasAnsweredWith set.course k) ms m found answered
 
     reply_is : at.reply ≡ replies.Unrefreshed key ts
     reply_is = unrefreshed_is at.reply key ts (ap unrefreshed_in (sym at.progress) ∙ met)
@@ -285,10 +287,10 @@ module _ (session clock count : ℕ) (splits : List (List ℕ)) (k : Known) (x :
         subst (λ y. IfSome (unrefreshed_by y) (λ w. w.1 ≤ k.top)) (h.4.told ∙ reply_is) below
 
     -- the call is told the first write that its refreshes met, and its transaction begins anew
-    pub restarts_told : MayTellOpen splits session k (answers.Restart key ts) x2
+    pub restarts_told : MayTellOpen set session k (answers.Restart key ts) x2
     restarts_told = record {
       may = record {
-        may = may_tell splits session k w.s (answers.Restart key ts) w.opened w.open_in.is_open (ap (λ call. is_past_range (record { call = call; reading = w.s.reading })) r.commits.call) (record {
+        may = may_tell set session k w.s (answers.Restart key ts) w.opened w.open_in.is_open (ap (λ call. is_past_range (record { call = call; reading = w.s.reading })) r.commits.call) (record {
           t = w.t;
           opened = open_is k w.t w.open_in;
           asked = r.commits.call;
@@ -307,6 +309,7 @@ module _ (session clock count : ℕ) (splits : List (List ℕ)) (k : Known) (x :
         t = restarted key ts w.t;
         open_in = record { others = w.open_in.others; is_open = w.open_in.is_open; first = still_open k (answers.Restart key ts) w.t w.open_in.others w.open_in.is_open w.open_in.first };
         stands = stands_restarted k k2 [] None w.t x r.commits.anchor key ts st (free_over k w.t x.staging st.staging) r.commits.anchored gone2;
+        unmissed = w.unmissed;
         cause = refl;
         low = All-cons (λ ts. ts ≤ k2.top + 1) ts [] (omega (arith, low)) (All-nil (λ ts. ts ≤ k2.top + 1));
       };
@@ -333,7 +336,7 @@ pub same_count : (p : Purpose) (n m : ℕ) → p ≡ purposes.Refresh n → p �
 same_count p n m one other = let e : purposes.Refresh n ≡ purposes.Refresh m = sym one ∙ other in cc
 
 -- so what a call gives that tells of a restart
-pub restart_ok : {E : Type 0} (splits : List (List ℕ)) (session : ℕ) (k : Known) (x now : OpenTxn) (answer : Answer) (r : Result Refreshed E) → IfOk r (λ made. made ≡ refreshes.Restart answer) → OnOk r (now ≡ x) → MayTellOpen splits session k answer x
-    → IfOk r (IsRefreshed splits session k now)
-restart_ok splits session k x now answer (Ok made) is same told = subst (IsRefreshed splits session k now) (sym is) (subst (MayTellOpen splits session k answer) (sym same) told)
-restart_ok splits session k x now answer (Err e) is same told = is
+pub restart_ok : {E : Type 0} (set : Setting) (session : ℕ) (k : Known) (x now : OpenTxn) (answer : Answer) (r : Result Refreshed E) → IfOk r (λ made. made ≡ refreshes.Restart answer) → OnOk r (now ≡ x) → MayTellOpen set session k answer x
+    → IfOk r (IsRefreshed set session k now)
+restart_ok set session k x now answer (Ok made) is same told = subst (IsRefreshed set session k now) (sym is) (subst (MayTellOpen set session k answer) (sym same) told)
+restart_ok set session k x now answer (Err e) is same told = is

@@ -1,7 +1,8 @@
 -- A message of an open call that met an intent has its round, or its holder blocks the call.
 use Rattle.std.proofs.Common.{◌≡◌, ℕ, ◌≤◌, Bool, true, false, ◌⊎◌, inl, inr, List, [], ◌∷◌, map, find, Option, Some, None, IfSome, refl, sym, ap, ◌∙◌, subst, arith, All, Contains}
 use Rattle.std.specs.List.{list_all}
-use Rattle.std.proofs.lemmas.List.Elements.{All-cons, All-map, All-nil, Contains-append_right}
+use Rattle.std.proofs.lemmas.List.Elements.{All-cons, All-map, All-nil, All-weaker, Contains-append_right}
+use Rattle.pc_call.specs.Setting.{Setting}
 use Rattle.pc_base.specs.declared.span.Span.{Span}
 use Rattle.pc_base.specs.declared.transaction.TxnId.{TxnId}
 use Rattle.pc_call.proofs.Beating.{not_nil}
@@ -12,7 +13,7 @@ use Rattle.pc_call.specs.declared.purpose.Purpose.{Purpose}
 use Rattle.pc_call.specs.declared.purpose.Purpose.TheVariants as purposes
 use Rattle.pc_call.specs.Opening.{reader_of}
 use Rattle.pc_call.specs.Sending.{IsConflictNow, read_at}
-use Rattle.pc_call.specs.Serving.{AreReadsOf, HasBeatenBy, InCall, LaysLast, LaysNext, Serves, ServesWrite, holder_met, out_of, write_call}
+use Rattle.pc_call.specs.Serving.{AreReadsOf, HasBeatenBy, InCall, LaysLast, LaysNext, SendsAgain, Serves, ServesWrite, holder_met, out_of, write_call}
 use Rattle.pc_call.specs.Suiting.{SuitsFlight}
 use Rattle.pc_follows.specs.Heartbeats.{HasBeaten}
 use Rattle.pc_proto.specs.declared.call.Call.{Call}
@@ -27,7 +28,7 @@ use Rattle.pc_txn.proofs.Rows.{undecided}
 use Rattle.pc_txn.specs.Counted.{IsCounted}
 use Rattle.pc_flight.specs.declared.write.WriteInFlight.{WriteInFlight}
 use Rattle.pc_txn.specs.declared.txn.OpenTxn.{OpenTxn}
-use Rattle.pc_txn.specs.Opened.{next_put, own_get, own_put, own_scan}
+use Rattle.pc_txn.specs.Opened.{next_put, own_get, own_scan, put_at}
 use Rattle.pc_wave.proofs.Changed.{found_all, found_passes}
 use Rattle.pc_wave.proofs.Dues.{may_be_due}
 use Rattle.pc_wave.proofs.Rounds.{due_round, first_found}
@@ -38,6 +39,7 @@ use Rattle.pc_wave.specs.declared.step.Step.TheVariants as steps
 use Rattle.pc_wave.specs.Due.{IsRoundDue, MayBeDue}
 use Rattle.pc_wave.specs.Messages.{conflict_by, first_in_conflict, has_answer, is_in_conflict, is_to_send, progress_in_conflict, step_by, step_of}
 use Rattle.pc_wave.specs.Standing.{IsAsFar, MessageStands, MetConflict}
+use Rattle.pc_wave.specs.Course.{plain_course}
 use Rattle.pc_world.specs.Answering.{MayAnswer}
 use Rattle.pc_world.specs.Known.{Known}
 use Rattle.pc_world.specs.Known.Statements.{Statement}
@@ -46,6 +48,8 @@ use Rattle.pc_world.specs.MayTell.{is_past_range}
 use Rattle.pc_world.specs.RangeOf.{pieces}
 use Rattle.pc_world.specs.StageFate.{IsLate}
 use Rattle.pc_world.specs.Tell.Refusal.{MayBlock, MetEight}
+use Rattle.pc_txn.specs.Standing.{MissedNothing}
+use Rattle.pc_txn.proofs.Above.{clock_reached}
 
 -- The call may be told that it is blocked: it reads or writes.
 pub record IsBlockable (s : Statement) : Type 0 where
@@ -59,7 +63,7 @@ pub record IsOurs (k : Known) (s : Statement) (t : Txn) (reader : Option ℕ) (r
   pub reads : reader ≡ read_at r
   pub blocks : (holder : TxnMeta) (ts : ℕ) (key : List ℕ) → MayAnswer r (replies.Conflict holder ts key) → IsBlockable s
 
-module _ (splits : List (List ℕ)) (k : Known) (t : Txn) (x : OpenTxn) (s : Statement) (same : x.id ≡ t.id) where
+module _ (set : Setting) (k : Known) (t : Txn) (x : OpenTxn) (s : Statement) (same : x.id ≡ t.id) where
   -- The call of the statement is this one.
   abbrev asks : Call → Statement
   asks call = record { call = call; reading = s.reading }
@@ -85,12 +89,12 @@ module _ (splits : List (List ℕ)) (k : Known) (t : Txn) (x : OpenTxn) (s : Sta
   every P all [] = All-nil P
   every P all (x ∷ xs) = All-cons P x xs (all x) (every P all xs)
 
-  reads_ours : (call : Call) (rs : List Request) → s.call ≡ call → AreReadsOf splits x call rs → All (IsOurs k s t (Some x.reads.ts)) rs
+  reads_ours : (call : Call) (rs : List Request) → s.call ≡ call → AreReadsOf set.splits x call rs → All (IsOurs k s t (Some x.reads.ts)) rs
   reads_ours (calls.Get key) rs is e =
       subst (λ rs. All (IsOurs k s t (Some x.reads.ts)) rs) (sym e) (All-cons (IsOurs k s t (Some x.reads.ts)) (own_get x key) [] (get_ours key is) (All-nil (IsOurs k s t (Some x.reads.ts))))
   reads_ours (calls.Scan span) rs is e =
       subst (λ rs. All (IsOurs k s t (Some x.reads.ts)) rs) (sym e)
-      (All-map (IsOurs k s t (Some x.reads.ts)) (λ p. own_scan x p.1) (pieces splits span) (every (λ p. IsOurs k s t (Some x.reads.ts) (own_scan x p.1)) (λ p. scan_ours span p.1 is) (pieces splits span)))
+      (All-map (IsOurs k s t (Some x.reads.ts)) (λ p. own_scan x p.1) (pieces set.splits span) (every (λ p. IsOurs k s t (Some x.reads.ts) (own_scan x p.1)) (λ p. scan_ours span p.1 is) (pieces set.splits span)))
   reads_ours call rs is e = absurd e
 
   write_blockable : (key : List ℕ) (value : Option (List ℕ)) → IsBlockable (asks (write_call key value))
@@ -104,26 +108,28 @@ module _ (splits : List (List ℕ)) (k : Known) (t : Txn) (x : OpenTxn) (s : Sta
     blocks = λ holder ts at may. blockable_as (write_call key value) is (write_blockable key value);
   }
 
-  again_ours : (anchor key : List ℕ) (value : Option (List ℕ)) (w : WriteInFlight) → s.call ≡ write_call key value → IsOurs k s t None (own_put x anchor w)
-  again_ours anchor key value w is = record {
+  again_ours : (anchor key : List ℕ) (value : Option (List ℕ)) (ts : ℕ) (w : WriteInFlight) → s.call ≡ write_call key value → IsOurs k s t None (put_at x anchor ts w)
+  again_ours anchor key value ts w is = record {
     other = λ holder ts at may e. may (e ∙ sym same);
     reads = refl;
     blocks = λ holder ts at may. blockable_as (write_call key value) is (write_blockable key value);
   }
 
-  write_ours : (key : List ℕ) (value : Option (List ℕ)) (again : Bool) (m : Message) → s.call ≡ write_call key value → LaysNext k s t x key value again m ⊎ LaysLast k s t x key value again m → IsOurs k s t None m.request
-  write_ours key value again m is (inl l) = subst (λ r. IsOurs k s t None r) (sym l.said) (next_ours key value is)
-  write_ours key value again m is (inr l) = subst (λ r. IsOurs k s t None r) (sym l.said) (again_ours l.anchor key value l.w is)
+  write_ours : (key : List ℕ) (value : Option (List ℕ)) (m : Message) → s.call ≡ write_call key value → LaysNext k s t x key value m ⊎ LaysLast k t x key value m → IsOurs k s t None m.request
+  write_ours key value m is (inl l) = subst (λ r. IsOurs k s t None r) (sym l.said) (next_ours key value is)
+  write_ours key value m is (inr l) = subst (λ r. IsOurs k s t None r) (sym l.said) (again_ours l.anchor key value x.write_ts l.w is)
 
   one_ours : (r : Option ℕ) (ms : List Message) (m : Message) → ms ≡ m ∷ [] → IsOurs k s t r m.request → All (λ m. IsOurs k s t r m.request) ms
   one_ours r ms m one ours =
       let P : Message → Type 0 = λ m. IsOurs k s t r m.request in
       subst (λ ms. All P ms) (sym one) (All-cons P m [] ours (All-nil P))
 
-  ours : (p : Purpose) (ms : List Message) → (k.heard_now ≡ [] → ⊥) → Serves splits k s t x p ms → All (λ m. IsOurs k s t (reader_of p x) m.request) ms
+  ours : (p : Purpose) (ms : List Message) → (k.heard_now ≡ [] → ⊥) → Serves set k s t x p ms → All (λ m. IsOurs k s t (reader_of p x) m.request) ms
   ours (purposes.Beat call reading) ms some r = absurd (some r.unheard)
+  ours (purposes.Prove call) ms some r =
+      All-weaker (SendsAgain call k t x) (λ m. IsOurs k s t None m.request) (λ m a. subst (λ r. IsOurs k s t None r) (sym a.said) (again_ours a.anchor r.key r.value a.ts a.w (r.asked ∙ r.writes))) ms r.again
   ours purposes.Read ms some r = all_unmapped (IsOurs k s t (Some x.reads.ts)) (λ m. m.request) ms (reads_ours s.call (map (λ m. m.request) ms) refl r.asked)
-  ours (purposes.Write again) ms some w = one_ours None ms w.m w.one (write_ours w.key w.value again w.m w.call w.lays)
+  ours purposes.Write ms some w = one_ours None ms w.m w.one (write_ours w.key w.value w.m w.call w.lays)
   ours (purposes.Refresh n) ms some r =
       all_unmapped (IsOurs k s t None) (λ m. m.request) ms
       (subst (λ rs. All (IsOurs k s t None) rs) (sym r.asked)
@@ -149,35 +155,36 @@ pub record HasMetOne (k : Known) (m : Message) : Type 0 where
   pub number : ℕ
   pub conflict : Reply
   pub progress : m.progress ≡ progresses.Met number conflict
-  pub met : MetConflict k number m.request conflict
+  pub met : MetConflict plain_course k number m.request conflict
 
-met_as : (k : Known) (m : Message) (p : Progress) → m.progress ≡ p → progress_in_conflict p ≡ true → IsAsFar k m.request m.conflicts p → HasMetOne k m
+met_as : (k : Known) (m : Message) (p : Progress) → m.progress ≡ p → progress_in_conflict p ≡ true → IsAsFar plain_course k m.request m.conflicts p → HasMetOne k m
 met_as k m progresses.ToSend e is far = absurd cc
 met_as k m (progresses.Sent number) e is far = absurd cc
 met_as k m (progresses.Met number conflict) e is far = record { number = number; conflict = conflict; progress = e; met = far }
 met_as k m (progresses.Answered number reply) e is far = absurd cc
 
-module _ (session clock count : ℕ) (splits : List (List ℕ)) (k : Known) (x : OpenTxn) (p : Purpose) (ms : List Message) (counted : IsCounted session clock count k) (w : InCall splits k x p ms) where
+module _ (session clock count : ℕ) (set : Setting) (k : Known) (x : OpenTxn) (p : Purpose) (ms : List Message) (counted : IsCounted session clock count k) (w : InCall set k x p ms) where
   same_id : x.id ≡ w.t.id
   same_id = ap (λ x. x.id) w.stands.same
 
   all_ours : (k.heard_now ≡ [] → ⊥) → All (λ m. IsOurs k w.s w.t (reader_of p x) m.request) ms
-  all_ours some = ours splits k w.t x w.s same_id p ms some w.serves
+  all_ours some = ours set k w.t x w.s same_id p ms some w.serves
 
   -- where a message met an intent, something was heard
-  met_some : (number : ℕ) (r : Request) (conflict : Reply) → MetConflict k number r conflict → k.heard_now ≡ [] → ⊥
+  met_some : (number : ℕ) (r : Request) (conflict : Reply) → MetConflict set.course k number r conflict → k.heard_now ≡ [] → ⊥
   met_some number r conflict met none = not_nil met.before met.h met.later (sym met.whole ∙ none)
 
   read_low : IfSome (reader_of p x) (λ ts. ts ≤ k.top)
   read_low = by p
     where
       low : x.reads.ts ≤ k.top
-      low = let e : x.reads.ts ≡ w.t.read_ts = ap (λ x. x.reads.ts) w.stands.same in omega (arith, w.stands.behind, w.stands.below, counted.below)
+      low = let e : x.reads.ts ≡ w.t.read_ts = ap (λ x. x.reads.ts) w.stands.same in omega (arith, w.stands.behind, clock_reached k w.t w.stands.below (subst (λ id. MissedNothing id k.heard) same_id w.unmissed), counted.below)
 
       by : (p : Purpose) → IfSome (reader_of p x) (λ ts. ts ≤ k.top)
       by (purposes.Beat call reading) = tt
+      by (purposes.Prove call) = tt
       by purposes.Read = low
-      by (purposes.Write again) = tt
+      by purposes.Write = tt
       by (purposes.Refresh n) = tt
       by (purposes.Commit n) = tt
       by (purposes.Abort why) = tt
@@ -186,10 +193,11 @@ module _ (session clock count : ℕ) (splits : List (List ℕ)) (k : Known) (x :
   pub has_beaten : (k.heard_now ≡ [] → ⊥) → HasBeaten k w.t
   has_beaten some = by p w.serves w.beaten
     where
-      by : (q : Purpose) → Serves splits k w.s w.t x q ms → HasBeatenBy q k w.t → HasBeaten k w.t
+      by : (q : Purpose) → Serves set k w.s w.t x q ms → HasBeatenBy q k w.t → HasBeaten k w.t
       by (purposes.Beat call reading) r b = absurd (some r.unheard)
+      by (purposes.Prove call) r b = b
       by purposes.Read r b = b
-      by (purposes.Write again) r b = b
+      by purposes.Write r b = b
       by (purposes.Refresh n) r b = b
       by (purposes.Commit n) r b = b
       by (purposes.Abort why) r b = b
@@ -200,13 +208,13 @@ module _ (session clock count : ℕ) (splits : List (List ℕ)) (k : Known) (x :
       let f = due_round ms number conflict due in
       let m : Message = f.0 in
       let found : find is_in_conflict ms ≡ Some m = (first_found ms m f.1).0 in
-      let stands_m : MessageStands k m = found_all is_in_conflict (MessageStands k) ms m found w.wave.stand in
-      let met : MetConflict k number m.request conflict = subst (λ p. IsAsFar k m.request m.conflicts p) f.2.progress stands_m.as_far in
+      let stands_m : MessageStands set.course k m = found_all is_in_conflict (MessageStands set.course k) ms m found w.wave.stand in
+      let met : MetConflict set.course k number m.request conflict = subst (λ p. IsAsFar set.course k m.request m.conflicts p) f.2.progress stands_m.as_far in
       let some = met_some number m.request conflict met in
       let our : IsOurs k w.s w.t (reader_of p x) m.request = found_all is_in_conflict (λ m. IsOurs k w.s w.t (reader_of p x) m.request) ms m found (all_ours some) in
       let holder_is : holder_met m.progress ≡ Some met.holder.id = ap holder_met f.2.progress ∙ ap holder_in met.is in
       let one = holder_counted met.holder.id is_in_conflict ms m found holder_is in
-      let is_due : IsRoundDue k number conflict = subst (MayBeDue k ms) due (may_be_due k ms w.wave) in
+      let is_due : IsRoundDue set.course k number conflict = subst (MayBeDue set.course k ms) due (may_be_due set.course k ms w.wave) in
       record {
         s = w.s;
         opened = w.opened;
@@ -231,7 +239,7 @@ module _ (session clock count : ℕ) (splits : List (List ℕ)) (k : Known) (x :
       }
 
   -- a message that met an intent may block the call
-  blocks_with : (m : Message) → find is_in_conflict ms ≡ Some m → (number : ℕ) (conflict : Reply) → MetConflict k number m.request conflict → IsBlockable w.s
+  blocks_with : (m : Message) → find is_in_conflict ms ≡ Some m → (number : ℕ) (conflict : Reply) → MetConflict set.course k number m.request conflict → IsBlockable w.s
   blocks_with m found number conflict met =
       let our : IsOurs k w.s w.t (reader_of p x) m.request = found_all is_in_conflict (λ m. IsOurs k w.s w.t (reader_of p x) m.request) ms m found (all_ours (met_some number m.request conflict met)) in
       our.blocks met.holder met.ts met.key (subst (MayAnswer m.request) met.is met.kind)
@@ -242,9 +250,9 @@ module _ (session clock count : ℕ) (splits : List (List ℕ)) (k : Known) (x :
       let f = blocked_first (first_in_conflict ms) (find is_to_send ms) (list_all has_answer ms) holder due in
       let m : Message = f.0 in
       let found : find is_in_conflict ms ≡ Some m = (first_found ms m f.1).0 in
-      let stands_m : MessageStands k m = found_all is_in_conflict (MessageStands k) ms m found w.wave.stand in
+      let stands_m : MessageStands set.course k m = found_all is_in_conflict (MessageStands set.course k) ms m found w.wave.stand in
       let has : HasMetOne k m = met_as k m m.progress refl (found_passes is_in_conflict ms m found) stands_m.as_far in
-      let eight : MetEight holder k.heard_now = subst (MayBeDue k ms) due (may_be_due k ms w.wave) in
+      let eight : MetEight holder k.heard_now = subst (MayBeDue set.course k ms) due (may_be_due set.course k ms w.wave) in
       (blocks_with m found has.number has.conflict has.met, eight, has_beaten (met_some has.number m.request has.conflict has.met))
 
   -- or by a round that it waits for
@@ -253,18 +261,19 @@ module _ (session clock count : ℕ) (splits : List (List ℕ)) (k : Known) (x :
       let f = due_round ms number conflict due in
       let m : Message = f.0 in
       let found : find is_in_conflict ms ≡ Some m = (first_found ms m f.1).0 in
-      let stands_m : MessageStands k m = found_all is_in_conflict (MessageStands k) ms m found w.wave.stand in
-      let met : MetConflict k number m.request conflict = subst (λ p. IsAsFar k m.request m.conflicts p) f.2.progress stands_m.as_far in
+      let stands_m : MessageStands set.course k m = found_all is_in_conflict (MessageStands set.course k) ms m found w.wave.stand in
+      let met : MetConflict set.course k number m.request conflict = subst (λ p. IsAsFar set.course k m.request m.conflicts p) f.2.progress stands_m.as_far in
       (blocks_with m found number conflict met, has_beaten (met_some number m.request conflict met))
 
   -- no commit of it is out
   pub none_out : IsBlockable w.s → out_of p ms ≡ None
   none_out b = by p refl w.serves
     where
-      by : (q : Purpose) → p ≡ q → Serves splits k w.s w.t x q ms → out_of p ms ≡ None
+      by : (q : Purpose) → p ≡ q → Serves set k w.s w.t x q ms → out_of p ms ≡ None
       by (purposes.Beat call reading) e r = ap (λ q. out_of q ms) e
+      by (purposes.Prove call) e r = ap (λ q. out_of q ms) e
       by purposes.Read e r = ap (λ q. out_of q ms) e
-      by (purposes.Write again) e r = ap (λ q. out_of q ms) e
+      by purposes.Write e r = ap (λ q. out_of q ms) e
       by (purposes.Refresh n) e r = ap (λ q. out_of q ms) e
       by (purposes.Commit n) e r = absurd (b.other r.commits.call)
       by (purposes.Abort why) e r = ap (λ q. out_of q ms) e
@@ -273,18 +282,19 @@ module _ (session clock count : ℕ) (splits : List (List ℕ)) (k : Known) (x :
   pub flight_suits : IsBlockable w.s → SuitsFlight w.s.call x.in_flight
   flight_suits b = by p refl w.serves
     where
-      write_suits : (again : Bool) (r : ServesWrite again k w.s w.t x ms) → LaysNext k w.s w.t x r.key r.value again r.m ⊎ LaysLast k w.s w.t x r.key r.value again r.m → SuitsFlight w.s.call x.in_flight
-      write_suits again r (inl l) = subst (λ f. SuitsFlight w.s.call f) (sym l.none_in_flight) tt
-      write_suits again r (inr l) = subst (λ f. SuitsFlight w.s.call f) (sym l.in_flight) (subst (λ c. SuitsFlight c (l.w ∷ [])) (sym r.call) (same_write l.w r.key r.value l.place l.what))
+      write_suits : (r : ServesWrite k w.s w.t x ms) → LaysNext k w.s w.t x r.key r.value r.m ⊎ LaysLast k w.t x r.key r.value r.m → SuitsFlight w.s.call x.in_flight
+      write_suits r (inl l) = subst (λ f. SuitsFlight w.s.call f) (sym l.none_in_flight) tt
+      write_suits r (inr l) = subst (λ f. SuitsFlight w.s.call f) (sym l.in_flight) (subst (λ c. SuitsFlight c (l.w ∷ [])) (sym r.call) (same_write l.w r.key r.value l.place l.what))
         where
           same_write : (w : WriteInFlight) (key : List ℕ) (value : Option (List ℕ)) → w.key ≡ key → w.value ≡ value → SuitsFlight (write_call key value) (w ∷ [])
           same_write w key None place what = (place, what)
           same_write w key (Some value) place what = (place, what)
 
-      by : (q : Purpose) → p ≡ q → Serves splits k w.s w.t x q ms → SuitsFlight w.s.call x.in_flight
+      by : (q : Purpose) → p ≡ q → Serves set k w.s w.t x q ms → SuitsFlight w.s.call x.in_flight
       by (purposes.Beat call reading) e r = subst (λ c. SuitsFlight c x.in_flight) (sym (ap (λ (s : Statement). s.call) r.asked)) r.suits
+      by (purposes.Prove call) e r = subst (λ c. SuitsFlight c x.in_flight) (sym r.asked) r.suits
       by purposes.Read e r = subst (λ f. SuitsFlight w.s.call f) (sym r.none_in_flight) tt
-      by (purposes.Write again) e r = write_suits again r r.lays
+      by purposes.Write e r = write_suits r r.lays
       by (purposes.Refresh n) e r = subst (λ f. SuitsFlight w.s.call f) (sym r.commits.none_in_flight) tt
       by (purposes.Commit n) e r = subst (λ f. SuitsFlight w.s.call f) (sym r.commits.none_in_flight) tt
       by (purposes.Abort why) e r = suits_abort x.in_flight

@@ -1,12 +1,13 @@
 -- Where nothing of an open call is to be sent, and none of its messages met a conflict, each of its requests was sent once more than it met intents.
 use Rattle.std.proofs.Common.{◌≡◌, ℕ, ◌+◌, true, false, ◌⊎◌, inl, inr, List, [], ◌∷◌, refl, sym, ◌∙◌, All, IsTrue}
 use Rattle.std.proofs.lemmas.List.Elements.{All-cons, All-head, All-nil, All-tail, All-weaker}
+use Rattle.pc_call.specs.Setting.{Setting}
 use Rattle.pc_call.proofs.Beside.{IsSentOnceMore, all_past}
 use Rattle.pc_call.specs.declared.purpose.Purpose.{Purpose}
 use Rattle.pc_call.specs.Serving.{InCall}
-use Rattle.pc_follows.specs.AgainInOneWave.{AreAllSentPast, WasSentPastConflicts}
+use Rattle.pc_follows.specs.AgainInOneWave.{AreAllSentPast, IsLeft, WasSentPastConflicts}
 use Rattle.pc_follows.specs.Heartbeats.{is_heartbeat}
-use Rattle.pc_follows.specs.CallMessages.{IsFor, IsForCall}
+use Rattle.pc_follows.specs.CallMessages.{IsForCall, IsPlainFor}
 use Rattle.pc_proto.specs.declared.call.Call.{Call}
 use Rattle.pc_proto.specs.declared.call.Call.TheVariants as calls
 use Rattle.pc_proto.specs.declared.request.Request.{Request}
@@ -46,7 +47,7 @@ abort_for (requests.Abort meta why locks) is = refl
 abort_for r is = absurd cc
 
 -- what is sent for a call does not go beside its waves
-none_beside : (call : Call) (r : Request) → IsFor call r → goes_beside r ≡ false
+none_beside : (call : Call) (r : Request) → IsPlainFor call r → goes_beside r ≡ false
 none_beside (calls.Get key) r is = get_for r is
 none_beside (calls.Scan span) r is = scan_for r is
 none_beside (calls.Put key value) r is = put_for key r is
@@ -72,10 +73,10 @@ all_once_more (m ∷ ms) out plain =
     All-cons IsSentOnceMore m ms (once_more m m.progress (All-head (λ m. is_to_send m ≡ false) m ms out) (All-head (λ m. is_in_conflict m ≡ false) m ms plain))
     (all_once_more ms (All-tail (λ m. is_to_send m ≡ false) m ms out) (All-tail (λ m. is_in_conflict m ≡ false) m ms plain))
 
-pub sent_past : (splits : List (List ℕ)) (k : Known) (x : OpenTxn) (p : Purpose) (ms : List Message) → InCall splits k x p ms → All (λ m. is_to_send m ≡ false) ms → All (λ m. is_in_conflict m ≡ false) ms → AreAllSentPast k
-sent_past splits k x p ms w out plain =
-    All-weaker (λ m. IsTrue (goes_beside m.request) ⊎ WasSentPastConflicts k m.request) (λ m. IsForCall k m.request → WasSentPastConflicts k m.request) by k.sent_now (all_past k ms w.wave w.done (all_once_more ms out plain))
+pub sent_past : (set : Setting) (k : Known) (x : OpenTxn) (p : Purpose) (ms : List Message) → InCall set k x p ms → All (λ m. is_to_send m ≡ false) ms → All (λ m. is_in_conflict m ≡ false) ms → AreAllSentPast false k
+sent_past set k x p ms w out plain =
+    All-weaker (λ m. IsTrue (goes_beside m.request) ⊎ WasSentPastConflicts k m.request) (λ m. IsForCall false k m.request → IsLeft k m → WasSentPastConflicts k m.request) by k.sent_now (all_past k ms w.wave w.done (all_once_more ms out plain))
   where
-    by : (m : Sent) → IsTrue (goes_beside m.request) ⊎ WasSentPastConflicts k m.request → IsForCall k m.request → WasSentPastConflicts k m.request
-    by m (inl beside) kind = let e : false ≡ true = sym (elim kind.kind [ inl is ↦ none_beside kind.s.call m.request is | inr shows ↦ beat_beside m.request shows.1 ]) ∙ beside in absurd cc
-    by m (inr past) kind = past
+    by : (m : Sent) → IsTrue (goes_beside m.request) ⊎ WasSentPastConflicts k m.request → IsForCall false k m.request → IsLeft k m → WasSentPastConflicts k m.request
+    by m (inl beside) kind left = let e : false ≡ true = sym (elim kind.kind [ inl is ↦ none_beside kind.s.call m.request is | inr shows ↦ beat_beside m.request shows.1 ]) ∙ beside in absurd cc
+    by m (inr past) kind left = past

@@ -1,11 +1,12 @@
 -- No message of an open call is a heartbeat, but for that whose purpose it is.
-use Rattle.std.proofs.Common.{◌≡◌, false, ◌⊎◌, inl, inr, Bool, List, [], ◌∷◌, map, refl, sym, ap, subst, ℕ, All}
-use Rattle.std.proofs.lemmas.List.Elements.{All-cons, All-map, All-nil}
+use Rattle.std.proofs.Common.{◌≡◌, false, ◌⊎◌, inl, inr, List, [], ◌∷◌, map, refl, sym, ap, subst, ℕ, All}
+use Rattle.std.proofs.lemmas.List.Elements.{All-cons, All-map, All-nil, All-weaker}
 use Rattle.std.specs.Prelude.{⊤}
+use Rattle.pc_call.specs.Setting.{Setting}
 use Rattle.pc_call.proofs.Lists.{all_unmapped}
 use Rattle.pc_call.specs.declared.purpose.Purpose.{Purpose}
 use Rattle.pc_call.specs.declared.purpose.Purpose.TheVariants as purposes
-use Rattle.pc_call.specs.Serving.{AreReadsOf, LaysLast, LaysNext, Serves, ServesWrite}
+use Rattle.pc_call.specs.Serving.{AreReadsOf, LaysLast, LaysNext, SendsAgain, Serves, ServesWrite}
 use Rattle.pc_follows.specs.Heartbeats.{is_heartbeat}
 use Rattle.pc_proto.specs.declared.call.Call.{Call}
 use Rattle.pc_proto.specs.declared.call.Call.TheVariants as calls
@@ -37,11 +38,11 @@ every : {X : Type 0} (P : X → Type 0) → ((x : X) → P x) → (xs : List X) 
 every P all [] = All-nil P
 every P all (x ∷ xs) = All-cons P x xs (all x) (every P all xs)
 
-module _ (splits : List (List ℕ)) (k : Known) (s : Statement) (t : Txn) (x : OpenTxn) where
-  reads_silent : (call : Call) (rs : List Request) → AreReadsOf splits x call rs → All IsSilent rs
+module _ (set : Setting) (k : Known) (s : Statement) (t : Txn) (x : OpenTxn) where
+  reads_silent : (call : Call) (rs : List Request) → AreReadsOf set.splits x call rs → All IsSilent rs
   reads_silent (calls.Get key) rs e = subst (λ rs. All IsSilent rs) (sym e) (All-cons IsSilent (own_get x key) [] refl (All-nil IsSilent))
   reads_silent (calls.Scan span) rs e =
-      subst (λ rs. All IsSilent rs) (sym e) (All-map IsSilent (λ p. own_scan x p.1) (pieces splits span) (every (λ p. IsSilent (own_scan x p.1)) (λ p. refl) (pieces splits span)))
+      subst (λ rs. All IsSilent rs) (sym e) (All-map IsSilent (λ p. own_scan x p.1) (pieces set.splits span) (every (λ p. IsSilent (own_scan x p.1)) (λ p. refl) (pieces set.splits span)))
   reads_silent call rs e = absurd e
 
   one_silent : (ms : List Message) (m : Message) → ms ≡ m ∷ [] → IsSilent m.request → All (λ m. IsSilent m.request) ms
@@ -49,14 +50,15 @@ module _ (splits : List (List ℕ)) (k : Known) (s : Statement) (t : Txn) (x : O
       let P : Message → Type 0 = λ m. IsSilent m.request in
       subst (λ ms. All P ms) (sym one) (All-cons P m [] silent (All-nil P))
 
-  write_silent : (again : Bool) (ms : List Message) (w : ServesWrite again k s t x ms) → LaysNext k s t x w.key w.value again w.m ⊎ LaysLast k s t x w.key w.value again w.m → IsSilent w.m.request
-  write_silent again ms w (inl l) = ap is_heartbeat l.said
-  write_silent again ms w (inr l) = ap is_heartbeat l.said
+  write_silent : (ms : List Message) (w : ServesWrite k s t x ms) → LaysNext k s t x w.key w.value w.m ⊎ LaysLast k t x w.key w.value w.m → IsSilent w.m.request
+  write_silent ms w (inl l) = ap is_heartbeat l.said
+  write_silent ms w (inr l) = ap is_heartbeat l.said
 
-  pub silent : (p : Purpose) (ms : List Message) → Serves splits k s t x p ms → AreSilent p ms
+  pub silent : (p : Purpose) (ms : List Message) → Serves set k s t x p ms → AreSilent p ms
   silent (purposes.Beat call reading) ms r = tt
+  silent (purposes.Prove call) ms r = All-weaker (SendsAgain call k t x) (λ m. IsSilent m.request) (λ m a. ap is_heartbeat a.said) ms r.again
   silent purposes.Read ms r = all_unmapped IsSilent (λ m. m.request) ms (reads_silent s.call (map (λ m. m.request) ms) r.asked)
-  silent (purposes.Write again) ms r = one_silent ms r.m r.one (write_silent again ms r r.lays)
+  silent purposes.Write ms r = one_silent ms r.m r.one (write_silent ms r r.lays)
   silent (purposes.Refresh n) ms r =
       all_unmapped IsSilent (λ m. m.request) ms
       (subst (λ rs. All IsSilent rs) (sym r.asked)

@@ -1,16 +1,18 @@
 -- A message of an open call goes out.
-use Rattle.std.proofs.Common.{◌≡◌, ℕ, ◌+◌, ◌-◌, ◌≤◌, Bool, true, false, cond, not, ◌||◌, ◌⊎◌, inl, inr, List, [], ◌∷◌, ◌++◌, length, map, find, take, Option, Some, None, refl, sym, ap, ◌∙◌, subst, arith, All, Any, Contains, IsTrue, unwrap_or, append_assoc, length-append}
+use Rattle.std.proofs.Common.{◌≡◌, ℕ, ◌+◌, ◌-◌, ◌≤◌, ◌==◌, Bool, true, false, cond, not, ◌||◌, ◌⊎◌, inl, inr, List, [], ◌∷◌, ◌++◌, length, map, find, take, Option, Some, None, refl, sym, ap, ◌∙◌, subst, arith, All, Any, Contains, IsTrue, unwrap_or, append_assoc, length-append}
 use Rattle.std.proofs.Math.Seq.{take-append_seam}
 use Rattle.std.specs.List.{list_all, list_any}
 use Rattle.std.proofs.lemmas.List.{append-nil}
 use Rattle.std.proofs.lemmas.List.Elements.{All-cons, All-map, All-nil, All-push, All-weaker}
-use Rattle.std.proofs.lemmas.Bool.{eq-eqb}
+use Rattle.std.proofs.lemmas.Bool.{eq-eqb, ne_eqb}
+use Rattle.std.proofs.lemmas.List.Folds.{list_any_none}
+use Rattle.pc_call.specs.Setting.{Setting}
 use Rattle.pc_base.specs.declared.transaction.TxnId.{TxnId}
 use Rattle.pc_call.proofs.Beating.{beaten_sent, not_nil}
 use Rattle.pc_call.proofs.Facts.{are_numbered}
 use Rattle.pc_call.proofs.Holders.{holders_sent}
-use Rattle.pc_call.proofs.Lists.{all_behind, all_front, all_unmapped, kept_by, only_found}
-use Rattle.pc_call.proofs.Meeting.{any_changed, gone_now, gone_out_on, low-more, met-more}
+use Rattle.pc_call.proofs.Lists.{all_behind, all_changed, all_front, all_unmapped, kept_by, only_found}
+use Rattle.pc_call.proofs.Meeting.{any_changed, any_goes_on, gone_now, gone_out_on, low-more, met-more}
 use Rattle.pc_call.proofs.Silent.{AreSilent, IsSilent, silent}
 use Rattle.pc_call.proofs.Turning.{turn_sent}
 use Rattle.pc_call.proofs.Beside.{IsAskedOrBeside, asked-kept, found_asked}
@@ -20,7 +22,8 @@ use Rattle.pc_call.specs.declared.purpose.Purpose.TheVariants as purposes
 use Rattle.pc_call.specs.Learned.{known_sent}
 use Rattle.pc_call.specs.Opening.{after_send, laid_first, laid_with}
 use Rattle.pc_call.specs.Paced.{IsPaced}
-use Rattle.pc_call.specs.Serving.{AreReadsOf, HasBeatenBy, HasGoneOut, InCall, IsCommitCall, IsMetUpTo, IsOpenIn, IsOutHere, IsReadFor, IsRefreshGoneOut, IsRefreshUpTo, IsSplit, LaysLast, LaysNext, MetNoOtherWrite, NoOtherMetEighth, Serves, ServesAbort, ServesBeat, ServesCommit, ServesRead, ServesRefresh, ServesWrite, WasRefusedIfCommit, commit_asked, holders_met, out_of, write_call}
+use Rattle.pc_call.specs.Serving.{AreReadsOf, HasBeatenBy, HasGoneOut, InCall, IsCommitCall, IsMetUpTo, IsOpenFor, IsOpenIn, IsOutHere, IsReadFor, IsRefreshGoneOut, IsRefreshUpTo, IsSplit, LaysLast, LaysNext, MetNoOtherWrite, NoOtherMetEighth, SendsAgain, Serves, ServesAbort, ServesBeat, ServesCommit, ServesProve, ServesRead, ServesRefresh, ServesWrite, WasRefusedIfCommit, commit_asked, holders_met, out_of, write_call}
+use Rattle.pc_call.specs.Waiting.{depends_on}
 use Rattle.pc_follows.specs.Heartbeats.{HasBeaten}
 use Rattle.pc_lists.proofs.Lists.{contains_head}
 use Rattle.pc_proto.specs.declared.call.Call.{Call}
@@ -35,33 +38,34 @@ use Rattle.pc_reads.specs.ReadsStanding.{refresh_to}
 use Rattle.pc_reads.specs.Replies.{unrefreshed_in}
 use Rattle.pc_refusals.proofs.Counted.{refusals_go}
 use Rattle.pc_refusals.specs.Moves.{CountsMoves, IsNoMove}
+use Rattle.pc_txn.proofs.Again.{asked_sent}
 use Rattle.pc_txn.proofs.Alive.{beat_sent}
 use Rattle.pc_txn.proofs.Commits.{commit_now, commit_sent}
 use Rattle.pc_txn.proofs.Keeping.{free_over, free_passed, quiet_sent, stands_on}
-use Rattle.pc_txn.proofs.Laying.{next_laid, put_resent}
+use Rattle.pc_txn.proofs.Laying.{asked_then, next_laid, put_resent}
 use Rattle.pc_txn.proofs.Puts.{no_put}
 use Rattle.pc_txn.specs.Counted.{IsCounted}
 use Rattle.pc_flight.specs.declared.write.WriteInFlight.{WriteInFlight}
 use Rattle.pc_txn.specs.declared.txn.OpenTxn.{OpenTxn}
-use Rattle.pc_txn.specs.Opened.{next_put, own_commit, own_get, own_put, own_scan, with_commit, with_next_write}
+use Rattle.pc_txn.specs.Opened.{next_put, own_commit, own_get, own_put, own_scan, put_at, with_commit, with_next_write}
 use Rattle.pc_txn.specs.Silence.{own_beat, shown_at}
-use Rattle.pc_txn.specs.Standing.{HasMovedOn, LeavesAsIs, TxnStands, is_plain}
-use Rattle.pc_txn.specs.Writing.{PutsUpTo}
+use Rattle.pc_txn.specs.Standing.{HasMovedOn, LeavesAsIs, TxnStands, is_plain, MissedNothing}
+use Rattle.pc_txn.specs.Writing.{PutsUpTo, WasAskedAt}
 use Rattle.pc_wave.proofs.Changed.{found_all, found_passes}
 use Rattle.pc_wave.proofs.Sending.{sends_first, wave_sent}
 use Rattle.pc_wave.specs.declared.message.Message.{Message}
 use Rattle.pc_wave.specs.declared.message.Progress.{Progress}
 use Rattle.pc_wave.specs.declared.message.Progress.TheVariants as progresses
 use Rattle.pc_wave.specs.declared.step.Step.TheVariants as steps
-use Rattle.pc_wave.specs.Messages.{first_changed, first_in_conflict, has_answer, is_to_send, progress_awaits, progress_to_send, sent_under, step_of, wave_awaits}
-use Rattle.pc_wave.specs.Standing.{HasMore, WaveStands}
+use Rattle.pc_wave.specs.Messages.{first_changed, first_in_conflict, has_answer, is_to_send, progress_awaits, progress_has_answer, progress_to_send, sent_under, step_of, wave_awaits}
+use Rattle.pc_wave.specs.Standing.{AreOfTwo, HasMore, WaveStands, goes_beside}
 use Rattle.pc_world.specs.Known.{Known, next_number}
 use Rattle.pc_world.specs.Known.Traffic.{Heard, Sent}
 use Rattle.pc_world.specs.Known.Transactions.{Txn, txn_sent}
 use Rattle.pc_world.specs.Known.Writes.{last_seq_of}
 use Rattle.pc_world.specs.RangeOf.{pieces}
 use Rattle.pc_world.specs.Send.Abort.{own_cause}
-use Rattle.pc_world.specs.Tell.Refusal.{IsConflictOf}
+use Rattle.pc_world.specs.Tell.Refusal.{IsConflictOf, is_heard}
 use Rattle.pc_world.specs.SameRequest.{IsSameRequest}
 use Rattle.pc_world.specs.Tell.Data.{IsFirstPut, IsPutFor, sent_before}
 
@@ -69,10 +73,6 @@ use Rattle.pc_world.specs.Tell.Data.{IsFirstPut, IsPutFor, sent_before}
 abbrev IsPutForAs : TxnId → ℕ → List ℕ → Option (List ℕ) → ℕ → Request → Type 0
 IsPutForAs id epoch key value seq (requests.Put meta at_seq ts at_key at_value) = (meta.id ≡ id) × (meta.epoch ≡ epoch) × (at_seq ≡ seq) × (at_key ≡ key) × (at_value ≡ value)
 IsPutForAs id epoch key value seq _ = ⊥
-
--- which sequence a put has
-seq_of_put : (t : Txn) (key : List ℕ) (value : Option (List ℕ)) (seq : ℕ) (request : Request) (x : OpenTxn) (anchor : List ℕ) (w : WriteInFlight) → request ≡ own_put x anchor w → IsPutFor t key value seq request → w.seq ≡ seq
-seq_of_put t key value seq request x anchor w said put = (subst (IsPutFor t key value seq) said put).2
 
 every : {X : Type 0} (P : X → Type 0) → ((x : X) → P x) → (xs : List X) → All P xs
 every P all [] = All-nil P
@@ -100,7 +100,7 @@ none_waited n m is = ap (λ p. progress_awaits n p || false) (to_send_as m.progr
 one_sent : (number : ℕ) (m : Message) → is_to_send m ≡ true → first_changed is_to_send (sent_under number) (m ∷ []) ≡ sent_under number m ∷ []
 one_sent number m is = ap (λ b. cond b (sent_under number m ∷ []) (m ∷ [])) is
 
-module _ (session clock count : ℕ) (splits : List (List ℕ)) (k : Known) (x : OpenTxn) (p : Purpose) (ms : List Message) (counted : IsCounted session clock count k) (w : InCall splits k x p ms)
+module _ (session clock count : ℕ) (set : Setting) (k : Known) (x : OpenTxn) (p : Purpose) (ms : List Message) (counted : IsCounted session clock count k) (w : InCall set k x p ms)
     (request : Request) (due : step_of ms ≡ steps.Send request) (number : ℕ) (next : number ≡ next_number k) (range : ℕ) where
   abbrev m2 : Sent
   m2 = record { number = number; range = range; request = request }
@@ -123,8 +123,8 @@ module _ (session clock count : ℕ) (splits : List (List ℕ)) (k : Known) (x :
   first_one : (m : Message) × (find is_to_send ms ≡ Some m) × (m.request ≡ request)
   first_one = sends_first (first_in_conflict ms) (find is_to_send ms) (list_all has_answer ms) request due
 
-  wave2 : WaveStands k2 ms2
-  wave2 = wave_sent k k2 ms number range request w.wave (are_numbered session clock count k counted) due next more
+  wave2 : WaveStands set.course k2 ms2
+  wave2 = wave_sent set.course k k2 ms number range request w.wave (are_numbered session clock count k counted) due next more
 
   requests2 : map (λ m. m.request) ms2 ≡ map (λ m. m.request) ms
   requests2 = kept_by is_to_send (sent_under number) (λ (m : Message). m.request) ms (λ m. refl)
@@ -154,35 +154,48 @@ module _ (session clock count : ℕ) (splits : List (List ℕ)) (k : Known) (x :
   sent2 : k2.sent ≡ w.split.sent_first ++ k2.sent_now
   sent2 = ap (λ ms. ms ++ m2 ∷ []) w.split.sent ∙ append_assoc w.split.sent_first k.sent_now (m2 ∷ [])
 
+  -- what goes out was not heard before
+  new_unheard : is_heard w.split.heard_first m2 ≡ false
+  new_unheard =
+      let P : Heard → Type 0 = λ h. h.number ≤ length k.sent in
+      let low : All P w.split.heard_first = all_front P w.split.heard_first k.heard_now (subst (λ hs. All P hs) w.split.heard (are_numbered session clock count k counted).heard) in
+      list_any_none (λ h. h.number == number) w.split.heard_first (All-weaker P (λ h. (h.number == number) ≡ false) (λ h l. ne_eqb h.number number (λ e. absurd (omega (arith, l, e, next)))) w.split.heard_first low)
+
   split2 : IsSplit k2
   split2 = record {
     sent_first = w.split.sent_first;
     sent = sent2;
     heard_first = w.split.heard_first;
     heard = w.split.heard;
+    unheard = All-push (λ m. IsTrue (goes_beside m.request) ⊎ (is_heard w.split.heard_first m ≡ false)) k.sent_now m2 w.split.unheard (inr new_unheard);
   }
 
   -- what went out is a heartbeat only where that is the purpose
   beaten2 : HasBeatenBy p k2 t2
-  beaten2 = by p w.beaten (silent splits k w.s w.t x p ms w.serves)
+  beaten2 = by p w.beaten (silent set k w.s w.t x p ms w.serves)
     where
       on : All (λ m. IsSilent m.request) ms → HasBeaten k w.t → HasBeaten k2 t2
       on none b = beaten_sent k w.t number range request w.open_in (subst IsSilent first_one.2 (found_all is_to_send (λ (m : Message). IsSilent m.request) ms first_one.0 first_one.1 none)) b
 
       by : (q : Purpose) → HasBeatenBy q k w.t → AreSilent q ms → HasBeatenBy q k2 t2
       by (purposes.Beat call reading) b none = tt
+      by (purposes.Prove call) b none = on none b
       by purposes.Read b none = on none b
-      by (purposes.Write again) b none = on none b
+      by purposes.Write b none = on none b
       by (purposes.Refresh n) b none = on none b
       by (purposes.Commit n) b none = on none b
       by (purposes.Abort why) b none = on none b
 
+  same_id2 : (x2 : OpenTxn) → TxnStands k2 [] (out_of p ms2) t2 x2 → x.id ≡ x2.id
+  same_id2 x2 st = ap (λ x. x.id) w.stands.same ∙ sym (ap (λ x. x.id) st.same)
+
   -- the call stands where its transaction and its purpose do
-  gone_out : (x2 : OpenTxn) → TxnStands k2 [] (out_of p ms2) t2 x2 → x2.cause ≡ whys.Client → Serves splits k2 w.s t2 x2 p ms2 → InCall splits k2 x2 p ms2
+  gone_out : (x2 : OpenTxn) → TxnStands k2 [] (out_of p ms2) t2 x2 → x2.cause ≡ whys.Client → Serves set k2 w.s t2 x2 p ms2 → InCall set k2 x2 p ms2
   gone_out x2 st client serves = record {
     t = t2;
     open_in = open2;
     stands = st;
+    unmissed = subst (λ id. MissedNothing id k.heard) (same_id2 x2 st) w.unmissed;
     cause = client;
     s = w.s;
     opened = w.opened;
@@ -205,9 +218,9 @@ module _ (session clock count : ℕ) (splits : List (List ℕ)) (k : Known) (x :
         subst (λ t. TxnStands k2 [] out t x) (sym same2)
         (stands_on k k2 [] out w.t x (m2 ∷ []) [] st gone (All-cons (λ m. IsTrue (is_plain m.request)) m2 [] quiet (All-nil (λ m. IsTrue (is_plain m.request)))) (All-nil (LeavesAsIs w.t)))
 
-  read_serves : ServesRead splits k w.s x ms → ServesRead splits k2 w.s x ms2
+  read_serves : ServesRead set.splits k w.s x ms → ServesRead set.splits k2 w.s x ms2
   read_serves r = record {
-    asked = subst (λ rs. AreReadsOf splits x w.s.call rs) (sym requests2) r.asked;
+    asked = subst (λ rs. AreReadsOf set.splits x w.s.call rs) (sym requests2) r.asked;
     none_in_flight = r.none_in_flight;
     heard = subst (λ rs. All (IsReadFor rs) k.heard_now) (sym requests2) r.heard;
   }
@@ -295,16 +308,30 @@ module _ (session clock count : ℕ) (splits : List (List ℕ)) (k : Known) (x :
       let o = only_found is_to_send m first_one.0 found in
       (ap (λ (m : Message). m.request) o.0 ∙ first_one.2, o.1)
 
+  -- what is first after it was first before
+  first_back : (t : Txn) → t.id ≡ w.t.id → t.epoch ≡ w.t.epoch → (m : Sent) → IsFirstPut k2 w.s t m → IsFirstPut k w.s w.t m
+  first_back t id epoch m f = record {
+    seq = f.seq;
+    key = f.key;
+    value = f.value;
+    asked = f.asked;
+    put = subst (λ e. IsPutForAs w.t.id e f.key f.value f.seq m.request) epoch (subst (λ i. IsPutForAs i t.epoch f.key f.value f.seq m.request) id f.put);
+    first =
+        subst (λ ms. IsTrue (not (list_any (λ other. is_put_of w.t.id w.t.epoch f.seq other.request) ms))) before_same
+        (subst (λ e. IsTrue (not (list_any (λ other. is_put_of w.t.id e f.seq other.request) (sent_before k2)))) epoch
+        (subst (λ i. IsTrue (not (list_any (λ other. is_put_of i t.epoch f.seq other.request) (sent_before k2)))) id f.first));
+  }
+
   -- a write goes out
-  module _ (key : List ℕ) (value : Option (List ℕ)) (again : Bool) (m : Message) (call : w.s.call ≡ write_call key value) (one : ms ≡ m ∷ []) where
+  module _ (key : List ℕ) (value : Option (List ℕ)) (m : Message) (call : w.s.call ≡ write_call key value) (one : ms ≡ m ∷ []) where
     is_request : m.request ≡ request
     is_request = (one_message m one).0
 
     one2 : ms2 ≡ sent_under number m ∷ []
     one2 = ap (first_changed is_to_send (sent_under number)) one ∙ one_sent number m (one_message m one).1
 
-    next_serves : (st : TxnStands k [] None w.t x) → (l : LaysNext k w.s w.t x key value again m) → (x2 : OpenTxn) → x2 ≡ with_next_write key value x → TxnStands k2 [] None t2 x2 → ServesWrite again k2 w.s t2 x2 ms2
-    next_serves st l x2 made st2 =
+    next_serves : (st : TxnStands k [] None w.t x) → All IsNoMove k.heard_now → (l : LaysNext k w.s w.t x key value m) → (x2 : OpenTxn) → x2 ≡ with_next_write key value x → TxnStands k2 [] None t2 x2 → ServesWrite k2 w.s t2 x2 ms2
+    next_serves st still l x2 made st2 =
         let anchor : x2.anchor ≡ t2.anchor = ap (λ x. x.anchor) st2.same in
         let own_anchor : x2.anchor ≡ Some (unwrap_or x.anchor key) = ap (λ x. x.anchor) made in
         let laid : WriteInFlight = record { key = key; seq = x.seq + 1; value = value } in
@@ -317,6 +344,7 @@ module _ (session clock count : ℕ) (splits : List (List ℕ)) (k : Known) (x :
           call = call;
           m = sent_under number m;
           one = one2;
+          unmoved = still;
           lays = inr (record {
             w = laid;
             in_flight = ap (λ x. x.in_flight) made ∙ ap (λ fs. fs ++ laid ∷ []) l.none_in_flight;
@@ -325,31 +353,15 @@ module _ (session clock count : ℕ) (splits : List (List ℕ)) (k : Known) (x :
             anchor = unwrap_or x.anchor key;
             anchored = sym anchor ∙ own_anchor;
             said = l.said ∙ sym (ap (λ x. own_put x (unwrap_or x.anchor key) laid) made) ∙ ap (λ a. own_put x2 a laid) (ap (λ o. unwrap_or o key) own_anchor);
-            first = λ e.
+            first =
                 ap (λ ms. list_any (λ other. is_put_of w.t.id w.t.epoch laid.seq other.request) ms) (before_same ∙ before_is)
                 ∙ ap (λ n. list_any (λ other. is_put_of w.t.id w.t.epoch n other.request) w.split.sent_first) seq_is
                 ∙ no_put w.t (last_seq_of w.t.writes) (last_seq_of w.t.writes + 1) w.split.sent_first (omega arith) earlier;
-            old = λ e. let f : true ≡ false = sym e ∙ l.own in absurd cc;
-            before = λ e. let f : true ≡ false = sym e ∙ l.own in absurd cc;
           });
         }
 
-    -- what is first after it was first before, and the call's old write is none
-    first_back : (t : Txn) → t.id ≡ w.t.id → t.epoch ≡ w.t.epoch → (m : Sent) → IsFirstPut k2 w.s t m → IsFirstPut k w.s w.t m
-    first_back t id epoch m f = record {
-      seq = f.seq;
-      key = f.key;
-      value = f.value;
-      asked = f.asked;
-      put = subst (λ e. IsPutForAs w.t.id e f.key f.value f.seq m.request) epoch (subst (λ i. IsPutForAs i t.epoch f.key f.value f.seq m.request) id f.put);
-      first =
-          subst (λ ms. IsTrue (not (list_any (λ other. is_put_of w.t.id w.t.epoch f.seq other.request) ms))) before_same
-          (subst (λ e. IsTrue (not (list_any (λ other. is_put_of w.t.id e f.seq other.request) (sent_before k2)))) epoch
-          (subst (λ i. IsTrue (not (list_any (λ other. is_put_of i t.epoch f.seq other.request) (sent_before k2)))) id f.first));
-    }
-
-    last_serves : (st : TxnStands k [] None w.t x) → (l : LaysLast k w.s w.t x key value again m) → TxnStands k2 [] None t2 x → ServesWrite again k2 w.s t2 x ms2
-    last_serves st l st2 =
+    last_serves : (st : TxnStands k [] None w.t x) → All IsNoMove k.heard_now → (l : LaysLast k w.t x key value m) → TxnStands k2 [] None t2 x → ServesWrite k2 w.s t2 x ms2
+    last_serves st still l st2 =
         let a : x.anchor ≡ w.t.anchor = ap (λ x. x.anchor) st.same in
         let b : x.anchor ≡ t2.anchor = ap (λ x. x.anchor) st2.same in
         record {
@@ -358,6 +370,7 @@ module _ (session clock count : ℕ) (splits : List (List ℕ)) (k : Known) (x :
           call = call;
           m = sent_under number m;
           one = one2;
+          unmoved = still;
           lays = inr (record {
             w = l.w;
             in_flight = l.in_flight;
@@ -366,25 +379,12 @@ module _ (session clock count : ℕ) (splits : List (List ℕ)) (k : Known) (x :
             anchor = l.anchor;
             anchored = sym b ∙ a ∙ l.anchored;
             said = l.said;
-            first = λ e. ap (λ ms. list_any (λ other. is_put_of w.t.id w.t.epoch l.w.seq other.request) ms) before_same ∙ l.first e;
-            old = λ e. All-push (λ m. IsFirstPut k2 w.s t2 m → ⊥) k.sent_now m2 (All-weaker (λ m. IsFirstPut k w.s w.t m → ⊥) (λ m. IsFirstPut k2 w.s t2 m → ⊥) (λ m none f. none (first_back t2 refl refl m f)) k.sent_now (l.old e)) (old_one e);
-            before = λ e. ap (λ ms. list_any (λ other. is_put_of w.t.id w.t.epoch l.w.seq other.request) ms) before_same ∙ l.before e;
+            first = ap (λ ms. list_any (λ other. is_put_of w.t.id w.t.epoch l.w.seq other.request) ms) before_same ∙ l.first;
           });
         }
-      where
-        old_one : again ≡ true → IsFirstPut k2 w.s t2 m2 → ⊥
-        old_one e f =
-            let g : IsFirstPut k w.s w.t m2 = first_back t2 refl refl m2 f in
-            let said : request ≡ own_put x l.anchor l.w = sym is_request ∙ l.said in
-            let seq : l.w.seq ≡ g.seq = seq_of_put w.t g.key g.value g.seq request x l.anchor l.w said g.put in
-            let none : not (list_any (λ other. is_put_of w.t.id w.t.epoch l.w.seq other.request) (sent_before k)) ≡ true =
-            ap (λ n. not (list_any (λ other. is_put_of w.t.id w.t.epoch n other.request) (sent_before k))) seq ∙ g.first in
-            let some : not (list_any (λ other. is_put_of w.t.id w.t.epoch l.w.seq other.request) (sent_before k)) ≡ false = ap not (l.before e) in
-            let f : true ≡ false = sym none ∙ some in
-            absurd cc
 
-    write_out : (st : TxnStands k [] None w.t x) → LaysNext k w.s w.t x key value again m ⊎ LaysLast k w.s w.t x key value again m → p ≡ purposes.Write again → InCall splits k2 (laid_first ms x) p ms2
-    write_out st (inl l) is =
+    write_out : (st : TxnStands k [] None w.t x) → All IsNoMove k.heard_now → LaysNext k w.s w.t x key value m ⊎ LaysLast k w.t x key value m → p ≡ purposes.Write → InCall set k2 (laid_first ms x) p ms2
+    write_out st still (inl l) is =
         let said : request ≡ next_put x key value = sym is_request ∙ l.said in
         let made : laid_first ms x ≡ with_next_write key value x =
         ap (λ ms. laid_first ms x) one ∙ ap (λ f. laid_with f m.request x) l.none_in_flight ∙ ap (λ r. laid_with [] r x) l.said in
@@ -394,19 +394,19 @@ module _ (session clock count : ℕ) (splits : List (List ℕ)) (k : Known) (x :
         subst (λ y. TxnStands k2 [] None t2 y) (sym made)
         (subst (λ r. TxnStands k2 [] None (txn_sent r w.t) (with_next_write key value x)) (sym said) (next_laid k k2 [] None w.t x key value number range st (free_over k w.t x.staging st.staging) gone2)) in
         gone_out (laid_first ms x) (subst (λ q. TxnStands k2 [] (out_of q ms2) t2 (laid_first ms x)) (sym is) st2) (ap (λ x. x.cause) made ∙ w.cause)
-        (subst (λ q. Serves splits k2 w.s t2 (laid_first ms x) q ms2) (sym is) (next_serves st l (laid_first ms x) made st2))
-    write_out st (inr l) is =
+        (subst (λ q. Serves set k2 w.s t2 (laid_first ms x) q ms2) (sym is) (next_serves st still l (laid_first ms x) made st2))
+    write_out st still (inr l) is =
         let there : Contains x.in_flight l.w = subst (λ f. Contains f l.w) (sym l.in_flight) (contains_head l.w []) in
         let said : request ≡ own_put x l.anchor l.w = sym is_request ∙ l.said in
         let made : laid_first ms x ≡ x = ap (λ ms. laid_first ms x) one ∙ ap (λ f. laid_with f m.request x) l.in_flight in
         let gone2 : HasMovedOn k k2 (record { number = number; range = range; request = own_put x l.anchor l.w } ∷ []) [] =
         subst (λ r. HasMovedOn k k2 (record { number = number; range = range; request = r } ∷ []) []) said gone in
-        let st2 : TxnStands k2 [] None t2 x = subst (λ r. TxnStands k2 [] None (txn_sent r w.t) x) (sym said) (put_resent k [] None w.t x st l.w there l.anchor l.anchored k2 number range gone2) in
-        subst (λ y. InCall splits k2 y p ms2) (sym made)
-        (gone_out x (subst (λ q. TxnStands k2 [] (out_of q ms2) t2 x) (sym is) st2) w.cause (subst (λ q. Serves splits k2 w.s t2 x q ms2) (sym is) (last_serves st l st2)))
+        let st2 : TxnStands k2 [] None t2 x = subst (λ r. TxnStands k2 [] None (txn_sent r w.t) x) (sym said) (put_resent k [] None w.t x st l.w there l.anchor l.anchored x.write_ts k2 number range gone2) in
+        subst (λ y. InCall set k2 y p ms2) (sym made)
+        (gone_out x (subst (λ q. TxnStands k2 [] (out_of q ms2) t2 x) (sym is) st2) w.cause (subst (λ q. Serves set k2 w.s t2 x q ms2) (sym is) (last_serves st still l st2)))
 
   -- a commit goes out
-  commit_out : (n : ℕ) → p ≡ purposes.Commit n → ServesCommit n k w.s w.t x ms → InCall splits k2 (with_commit x) p ms2
+  commit_out : (n : ℕ) → p ≡ purposes.Commit n → ServesCommit n k w.s w.t x ms → InCall set k2 (with_commit x) p ms2
   unfolding commit_call2
   commit_out n is c =
       let o = one_message c.m c.one in
@@ -422,7 +422,7 @@ module _ (session clock count : ℕ) (splits : List (List ℕ)) (k : Known) (x :
       let out2 : out_of (purposes.Commit n) ms2 ≡ Some (commit_now w.t c.commits.anchor) =
       ap (out_of (purposes.Commit n)) one2 ∙ ap commit_asked c.said ∙ ap (λ x. commit_asked (own_commit x c.commits.anchor)) st.same in
       gone_out (with_commit x) (subst (λ q. TxnStands k2 [] (out_of q ms2) t2 (with_commit x)) (sym is) (subst (λ o. TxnStands k2 [] o t2 (with_commit x)) (sym out2) st2)) w.cause
-      (subst (λ q. Serves splits k2 w.s t2 (with_commit x) q ms2) (sym is) (record {
+      (subst (λ q. Serves set k2 w.s t2 (with_commit x) q ms2) (sym is) (record {
         commits = commit_call2 n t2 (with_commit x) (ap (λ r. (txn_sent r w.t).anchor) said) refl c.commits;
         refused =
             let ts_is : t2.write_ts ≡ w.t.write_ts = ap (λ r. (txn_sent r w.t).write_ts) said in
@@ -448,8 +448,97 @@ module _ (session clock count : ℕ) (splits : List (List ℕ)) (k : Known) (x :
           let f : false ≡ true = sym (none_waited s.number m to_send) ∙ ap (wave_awaits s.number) (sym one) ∙ o.waited in absurd cc
       earlier m one to_send s (inr r) = inr r
 
+  -- a write of an earlier call goes out again
+  module _ (call : Call) (r : ServesProve call k w.s w.t x ms) where
+    one : SendsAgain call k w.t x first_one.0
+    one = found_all is_to_send (SendsAgain call k w.t x) ms first_one.0 first_one.1 r.again
+
+    one_to_send : is_to_send first_one.0 ≡ true
+    one_to_send = found_passes is_to_send ms first_one.0 first_one.1
+
+    flies : Contains x.in_flight one.w
+    flies = one.there (ap progress_has_answer (to_send_as first_one.0.progress one_to_send))
+
+    said_one : request ≡ put_at x one.anchor one.ts one.w
+    said_one = sym first_one.2 ∙ one.said
+
+    gone_one : HasMovedOn k k2 (record { number = number; range = range; request = put_at x one.anchor one.ts one.w } ∷ []) []
+    gone_one = subst (λ r. HasMovedOn k k2 (record { number = number; range = range; request = r } ∷ []) []) said_one gone
+
+    module _ (st : TxnStands k [] None w.t x) where
+      st_one : TxnStands k2 [] None t2 x
+      st_one = subst (λ r. TxnStands k2 [] None (txn_sent r w.t) x) (sym said_one) (put_resent k [] None w.t x st one.w flies one.anchor one.anchored one.ts k2 number range gone_one)
+
+      same_anchor : t2.anchor ≡ w.t.anchor
+      same_anchor = sym (ap (λ x. x.anchor) st_one.same) ∙ ap (λ x. x.anchor) st.same
+
+      same_ts : t2.write_ts ≡ w.t.write_ts
+      same_ts = sym (ap (λ x. x.write_ts) st_one.same) ∙ ap (λ x. x.write_ts) st.same
+
+      before_then : (seq : ℕ) → list_any (λ other. is_put_of w.t.id w.t.epoch seq other.request) (sent_before k) ≡ true → list_any (λ other. is_put_of w.t.id w.t.epoch seq other.request) (sent_before k2) ≡ true
+      before_then seq was = ap (λ ms. list_any (λ other. is_put_of w.t.id w.t.epoch seq other.request) ms) before_same ∙ was
+
+      one_then : SendsAgain call k w.t x first_one.0 → SendsAgain call k2 t2 x (sent_under number first_one.0)
+      one_then a = record {
+        w = one.w;
+        waits = one.waits;
+        before = before_then one.w.seq one.before;
+        anchor = one.anchor;
+        anchored = same_anchor ∙ one.anchored;
+        ts = one.ts;
+        said = one.said;
+        low = omega (arith, one.low, same_ts);
+        goes_at = inr (subst (λ r. WasAskedAt (txn_sent r w.t) one.w.seq one.ts) (sym said_one) (asked_then k [] None w.t x st one.w flies one.anchor one.anchored one.ts));
+        there = λ none. flies;
+      }
+
+      other_then : (y : Message) → AreOfTwo y first_one.0 ⊎ AreOfTwo first_one.0 y → SendsAgain call k w.t x y → SendsAgain call k2 t2 x y
+      other_then y apart a = record {
+        w = a.w;
+        waits = a.waits;
+        before = before_then a.w.seq a.before;
+        anchor = a.anchor;
+        anchored = same_anchor ∙ a.anchored;
+        ts = a.ts;
+        said = a.said;
+        low = omega (arith, a.low, same_ts);
+        goes_at = elim a.goes_at [ inl now ↦ inl (now.0, now.1 ∙ sym same_ts) | inr was ↦ inr (asked_sent a.w.seq a.ts w.t request was) ];
+        there = a.there;
+      }
+
+      no_first : IsFirstPut k2 w.s t2 m2 → ⊥
+      no_first f =
+          let g : IsFirstPut k w.s w.t m2 = first_back t2 refl refl m2 f in
+          let seq : one.w.seq ≡ g.seq = (subst (IsPutFor w.t g.key g.value g.seq) said_one g.put).2 in
+          let none : not (list_any (λ other. is_put_of w.t.id w.t.epoch one.w.seq other.request) (sent_before k)) ≡ true =
+          ap (λ n. not (list_any (λ other. is_put_of w.t.id w.t.epoch n other.request) (sent_before k))) seq ∙ g.first in
+          let some : not (list_any (λ other. is_put_of w.t.id w.t.epoch one.w.seq other.request) (sent_before k)) ≡ false = ap not one.before in
+          let f : true ≡ false = sym none ∙ some in
+          absurd cc
+
+      prove_serves : ServesProve call k2 w.s t2 x ms2
+      prove_serves = record {
+        key = r.key;
+        value = r.value;
+        writes = r.writes;
+        asked = r.asked;
+        suits = r.suits;
+        again = all_changed AreOfTwo is_to_send (sent_under number) (SendsAgain call k w.t x) (SendsAgain call k2 t2 x) first_one.0 one_then other_then ms first_one.1 w.wave.differ r.again;
+        each =
+            All-weaker (λ f. depends_on call f.key ≡ true → Any (IsOpenFor f) ms) (λ f. depends_on call f.key ≡ true → Any (IsOpenFor f) ms2)
+            (λ f some waits. any_goes_on is_to_send (sent_under number) (IsOpenFor f) (λ y at goes. (goes.0, refl)) ms (some waits)) x.in_flight r.each;
+        new =
+            All-push (λ m. IsFirstPut k2 w.s t2 m → ⊥) k.sent_now m2
+            (All-weaker (λ m. IsFirstPut k w.s w.t m → ⊥) (λ m. IsFirstPut k2 w.s t2 m → ⊥) (λ m none f. none (first_back t2 refl refl m f)) k.sent_now r.new) no_first;
+        unmoved = r.unmoved;
+      }
+
+  prove_out : (call : Call) → p ≡ purposes.Prove call → ServesProve call k w.s w.t x ms → TxnStands k [] None w.t x → InCall set k2 x p ms2
+  prove_out call is r st =
+      gone_out x (subst (λ q. TxnStands k2 [] (out_of q ms2) t2 x) (sym is) (st_one call r st)) w.cause (subst (λ q. Serves set k2 w.s t2 x q ms2) (sym is) (prove_serves call r st))
+
   -- a heartbeat goes out
-  beat_out : (call : Call) (reading : ℕ) → p ≡ purposes.Beat call reading → ServesBeat call reading k w.s w.t x ms → TxnStands k [] None w.t x → InCall splits k2 (shown_at reading x) p ms2
+  beat_out : (call : Call) (reading : ℕ) → p ≡ purposes.Beat call reading → ServesBeat call reading k w.s w.t x ms → TxnStands k [] None w.t x → InCall set k2 (shown_at reading x) p ms2
   beat_out call reading is r st =
       let o = one_message r.m r.one in
       let said : request ≡ own_beat x reading r.anchor = sym o.0 ∙ r.said in
@@ -459,7 +548,7 @@ module _ (session clock count : ℕ) (splits : List (List ℕ)) (k : Known) (x :
       let st2 : TxnStands k2 [] None t2 (shown_at reading x) =
       subst (λ r. TxnStands k2 [] None (txn_sent r w.t) (shown_at reading x)) (sym said) (beat_sent k k2 [] None w.t x r.anchor reading number range st gone2) in
       gone_out (shown_at reading x) (subst (λ q. TxnStands k2 [] (out_of q ms2) t2 (shown_at reading x)) (sym is) st2) w.cause
-      (subst (λ q. Serves splits k2 w.s t2 (shown_at reading x) q ms2) (sym is) (record {
+      (subst (λ q. Serves set k2 w.s t2 (shown_at reading x) q ms2) (sym is) (record {
         asked = r.asked;
         asks = r.asks;
         suits = r.suits;
@@ -475,26 +564,27 @@ module _ (session clock count : ℕ) (splits : List (List ℕ)) (k : Known) (x :
         low = All-weaker (λ ts. ts ≤ k.top + 1) (λ ts. ts ≤ k2.top + 1) (λ ts low. omega (arith, low)) (why_stamps (own_cause w.t.restart)) r.low;
       }))
 
-  sent_by : (q : Purpose) → p ≡ q → Serves splits k w.s w.t x q ms → TxnStands k [] (out_of q ms) w.t x → InCall splits k2 (after_send q ms x) p ms2
+  sent_by : (q : Purpose) → p ≡ q → Serves set k w.s w.t x q ms → TxnStands k [] (out_of q ms) w.t x → InCall set k2 (after_send q ms x) p ms2
   sent_by (purposes.Beat call reading) is r st = beat_out call reading is r st
+  sent_by (purposes.Prove call) is r st = prove_out call is r st
   sent_by purposes.Read is r st =
-      let quiet : is_plain request ≡ true = of_request (λ q. is_plain q ≡ true) (quiet_reads splits x w.s.call (map (λ m. m.request) ms) r.asked) in
-      gone_out x (subst (λ q. TxnStands k2 [] (out_of q ms2) t2 x) (sym is) (quiet_stands quiet None st)) w.cause (subst (λ q. Serves splits k2 w.s t2 x q ms2) (sym is) (read_serves r))
-  sent_by (purposes.Write again) is r st = write_out r.key r.value again r.m r.call r.one st r.lays is
+      let quiet : is_plain request ≡ true = of_request (λ q. is_plain q ≡ true) (quiet_reads set.splits x w.s.call (map (λ m. m.request) ms) r.asked) in
+      gone_out x (subst (λ q. TxnStands k2 [] (out_of q ms2) t2 x) (sym is) (quiet_stands quiet None st)) w.cause (subst (λ q. Serves set k2 w.s t2 x q ms2) (sym is) (read_serves r))
+  sent_by purposes.Write is r st = write_out r.key r.value r.m r.call r.one st r.unmoved r.lays is
   sent_by (purposes.Refresh n) is r st =
       let quiet : is_plain request ≡ true =
       of_request (λ q. is_plain q ≡ true)
       (subst (λ rs. All (λ q. is_plain q ≡ true) rs) (sym r.asked)
       (All-map (λ q. is_plain q ≡ true) (refresh_to x.id x.reads.ts x.write_ts) x.reads.spans (every (λ span. is_plain (refresh_to x.id x.reads.ts x.write_ts span) ≡ true) (λ span. refl) x.reads.spans))) in
       gone_out x (subst (λ q. TxnStands k2 [] (out_of q ms2) t2 x) (sym is) (quiet_stands quiet None st)) w.cause
-      (subst (λ q. Serves splits k2 w.s t2 x q ms2) (sym is) (subst (λ t. ServesRefresh n k2 w.s t x ms2) (sym (same2 quiet)) (refresh_serves n r)))
+      (subst (λ q. Serves set k2 w.s t2 x q ms2) (sym is) (subst (λ t. ServesRefresh n k2 w.s t x ms2) (sym (same2 quiet)) (refresh_serves n r)))
   sent_by (purposes.Commit n) is r st = commit_out n is r
   sent_by (purposes.Abort why) is r st =
       let o = one_message r.m r.one in
       let quiet : is_plain request ≡ true = ap is_plain (sym o.0 ∙ r.said) in
       gone_out x (subst (λ q. TxnStands k2 [] (out_of q ms2) t2 x) (sym is) (quiet_stands quiet None st)) w.cause
-      (subst (λ q. Serves splits k2 w.s t2 x q ms2) (sym is)
+      (subst (λ q. Serves set k2 w.s t2 x q ms2) (sym is)
       (subst (λ t. ServesAbort why k2 w.s t x ms2) (sym (same2 quiet)) (abort_serves why r (found_passes is_to_send ms first_one.0 first_one.1))))
 
-  pub call_sent : InCall splits k2 (after_send p ms x) p ms2
+  pub call_sent : InCall set k2 (after_send p ms x) p ms2
   call_sent = sent_by p refl w.serves w.stands

@@ -3,6 +3,7 @@ use Rattle.std.proofs.Common.{◌≡◌, ℕ, ◌+◌, ◌≤◌, Bool, true, fa
 use Rattle.std.specs.Bool.{MatchBool}
 use Rattle.std.proofs.lemmas.List.{append-nil}
 use Rattle.std.proofs.lemmas.List.Elements.{All-nil}
+use Rattle.pc_call.specs.Setting.{Setting}
 use Rattle.pc_base.specs.declared.actor.ActorId.TheVariants as actors
 use Rattle.pc_base.specs.declared.span.Span.{Span}
 use Rattle.pc_base.specs.declared.transaction.TxnId.{TxnId}
@@ -17,7 +18,7 @@ use Rattle.pc_proto.specs.Stamps.{why_stamps}
 use Rattle.pc_reads.specs.ReadsStanding.{TxnReadsStand}
 use Rattle.pc_txn.proofs.Restarts.{stands_told, told_open}
 use Rattle.pc_txn.specs.declared.txn.OpenTxn.{OpenTxn}
-use Rattle.pc_txn.specs.Standing.{HasMovedOn, TxnStands}
+use Rattle.pc_txn.specs.Standing.{HasMovedOn, TxnStands, MissedNothing}
 use Rattle.pc_follows.specs.FinishingJobs.{left_by}
 use Rattle.pc_world.specs.Known.{Known, told_first, txns_told}
 use Rattle.pc_world.specs.Known.Clock.{high_told}
@@ -35,9 +36,9 @@ kept_open true is_open e = ap not e
 kept_open false is_open e = refl
 
 -- where a transaction is open, a call may be told what its row allows
-pub may_tell : (splits : List (List ℕ)) (session : ℕ) (k : Known) (s : Statement) (answer : Answer) → k.statement ≡ Some s → k.is_open ≡ true → is_past_range s ≡ false → MayTellRow splits (actors.Session session) k s answer
-    → MayTell splits (actors.Session session) k answer
-may_tell splits session k s answer opened is_open within row = record {
+pub may_tell : (set : Setting) (session : ℕ) (k : Known) (s : Statement) (answer : Answer) → k.statement ≡ Some s → k.is_open ≡ true → is_past_range s ≡ false → MayTellRow set (actors.Session session) k s answer
+    → MayTell set.splits (actors.Session session) k answer
+may_tell set session k s answer opened is_open within row = record {
   s = s;
   opened = opened;
   told = match_false (needs_txn s.call && not k.is_open) _ _ (kept_open (needs_txn s.call) k.is_open is_open) (match_false (is_past_range s) _ _ within row);
@@ -77,7 +78,7 @@ unavailable_keeps faults = record { opens = λ was. refl; high = λ n. refl; beg
 pub moved_keeps : (ts : ℕ) → IsKept (answers.Moved ts)
 moved_keeps ts = record { opens = λ was. refl; high = λ n. refl; begun = λ n. refl; txns = λ k. refl; txn = λ replied t. refl; left = λ k. refl }
 
-module _ (k : Known) (t : Txn) (x : OpenTxn) (open_in : IsOpenIn k t) (st : TxnStands k [] None t x) (client : x.cause ≡ whys.Client) (answer : Answer) (keeps : IsKept answer) where
+module _ (k : Known) (t : Txn) (x : OpenTxn) (open_in : IsOpenIn k t) (st : TxnStands k [] None t x) (unmissed : MissedNothing x.id k.heard) (client : x.cause ≡ whys.Client) (answer : Answer) (keeps : IsKept answer) where
   abbrev told_reads : List Read
   told_reads = reads_told answer (replies_to k.sent_now k.heard_now) t.reads
 
@@ -103,6 +104,7 @@ module _ (k : Known) (t : Txn) (x : OpenTxn) (open_in : IsOpenIn k t) (st : TxnS
     t = t4;
     open_in = open4;
     stands = stands_told k k4 [] None t x told_reads spans t.committed st gone4 good;
+    unmissed = unmissed;
     cause = client;
     low = subst (λ c. All (λ ts. ts ≤ k4.top + 1) (why_stamps c)) (sym client) (All-nil (λ ts. ts ≤ k4.top + 1));
   }

@@ -5,6 +5,7 @@ use Rattle.std.specs.Ordering.{is_lt}
 use Rattle.std.specs.declared.cmp.Ordering.TheVariants.{Less}
 use Rattle.std.proofs.lemmas.List.Elements.{All-cons, All-contains, All-head, All-map, All-nil, All-tail, All-weaker}
 use Rattle.std.proofs.lemmas.Option.{same_Some}
+use Rattle.pc_call.specs.Setting.{Setting}
 use Rattle.pc_base.specs.declared.span.Span.{Span}
 use Rattle.pc_base.specs.declared.transaction.TxnId.{TxnId}
 use Rattle.pc_base.specs.SpanOrder.{span_cmp}
@@ -13,7 +14,7 @@ use Rattle.pc_call.proofs.Silent.{AreSilent, IsSilent, silent}
 use Rattle.pc_call.proofs.Restarting.{any_cons, asks, behind, same_span_of, span_of}
 use Rattle.pc_call.specs.declared.purpose.Purpose.{Purpose}
 use Rattle.pc_call.specs.declared.purpose.Purpose.TheVariants as purposes
-use Rattle.pc_call.specs.Serving.{AreReadsOf, HasBeatenBy, HasGoneOut, InCall, IsRefreshGoneOut, IsSentBefore, LaysLast, LaysNext, Serves, ServesRefresh, ServesWrite}
+use Rattle.pc_call.specs.Serving.{AreReadsOf, HasBeatenBy, HasGoneOut, InCall, IsRefreshGoneOut, IsSentBefore, LaysLast, LaysNext, SendsAgain, Serves, ServesRefresh, ServesWrite}
 use Rattle.pc_lists.proofs.Anywhere.{any_head, any_later, any_of}
 use Rattle.pc_proto.specs.declared.call.Call.{Call}
 use Rattle.pc_proto.specs.declared.call.Call.TheVariants as calls
@@ -96,12 +97,12 @@ module _ (id : TxnId) (from to : ℕ) where
         | inr there ↦ any_later (HasGoneOut (asks id from to earlier)) y ms (gone_of other low high earlier spans ms later there)
       ]
 
-reads_refresh : (splits : List (List ℕ)) (k : Known) (x : OpenTxn) (call : Call) (rs : List Request) → AreReadsOf splits x call rs → All (IsItsRefresh k) rs
-reads_refresh splits k x (calls.Get key) rs e = subst (λ rs. All (IsItsRefresh k) rs) (sym e) (All-cons (IsItsRefresh k) (own_get x key) [] tt (All-nil (IsItsRefresh k)))
-reads_refresh splits k x (calls.Scan span) rs e =
+reads_refresh : (set : Setting) (k : Known) (x : OpenTxn) (call : Call) (rs : List Request) → AreReadsOf set.splits x call rs → All (IsItsRefresh k) rs
+reads_refresh set k x (calls.Get key) rs e = subst (λ rs. All (IsItsRefresh k) rs) (sym e) (All-cons (IsItsRefresh k) (own_get x key) [] tt (All-nil (IsItsRefresh k)))
+reads_refresh set k x (calls.Scan span) rs e =
     subst (λ rs. All (IsItsRefresh k) rs) (sym e)
-    (All-map (IsItsRefresh k) (λ p. own_scan x p.1) (pieces splits span) (every (λ p. IsItsRefresh k (own_scan x p.1)) (λ p. tt) (pieces splits span)))
-reads_refresh splits k x call rs e = absurd e
+    (All-map (IsItsRefresh k) (λ p. own_scan x p.1) (pieces set.splits span) (every (λ p. IsItsRefresh k (own_scan x p.1)) (λ p. tt) (pieces set.splits span)))
+reads_refresh set k x call rs e = absurd e
 
 all_unmap : (P : Request → Type 0) (ms : List Message) → All P (map (λ m. m.request) ms) → (m : Message) → find is_to_send ms ≡ Some m → P m.request
 all_unmap P [] a m found = absurd cc
@@ -111,7 +112,7 @@ all_unmap P (y ∷ ms) a m found = by (all_unmap P ms (All-tail P y.request (map
     by later true f = let is : y ≡ m = cc in subst (λ (m : Message). P m.request) is (All-head P y.request (map (λ (m : Message). m.request) ms) a)
     by later false f = later f
 
-module _ (splits : List (List ℕ)) (k : Known) (x : OpenTxn) (p : Purpose) (ms : List Message) (w : InCall splits k x p ms) where
+module _ (set : Setting) (k : Known) (x : OpenTxn) (p : Purpose) (ms : List Message) (w : InCall set k x p ms) where
   module _ (m : Message) (found : find is_to_send ms ≡ Some m) where
     one_of : (other : Message) → ms ≡ other ∷ [] → other ≡ m
     one_of other one = by (is_to_send other) (subst (λ ms. find is_to_send ms ≡ Some m) one found)
@@ -138,31 +139,32 @@ module _ (splits : List (List ℕ)) (k : Known) (x : OpenTxn) (p : Purpose) (ms 
             ap is_lt (gone_before x.id x.reads.ts x.write_ts x.reads.spans ms m span earlier r.asked w.stands.reads.ordered r.in_turn found said gone)
         before span said q out = tt
 
-    write_no_refresh : (again : Bool) → (r : ServesWrite again k w.s w.t x ms) → LaysNext k w.s w.t x r.key r.value again r.m ⊎ LaysLast k w.s w.t x r.key r.value again r.m → IsItsRefresh k m.request
-    write_no_refresh again r (inl l) = subst (λ (m : Message). IsItsRefresh k m.request) (one_of r.m r.one) (subst (IsItsRefresh k) (sym l.said) tt)
-    write_no_refresh again r (inr l) = subst (λ (m : Message). IsItsRefresh k m.request) (one_of r.m r.one) (subst (IsItsRefresh k) (sym l.said) tt)
+    write_no_refresh : (r : ServesWrite k w.s w.t x ms) → LaysNext k w.s w.t x r.key r.value r.m ⊎ LaysLast k w.t x r.key r.value r.m → IsItsRefresh k m.request
+    write_no_refresh r (inl l) = subst (λ (m : Message). IsItsRefresh k m.request) (one_of r.m r.one) (subst (IsItsRefresh k) (sym l.said) tt)
+    write_no_refresh r (inr l) = subst (λ (m : Message). IsItsRefresh k m.request) (one_of r.m r.one) (subst (IsItsRefresh k) (sym l.said) tt)
 
     -- where it is a refresh, the first message that is to be sent is of a span that was read, and behind all that went out
     pub its_refresh : IsItsRefresh k m.request
     its_refresh = by p refl w.serves
       where
-        by : (q : Purpose) → p ≡ q → Serves splits k w.s w.t x q ms → IsItsRefresh k m.request
+        by : (q : Purpose) → p ≡ q → Serves set k w.s w.t x q ms → IsItsRefresh k m.request
         by (purposes.Beat call reading) e r = subst (λ (m : Message). IsItsRefresh k m.request) (one_of r.m r.one) (subst (IsItsRefresh k) (sym r.said) tt)
-        by purposes.Read e r = all_unmap (IsItsRefresh k) ms (reads_refresh splits k x w.s.call (map (λ (m : Message). m.request) ms) r.asked) m found
-        by (purposes.Write again) e r = write_no_refresh again r r.lays
+        by (purposes.Prove call) e r = subst (IsItsRefresh k) (sym (found_all is_to_send (SendsAgain call k w.t x) ms m found r.again).said) tt
+        by purposes.Read e r = all_unmap (IsItsRefresh k) ms (reads_refresh set k x w.s.call (map (λ (m : Message). m.request) ms) r.asked) m found
+        by purposes.Write e r = write_no_refresh r r.lays
         by (purposes.Refresh n) e r = refresh_in_turn n r
         by (purposes.Commit n) e r = subst (λ (m : Message). IsItsRefresh k m.request) (one_of r.m r.one) (subst (IsItsRefresh k) (sym r.said) tt)
         by (purposes.Abort why) e r = subst (λ (m : Message). IsItsRefresh k m.request) (one_of r.m r.one) (subst (IsItsRefresh k) (sym r.said) tt)
 
     -- a heartbeat that is to be sent is due, and another message goes out where none is
     pub beats_first : BeatsFirst k w.t m.request
-    beats_first = by p w.serves w.beaten (silent splits k w.s w.t x p ms w.serves)
+    beats_first = by p w.serves w.beaten (silent set k w.s w.t x p ms w.serves)
       where
         other : All (λ m. IsSilent m.request) ms → HasBeaten k w.t → BeatsFirst k w.t m.request
         other none b =
             inr (b, λ beat. let e : is_heartbeat m.request ≡ false = found_all is_to_send (λ (m : Message). IsSilent m.request) ms m found none in let f : false ≡ true = sym e ∙ beat in absurd cc)
 
-        by : (q : Purpose) → Serves splits k w.s w.t x q ms → HasBeatenBy q k w.t → AreSilent q ms → BeatsFirst k w.t m.request
+        by : (q : Purpose) → Serves set k w.s w.t x q ms → HasBeatenBy q k w.t → AreSilent q ms → BeatsFirst k w.t m.request
         by (purposes.Beat call reading) r b none =
             let is : r.m ≡ m = one_of r.m r.one in
             let to_send : is_to_send r.m ≡ true = ap is_to_send is ∙ found_passes is_to_send ms m found in
@@ -177,8 +179,9 @@ module _ (splits : List (List ℕ)) (k : Known) (x : OpenTxn) (p : Purpose) (ms 
                 is = said ∙ ap (λ x. own_beat x reading r.anchor) w.stands.same;
               },
             )
+        by (purposes.Prove call) r b none = other none b
         by purposes.Read r b none = other none b
-        by (purposes.Write again) r b none = other none b
+        by purposes.Write r b none = other none b
         by (purposes.Refresh n) r b none = other none b
         by (purposes.Commit n) r b none = other none b
         by (purposes.Abort why) r b none = other none b

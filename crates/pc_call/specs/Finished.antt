@@ -1,5 +1,6 @@
 -- An open call is told its answer, and its transaction is over.
 use Rattle.std.specs.Prelude.{◌≡◌, ℕ, false, Option, None, Some, IfSome, List, []}
+use Rattle.pc_call.specs.Setting.{Setting}
 use Rattle.pc_call.specs.declared.over.Left.{Left}
 use Rattle.pc_call.specs.declared.over.Over.{Over}
 use Rattle.pc_call.specs.Learned.{known_told}
@@ -32,8 +33,8 @@ abbrev pub MayBeSettled : Known → Left → Type 0
 MayBeSettled k l = MayFinish k l.meta.id l.meta.anchor l.fate l.locks
 
 -- The open call may be told the answer, which leaves just this to be done; and once it is, no transaction is open, and what is left may be done.
-pub record MayTellOver (splits : List (List ℕ)) (session : ℕ) (k : Known) (over : Over) : Type 0 where
-  pub may : MayBeTold splits session k over.answer
+pub record MayTellOver (set : Setting) (session : ℕ) (k : Known) (over : Over) : Type 0 where
+  pub may : MayBeTold set session k over.answer
   pub left : left_messages over.left ≡ left_by over.answer k
   pub closed : (known_told over.answer k).is_open ≡ false
   pub settles : IfSome over.left (MayBeSettled (known_told over.answer k))

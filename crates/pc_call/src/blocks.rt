@@ -1,5 +1,6 @@
-ghost use Rattle.std.specs.Prelude.{◌≡◌, ℕ, IfSome, List};
+ghost use Rattle.std.specs.Prelude.{◌≡◌, ℕ, IfSome};
 ghost use Rattle.std.specs.Option.{option_map};
+ghost use Rattle.pc_call.specs.Setting.{Setting};
 ghost use Rattle.pc_call.specs.Rounding.{GoesOnBeside, RefusesRound};
 ghost use Rattle.pc_call.specs.Serving.{InCall};
 ghost use Rattle.pc_call.specs.Telling.{MayTellOpen};
@@ -21,7 +22,7 @@ impl OpenCall {
     /// stays open. A write stays in flight.
     pub fn round_refused(self, conflict: &Reply) -> Option<Answer>
         ensures blocked { result ≡ option_map answers.Blocked (holder_in conflict.now) }
-        ensures told { (session clock begun number : ℕ) (splits : List (List ℕ)) (start k : Known) (x : OpenTxn) → IsCounted session clock begun start → InCall splits start x self.purpose self.wave → step_of self.wave ≡ steps.Round number conflict.now → RefusesRound start k x.id conflict.now → IfSome result (λ answer. MayTellOpen splits session k answer x) }
+        ensures told { (session clock begun number : ℕ) (set : Setting) (start k : Known) (x : OpenTxn) → IsCounted session clock begun start → InCall set start x self.purpose self.wave → step_of self.wave ≡ steps.Round number conflict.now → RefusesRound start k x.id conflict.now → IfSome result (λ answer. MayTellOpen set session k answer x) }
     {
         match conflict.holder() {
             Some(holder) => Some(Answer::Blocked { holder }),
@@ -32,7 +33,7 @@ impl OpenCall {
     /// In the round of a conflict that one of its messages met, a message was lost so often: its call is told so, and its transaction stays open.
     pub fn unavailable(self, faults: u32) -> Answer
         ensures made { result ≡ answers.Unavailable faults }
-        ensures told { (session clock begun number : ℕ) (splits : List (List ℕ)) (start k : Known) (x : OpenTxn) (conflict : Reply) → IsCounted session clock begun start → InCall splits start x self.purpose self.wave → step_of self.wave ≡ steps.Round number conflict → GoesOnBeside start k x.id → WasLost k faults → MayTellOpen splits session k result x }
+        ensures told { (session clock begun number : ℕ) (set : Setting) (start k : Known) (x : OpenTxn) (conflict : Reply) → IsCounted session clock begun start → InCall set start x self.purpose self.wave → step_of self.wave ≡ steps.Round number conflict → GoesOnBeside start k x.id → WasLost k faults → MayTellOpen set session k result x }
     {
         Answer::Unavailable { faults }
     }

@@ -39,12 +39,13 @@ pub record Posted : Type 0 where
 abbrev pub posting : ℕ → ℕ → Request → ℕ → Posted
 posting number range request uses = record { number = number; range = range; request = request; uses = uses }
 
--- The actor's own list, how many messages it sent, those that wait to be evaluated, and the replies that wait to be heard; and how many
--- entries a range may have.
+-- The actor's own list, how many messages it sent, those that wait to be evaluated, those that were set aside until a wave waits for them, and the
+-- replies that wait to be heard; and how many entries a range may have.
 pub record DeskMeaning (C : Type 0) : Type 0 where
   pub log : LogMeaning C
   pub sends : ℕ
   pub posted : List Posted
+  pub later : List Posted
   pub replies : List Answered
   pub range_limit : ℕ
 
@@ -54,6 +55,7 @@ new_desk head part spare clock pipelining beside limit stop range_limit = record
   log = record { head = head; part = part; spare = spare; clock = clock; pipelining = pipelining; beside = beside; limit = limit; stop = stop; stopped = false };
   sends = 0;
   posted = [];
+  later = [];
   replies = [];
   range_limit = range_limit;
 }
@@ -139,16 +141,17 @@ pub record WaitInTurn (replies : List Answered) (posted : List Posted) : Type 0 
   pub rising : AreInTurn replies
   pub behind : All (λ m. All (λ a. a.number < m.number) replies) posted
 
--- Each message that the actor sent stands at one stage, and no other does at any: it waits to be evaluated, or its reply to be heard, or
--- that was heard. What waits says what was sent, is in turn, and waits with its wave; and of no entry more than one use was given.
+-- Each message that the actor sent stands at one stage, and no other does at any: it waits to be evaluated, or was set aside, or its reply waits to be heard, or
+-- that was heard; or, where it is a stray, it was dropped. What waits says what was sent, is in turn, and waits with its wave; and of no entry more than one use was given.
 pub record KeepsTrack {C : Type 0} (d : DeskMeaning C) : Type 0 where
   pub log : IsOwnLog d.log
   pub counted : d.sends ≡ length (known_of d.log.part.own).sent
   pub numbers : All (λ m. m.number ≤ length (known_of d.log.part.own).sent) (known_of d.log.part.own).sent
   pub once : (number : ℕ) → times_sent number (known_of d.log.part.own) ≤ 1
-  pub stages : (number : ℕ) → posted_as number d.posted + answered_as number d.replies + heard_as_number number (known_of d.log.part.own) ≡ times_sent number (known_of d.log.part.own)
+  pub stages : (number : ℕ) → posted_as number d.posted + posted_as number d.later + answered_as number d.replies + heard_as_number number (known_of d.log.part.own) ≤ times_sent number (known_of d.log.part.own)
   pub posted : All (λ m. request_sent m.number (known_of d.log.part.own).sent ≡ Some m.request) d.posted
   pub waits : All (IsOneSent (known_of d.log.part.own).sent) d.posted
+  pub aside : All (IsOneSent (known_of d.log.part.own).sent) d.later
   pub answered : All (IsAnsweredBy d.log) d.replies
   pub turn : WaitInTurn d.replies d.posted
   pub wave : WaitInWave d.log.beside d.log.part.own d.posted d.replies

@@ -4,7 +4,9 @@ ghost use Rattle.pc_desk.specs.declared.halt.Halt.TheVariants as halts;
 ghost use Rattle.pc_desk.specs.Commits.{IsCommitPlace};
 ghost use Rattle.pc_desk.specs.Desk.{DeskMeaning, EndsWithSend, HasDelivered, HasDone, HasHalted, HasHeardFirst, HasKept, HasPosted, HasSentNext, HasSentTo, HasTakenFirst, IsReadyToGo, KeepsTrack, MayHearNow, MaySendNow, MaySendTo, Posted, new_desk, posted_as, uses_by};
 ghost use Rattle.pc_desk.specs.Ending.{EndsOnly};
+ghost use Rattle.pc_desk.specs.Aside.{HasDropped, HasDroppedFirst, HasJoined, HasSetAside};
 ghost use Rattle.pc_desk.specs.Keeping.{ReadsEach};
+ghost use Rattle.pc_wire.specs.Outbox.{first_from};
 ghost use Rattle.pc_desk.specs.OwnLog.{HasMadeEntry, IsNoRange, IsOwnLog, MayEnter};
 ghost use Rattle.pc_desk.specs.Refused.{GivesBack};
 ghost use Rattle.pc_desk.specs.Waiting.{IsBehindAll, IsNewest};
@@ -45,6 +47,8 @@ pub struct Desk<'a, N: Named<CommitWorld>, C: Clock, V: Wire, G> {
     /// How many messages were sent.
     sends: u64,
     outbox: Outbox<Message<N>>,
+    /// Messages that were set aside until a wave waits for them.
+    later: Outbox<Message<N>>,
     replies: VecDeque<Answered>,
 }
 
@@ -60,12 +64,14 @@ impl<'a, N: Named<CommitWorld>, C: Clock, V: Wire, G> Model for Desk<'a, N, C, V
       log = d.log;
       sends = d.sends;
       posted = map (λ e. posting e.1.message.number e.1.message.range e.1.message.request (uses_left e.1.message.note.known)) d.outbox.waiting;
+      later = map (λ e. posting e.1.message.number e.1.message.range e.1.message.request (uses_left e.1.message.note.known)) d.later.waiting;
       replies = d.replies.items;
       range_limit = d.ranges.now.limit;
     } };
 
     ghost invariant = { λ d.
         IsDesk d.ranges.now.splits d.log (map (λ e. waiting_as e.0 e.1.message.sender e.1.verdict (posting e.1.message.number e.1.message.range e.1.message.request (uses_left e.1.message.note.known))) d.outbox.waiting)
+        × IsDesk d.ranges.now.splits d.log (map (λ e. waiting_as e.0 e.1.message.sender e.1.verdict (posting e.1.message.number e.1.message.range e.1.message.request (uses_left e.1.message.note.known))) d.later.waiting)
         × ((number : ℕ) → V.rule d.wire number ≡ Deliver) };
 }
 
@@ -102,6 +108,7 @@ impl<'a, N: Named<CommitWorld>, C: Clock, V: Wire, G: Gate> Desk<'a, N, C, V, G>
             wire,
             sends: 0,
             outbox: Outbox::new(alloc),
+            later: Outbox::new(alloc),
             replies: VecDeque::new(alloc),
         }
     }
@@ -280,6 +287,44 @@ impl<'a, N: Named<CommitWorld>, C: Clock, V: Wire, G: Gate> Desk<'a, N, C, V, G>
         self.outbox.add(number, verdict, message)
     }
 
+    /// Sets the message of this number aside: it is delivered once a wave waits for it.
+    pub fn set_aside(&mut self, number: u64) -> Result<(), Halt>
+        requires track { KeepsTrack self.old }
+        requires waits { 1 ≤ posted_as number self.old.posted }
+        ensures ok { OnOk result (HasSetAside self.old self.new number) }
+        ensures clock { self.new.log.clock ≡ self.old.log.clock }
+        ensures err { IfErr result (HasHalted self.old self.new) }
+        ensures ended { IfErr result (EndsOnly (λ made. ⊥) self.old self.new) }
+    {
+        match move_message(&mut self.outbox, &mut self.later, number) {
+            Ok(()) => Ok(()),
+            Err(NoMemory) => Err(self.want_memory()),
+        }
+    }
+
+    /// The least number, from this one on, of a message that was set aside.
+    pub fn next_aside(&self, number: u64) -> Option<u64>
+        ensures { result ≡ first_from number (map (λ m. m.number) self.now.later) }
+    {
+        self.later.first_from(number)
+    }
+
+    /// The message of this number, which was set aside, goes with the next wave. No reply waits to be heard then.
+    pub fn join(&mut self, number: u64) -> Result<(), Halt>
+        requires track { KeepsTrack self.old }
+        requires none_waits { self.old.replies ≡ [] }
+        requires aside { 1 ≤ posted_as number self.old.later }
+        ensures ok { OnOk result (HasJoined self.old self.new number) }
+        ensures clock { self.new.log.clock ≡ self.old.log.clock }
+        ensures err { IfErr result (HasHalted self.old self.new) }
+        ensures ended { IfErr result (EndsOnly (λ made. ⊥) self.old self.new) }
+    {
+        match move_message(&mut self.later, &mut self.outbox, number) {
+            Ok(()) => Ok(()),
+            Err(NoMemory) => Err(self.want_memory()),
+        }
+    }
+
     /// Stops for want of memory, of its user's too.
     pub fn want_memory(&mut self) -> Halt
         ensures memory { result ≡ halts.NoMemory }
@@ -356,6 +401,66 @@ impl<'a, N: Named<CommitWorld>, C: Clock, V: Wire, G: Gate> Desk<'a, N, C, V, G>
         match self.ranges.serve(rt, message, Some(last)) {
             Ok(reply) => self.keep_noted(reply),
             Err(fault) => Err(self.refused(fault)),
+        }
+    }
+
+    /// Has the ranges evaluate all that was set aside, in the order of their numbers; the replies are dropped. Nothing else is on its way then.
+    pub fn deliver_strays<R: Wait>(&mut self, rt: &R) -> Result<(), Halt>
+        requires track { KeepsTrack self.old }
+        requires alone { (self.old.posted ≡ []) × (self.old.replies ≡ []) }
+        ensures ok { OnOk result (HasDropped self.old self.new) }
+        ensures clock { self.new.log.clock ≡ self.old.log.clock }
+        ensures err { IfErr result (HasHalted self.old self.new) }
+        ensures ended { IfErr result (EndsOnly (λ made. ⊥) self.old self.new) }
+    {
+        if self.later.waiting() == 0 {
+            return Ok(());
+        }
+        let mut last = self.note_last()?;
+        while self.later.waiting() > 0 {
+            last = self.deliver_stray(rt, last)?;
+        }
+        Ok(())
+    }
+
+    /// Has the range of the message with the least number that was set aside evaluate it, after what the note tells of. Gives a note of the
+    /// evaluation.
+    fn deliver_stray<R: Wait>(
+        &mut self,
+        rt: &R,
+        last: Note<CommitWorld, N>,
+    ) -> Result<Note<CommitWorld, N>, Halt>
+        requires track { KeepsTrack self.old }
+        requires some { self.old.later ≢ [] }
+        ensures ok { IfOk result (HasDroppedFirst self.old self.new) }
+        ensures clock { self.new.log.clock ≡ self.old.log.clock }
+        ensures err { IfErr result (HasHalted self.old self.new) }
+        ensures ended { IfErr result (EndsOnly (λ made. ⊥) self.old self.new) }
+    {
+        let message = match self.later.take_first() {
+            Some((_, message)) => message,
+            None => unreachable!(),
+        };
+        let served = self.ranges.serve(rt, message, Some(last));
+        match served {
+            Ok(reply) => self.drop_noted(reply),
+            Err(fault) => Err(self.refused(fault)),
+        }
+    }
+
+    /// Knows the evaluation; its reply is dropped. Gives a copy of the evaluation's note.
+    fn drop_noted(&mut self, msg: ReplyMsg<N>) -> Result<Note<CommitWorld, N>, Halt>
+        ensures ok { IfOk result (λ note. note.known ≡ msg.note.known) }
+        ensures known { OnOk result (self.new ≡ record self.old { log = record self.old.log { part = told msg.note.known self.old.log.part } }) }
+        ensures err { IfErr result (HasHalted self.old self.new) }
+    {
+        let mut note = msg.note;
+        match note.again(0) {
+            Ok(copy) => {
+                self.log.take(note);
+                Ok(copy)
+            }
+            Err(NoMemory) => Err(self.want_memory()),
         }
     }
 
@@ -465,7 +570,19 @@ impl<'a, N: Named<CommitWorld>, C: Clock + Drop, V: Wire + Drop, G> Desk<'a, N, 
         ensures rest { map (λ w. w.posted) result.1 ≡ self.entry.posted }
         ensures ready { All (IsReadyToGo self.entry.log.part.id self.entry.log.head.splits) result.1 }
     {
-        (self.log.into_actor(), Rest::of(self.outbox))
+        (self.log.into_actor(), Rest::of(self.outbox, self.later))
+    }
+}
+
+/// Moves the message of this number from one outbox to another.
+fn move_message<N: Named<CommitWorld>>(
+    from: &mut Outbox<Message<N>>,
+    to: &mut Outbox<Message<N>>,
+    number: u64,
+) -> Result<(), NoMemory> {
+    match from.take(number) {
+        Some((verdict, message)) => to.add(number, verdict, message),
+        None => Ok(()),
     }
 }
 

@@ -13,23 +13,25 @@ use std::sync::Wait;
 #[derive(Drop)]
 pub struct Rest<N: Named<CommitWorld>> {
     outbox: Outbox<Message<N>>,
+    /// What was set aside.
+    later: Outbox<Message<N>>,
 }
 
 impl<N: Named<CommitWorld>> Model for Rest<N> {
-    ghost use Rattle.std.specs.Prelude.{List, map};
+    ghost use Rattle.std.specs.Prelude.{◌++◌, List, map};
     ghost use Rattle.pc_desk.specs.Desk.{WaitingMessage, posting, waiting_as};
     ghost use Rattle.pc_history.specs.Parts.{uses_left};
 
     ghost Value = { List WaitingMessage };
 
-    ghost view = { λ r. map (λ e. waiting_as e.0 e.1.message.sender e.1.verdict (posting e.1.message.number e.1.message.range e.1.message.request (uses_left e.1.message.note.known))) r.outbox.waiting };
+    ghost view = { λ r. map (λ e. waiting_as e.0 e.1.message.sender e.1.verdict (posting e.1.message.number e.1.message.range e.1.message.request (uses_left e.1.message.note.known))) (r.outbox.waiting ++ r.later.waiting) };
 }
 
 impl<N: Named<CommitWorld>> Rest<N> {
-    pub(crate) fn of(outbox: Outbox<Message<N>>) -> Rest<N>
-        ensures { result ≡ map (λ e. waiting_as e.0 e.1.message.sender e.1.verdict (posting e.1.message.number e.1.message.range e.1.message.request (uses_left e.1.message.note.known))) outbox.waiting }
+    pub(crate) fn of(outbox: Outbox<Message<N>>, later: Outbox<Message<N>>) -> Rest<N>
+        ensures { result ≡ map (λ e. waiting_as e.0 e.1.message.sender e.1.verdict (posting e.1.message.number e.1.message.range e.1.message.request (uses_left e.1.message.note.known))) (outbox.waiting ++ later.waiting) }
     {
-        Rest { outbox }
+        Rest { outbox, later }
     }
 
     /// Takes the message of the least number.
@@ -37,8 +39,20 @@ impl<N: Named<CommitWorld>> Rest<N> {
         ensures first { IfSome result (λ m. IsFirstOf self.old self.new m.sender (posting m.number m.range m.request (uses_left m.note.known))) }
         ensures none { IfNone result (self.old ≡ []) }
     {
-        let (_, message) = self.outbox.take_first()?;
+        let (_, message) = if self.is_later_first() {
+            self.later.take_first()?
+        } else {
+            self.outbox.take_first()?
+        };
         Some(message)
+    }
+
+    /// Whether the message of the least number was set aside.
+    fn is_later_first(&self) -> bool {
+        match (self.later.first_from(0), self.outbox.first_from(0)) {
+            (Some(later), Some(other)) => later < other,
+            (first, _) => first.is_some(),
+        }
     }
 }
 

@@ -2,6 +2,7 @@
 #![tactic(auto)]
 
 ghost use Rattle.pc_follows_laws.specs.CallRounds.{PushesMeetConflicts, ResolvesMeetConflicts, RoundsEnd, RoundsMeetConflicts};
+ghost use Rattle.pc_follows_laws.specs.PipelinedRounds.{ConflictsAreCounted, NoRoundOnceOver, NoRoundUnmet, PushesMeetTheNext, ResolvesMeetTheNext};
 
 /// A law: in an open call a push is of the holder of a conflict that this call met, the first that had no round.
 pub fn pushes_meet_conflicts()
@@ -21,4 +22,29 @@ pub fn rounds_meet_conflicts()
 /// A law: an open call whose rounds are all over sends no resolve, not even one that it has sent before.
 pub fn rounds_end()
     ensures { RoundsEnd }
+{}
+
+/// A law: where writes are pipelined, in an open call a push is of the holder of the first conflict that is not over.
+pub fn pushes_meet_the_next()
+    ensures { PushesMeetTheNext }
+{}
+
+/// A law: so is a resolve of the key at which this call met a conflict, and of its holder.
+pub fn resolves_meet_the_next()
+    ensures { ResolvesMeetTheNext }
+{}
+
+/// A law: an open call that met no conflict then sends no message of a round, not even a query of its own write.
+pub fn no_round_unmet()
+    ensures { NoRoundUnmet }
+{}
+
+/// A law: all conflicts that a call met are counted.
+pub fn conflicts_are_counted()
+    ensures { ConflictsAreCounted }
+{}
+
+/// A law: an open call whose conflicts are all over then sends no message of a round.
+pub fn no_round_once_over()
+    ensures { NoRoundOnceOver }
 {}

@@ -24,21 +24,22 @@ use Rattle.pc_staging.proofs.Hears as hears
 use Rattle.pc_staging.proofs.Sending.{commit_stands}
 use Rattle.pc_staging.specs.Kept.{Evidence, is_passed_by, seen_undecided}
 use Rattle.pc_staging.specs.Standing.{StagingStands, WasStagedAt}
+use Rattle.pc_txn.proofs.Above.{StaysUp, reach_on, reach_raised, staged_or_above}
 use Rattle.pc_txn.proofs.Keeping.{staged_split}
-use Rattle.pc_txn.proofs.Late.{late_on, none_by_other}
+use Rattle.pc_txn.proofs.Late.{late_on, live_on, none_by_other, none_live, still_late}
 use Rattle.pc_txn.proofs.Same.{if_true}
 use Rattle.pc_txn.proofs.Shown.{shown-one}
 use Rattle.pc_txn.proofs.Written.{writes_on}
 use Rattle.pc_txn.specs.declared.txn.OpenTxn.{OpenTxn}
 use Rattle.pc_txn.specs.Opened.{with_commit, opened_as, own_commit, refused_at}
-use Rattle.pc_txn.specs.Standing.{AreLateByWrites, HasMovedOn, IsProvedAbove, IsUndecidedOf, TxnStands}
+use Rattle.pc_txn.specs.Standing.{AreLateByWrites, AreLiveHere, HasMovedOn, StandsAbove, IsUndecidedOf, TxnStands}
 use Rattle.pc_txn.specs.Writing.{IsNotWritten, PutsUpTo, WritesStand}
 use Rattle.pc_world.specs.Known.{Known}
 use Rattle.pc_world.specs.Known.Reads.{IsGoodAt}
 use Rattle.pc_world.specs.Known.Traffic.{Heard, Sent}
 use Rattle.pc_world.specs.Known.Transactions.{Txn, meta_of, txn_heard, txn_sent}
 use Rattle.pc_world.specs.Known.Writes.{last_seq_of}
-use Rattle.pc_world.specs.StageFate.{RefutesRecord, RefutesWrite, SentCommit, SentStage, commit_request}
+use Rattle.pc_world.specs.StageFate.{IsLate, RefutesRecord, RefutesWrite, SentCommit, SentStage, commit_request}
 use Rattle.pc_world.specs.Tell.End.{shows_staging}
 
 -- The commit of the transaction, with this anchor.
@@ -75,6 +76,9 @@ module _ (k now : Known) (stages : List SentStage) (commit : Option SentCommit) 
         let v : WritesStand now.sent now.heard t = subst (λ ms. WritesStand ms now.heard t) (sym more.sent) (subst (λ hs. WritesStand (k.sent ++ m0 ∷ []) hs t) (sym more.heard) w) in
         record { by_sequence = v.by_sequence; each_sent = v.each_sent; unwritten = v.unwritten; locked = v.locked; unanchored = v.unanchored }
 
+    reads_up : StaysUp t (read_on t)
+    reads_up = record { id = refl; epoch = refl; up = omega arith }
+
     committing_by : TxnStands now stages (Some c0) (read_on t) (with_commit x0)
     committing_by = record {
       same = refl;
@@ -82,11 +86,14 @@ module _ (k now : Known) (stages : List SentStage) (commit : Option SentCommit) 
       begun = omega (arith, st.begun, st.behind);
       behind = omega arith;
       at_begin = λ none. let e : Some anchor ≡ None = sym anchored ∙ none in absurd cc;
-      below = omega (arith, st.below, more.high);
+      below = reach_on k now (m0 ∷ []) [] more t (read_on t) refl refl st.below;
       views = subst (λ hs. All (IsUndecidedOf t) hs) (sym heard-same) st.views;
       shown = st.shown ∙ sym (ap (last_shown t) more.sent ∙ shown-one t k.sent m0 refl);
-      staged = λ ts was. st.staged ts (subst (λ hs. WasStagedAt hs t ts) heard-same was);
-      late = subst (λ hs. AreLateByWrites stages hs t) (sym heard-same) st.late;
+      staged = λ ts was. subst (λ hs. Any (λ s. s.ts ≡ ts) stages ⊎ Any (StandsAbove hs (read_on t) ts) t.writes) (sym more.heard) (staged_or_above k.heard [] t (read_on t) reads_up stages ts t.writes (st.staged ts (subst (λ hs. WasStagedAt hs t ts) heard-same was)));
+      late = subst (λ hs. AreLateByWrites stages hs (read_on t)) (sym more.heard) (late_on k.heard [] t (read_on t) stages reads_up refl st.late (λ s there. All-nil (λ h. RefutesWrite s h ⊎ RefutesRecord s h → ⊥)));
+      live =
+          subst (λ hs. AreLiveHere stages hs evidence.staged (read_on t)) (sym more.heard)
+          (live_on k.heard [] evidence.staged t (read_on t) stages refl refl refl (All-nil (λ h. (ts : ℕ) → IsTrue (shows_staging t.id t.epoch ts h) → ⊥)) st.live);
       puts =
           subst (λ ms. All (λ m. PutsUpTo t (last_seq_of t.writes) m.request) ms) (sym more.sent)
           (All-push (λ m. PutsUpTo t (last_seq_of t.writes) m.request) k.sent m0 st.puts (λ epoch seq put. absurd cc));
@@ -118,7 +125,7 @@ commit_sent k now stages commit t x anchor number range st passed anchored good 
 module _ (k now : Known) (stages : List SentStage) (t : Txn) (x : OpenTxn) (c : SentCommit) (view : View) (recorded : ℕ) (h : Heard) (st : TxnStands k stages (Some c) t x) (anchored : t.anchor ≡ Some c.meta.anchor)
     (asked : h.request ≡ commit_request c) (told : h.reply ≡ replies.Status view) (unfinal : is_final_view view ≡ false) (stands_at : undecided_ts view ≡ recorded) (past : c.ts < recorded)
     (no_later : (epoch ts : ℕ) → IsTrue (is_staging_at epoch ts view) → epoch ≤ t.epoch)
-    (known : (ts : ℕ) → IsTrue (is_staging_at t.epoch ts view) → Any (λ s. s.ts ≡ ts) stages ⊎ Any (IsProvedAbove ts) t.writes)
+    (known : (ts : ℕ) → IsTrue (is_staging_at t.epoch ts view) → Any (λ s. s.ts ≡ ts) stages ⊎ Any (StandsAbove k.heard t ts) t.writes)
     (more : HasMovedOn k now [] (h ∷ [])) (low : recorded ≤ now.high) where
   -- The transaction once its record was heard to stand there.
   abbrev risen : Txn
@@ -157,6 +164,9 @@ module _ (k now : Known) (stages : List SentStage) (t : Txn) (x : OpenTxn) (c : 
       let parts = and_parts (is_about t.id h.request) (option_map_or (is_staging_at epoch ts) (view_in h.reply) false) shows in
       sym (ap (λ reply. option_map_or (is_staging_at epoch ts) (view_in reply) false) told) ∙ parts.1
 
+  rises : StaysUp t risen
+  rises = record { id = refl; epoch = refl; up = omega arith }
+
   refused_by : TxnStands now stages None risen (refused_at recorded h.step x)
   refused_by =
       let kept : Evidence = x.staging in
@@ -166,7 +176,7 @@ module _ (k now : Known) (stages : List SentStage) (t : Txn) (x : OpenTxn) (c : 
         begun = st.begun;
         behind = omega (arith, st.behind);
         at_begin = st.at_begin;
-        below = omega (arith, st.below, more.high, low);
+        below = reach_raised k now [] (h ∷ []) more t risen refl recorded refl low st.below;
         views =
             subst (λ hs. All (IsUndecidedOf t) hs) (sym more.heard)
             (All-push (IsUndecidedOf t) k.heard h st.views (λ about. record {
@@ -175,13 +185,16 @@ module _ (k now : Known) (stages : List SentStage) (t : Txn) (x : OpenTxn) (c : 
               no_later = λ epoch ts is. no_later epoch ts (sym (ap (λ reply. option_map_or (is_staging_at epoch ts) (view_in reply) false) told) ∙ is);
             }));
         shown = st.shown ∙ sym (ap (last_shown t) sent-same);
-        staged = λ ts was. staged_split k.heard h t stages ts st.staged (λ shows. known ts (shown t.epoch ts shows)) (subst (λ hs. WasStagedAt hs t ts) more.heard was);
+        staged = λ ts was.
+            subst (λ hs. Any (λ s. s.ts ≡ ts) stages ⊎ Any (StandsAbove hs risen ts) t.writes) (sym more.heard)
+            (staged_or_above k.heard (h ∷ []) t risen rises stages ts t.writes (staged_split k.heard h t stages ts st.staged (λ shows. known ts (shown t.epoch ts shows)) (subst (λ hs. WasStagedAt hs t ts) more.heard was)));
         late =
-            subst (λ hs. AreLateByWrites stages hs t) (sym more.heard)
-            (late_on k.heard (h ∷ []) t stages st.late
+            subst (λ hs. AreLateByWrites stages hs risen) (sym more.heard)
+            (late_on k.heard (h ∷ []) t risen stages rises refl st.late
             (λ s there.
             All-cons (λ h. RefutesWrite s h ⊎ RefutesRecord s h → ⊥) h [] (none_by_other s h (commit_request c) asked (λ reply. refl) (λ e. absurd cc))
             (All-nil (λ h. RefutesWrite s h ⊎ RefutesRecord s h → ⊥))));
+        live = none_live now.heard x.staging.staged risen stages (subst (λ hs. All (IsLate hs) stages) (sym more.heard) (still_late k.heard (h ∷ []) stages (st.staging.behind_commit c refl)));
         puts = subst (λ ms. All (λ m. PutsUpTo t (last_seq_of t.writes) m.request) ms) (sym sent-same) st.puts;
         put_heard =
             let P : Heard → Type 0 = λ h. PutsUpTo t (last_seq_of t.writes) h.request in

@@ -21,13 +21,14 @@ use Rattle.pc_staging.specs.declared.stage_out.StageOut.{StageOut}
 use Rattle.pc_staging.specs.Kept.{Evidence, is_dead_by, is_over, is_passed_by, is_refuted}
 use Rattle.pc_staging.specs.Laws.{LeavesStages, SendsNothingNew}
 use Rattle.pc_staging.specs.Standing.{AreEvidence, StagingStands, WasStagedAt, WasStageSent}
-use Rattle.pc_txn.proofs.Late.{late_on, none_by}
+use Rattle.pc_txn.proofs.Above.{StaysUp, reach_on, staged_or_above}
+use Rattle.pc_txn.proofs.Late.{late_on, live_on, none_by}
 use Rattle.pc_txn.proofs.Lists.{any_before}
 use Rattle.pc_txn.proofs.Shown.{shown-plain}
 use Rattle.pc_txn.proofs.Written.{writes_on}
 use Rattle.pc_txn.specs.declared.txn.OpenTxn.{OpenTxn}
 use Rattle.pc_txn.specs.Laws.{TxnStandsOn}
-use Rattle.pc_txn.specs.Standing.{AreLateByWrites, AreStagedThere, HasMovedOn, IsProvedAbove, IsUndecidedOf, LeavesAsIs, TxnStands, is_plain, is_query_of}
+use Rattle.pc_txn.specs.Standing.{AreLateByWrites, AreLiveHere, AreStagedThere, HasMovedOn, StandsAbove, IsUndecidedOf, LeavesAsIs, TxnStands, is_plain, is_query_of}
 use Rattle.pc_txn.specs.Writing.{IsNotWritten, PutsUpTo, WritesStand}
 use Rattle.pc_world.specs.Known.{Known}
 use Rattle.pc_world.specs.Known.Traffic.{Heard, Sent}
@@ -88,11 +89,11 @@ pub staged_before : (heard more : List Heard) (t : Txn) (ts : ℕ) → All (λ h
 staged_before heard more t ts none was = any_before (λ h. IsTrue (shows_staging t.id t.epoch ts h)) heard more none was
 
 -- where one more reply was heard, it was heard to stage by that one, or before
-pub staged_split : (heard : List Heard) (h : Heard) (t : Txn) (stages : List SentStage) (ts : ℕ) → AreStagedThere stages heard t → (IsTrue (shows_staging t.id t.epoch ts h) → Any (λ s. s.ts ≡ ts) stages ⊎ Any (IsProvedAbove ts) t.writes)
-    → WasStagedAt (heard ++ h ∷ []) t ts → Any (λ s. s.ts ≡ ts) stages ⊎ Any (IsProvedAbove ts) t.writes
+pub staged_split : (heard : List Heard) (h : Heard) (t : Txn) (stages : List SentStage) (ts : ℕ) → AreStagedThere stages heard t → (IsTrue (shows_staging t.id t.epoch ts h) → Any (λ s. s.ts ≡ ts) stages ⊎ Any (StandsAbove heard t ts) t.writes)
+    → WasStagedAt (heard ++ h ∷ []) t ts → Any (λ s. s.ts ≡ ts) stages ⊎ Any (StandsAbove heard t ts) t.writes
 staged_split heard h t stages ts before now was = by (shows_staging t.id t.epoch ts h) refl
   where
-    by : (b : Bool) → shows_staging t.id t.epoch ts h ≡ b → Any (λ s. s.ts ≡ ts) stages ⊎ Any (IsProvedAbove ts) t.writes
+    by : (b : Bool) → shows_staging t.id t.epoch ts h ≡ b → Any (λ s. s.ts ≡ ts) stages ⊎ Any (StandsAbove heard t ts) t.writes
     by true is = now is
     by false is =
         let P : Heard → Type 0 = λ h. IsTrue (shows_staging t.id t.epoch ts h) in
@@ -131,11 +132,14 @@ module _ (k now : Known) (stages : List SentStage) (commit : Option SentCommit) 
       (λ m is. record { stage = quiet_stage t.id (Contains stages) m.request is; commits = quiet_commit t.id (λ c. commit ≡ Some c) m.request is }) sent_more quiet)
       (All-weaker (LeavesAsIs t) (LeavesStages stages t) leaves_stages heard_more leave)
 
-  staged2 : AreStagedThere stages now.heard t
+  stays_up : StaysUp t t
+  stays_up = record { id = refl; epoch = refl; up = omega arith }
+
+  staged2 : AreStagedThere stages (k.heard ++ heard_more) t
   staged2 ts was =
-      st.staged ts
-      (staged_before k.heard heard_more t ts (All-weaker (LeavesAsIs t) (λ h. IsTrue (shows_staging t.id t.epoch ts h) → ⊥) (λ h l. shows_none t.id t.epoch ts h l.other) heard_more leave)
-      (subst (λ hs. WasStagedAt hs t ts) more.heard was))
+      staged_or_above k.heard heard_more t t stays_up stages ts t.writes
+      (st.staged ts
+      (staged_before k.heard heard_more t ts (All-weaker (LeavesAsIs t) (λ h. IsTrue (shows_staging t.id t.epoch ts h) → ⊥) (λ h l. shows_none t.id t.epoch ts h l.other) heard_more leave) was))
 
   pub stands_on : TxnStands now stages commit t x
   stands_on = record {
@@ -144,19 +148,23 @@ module _ (k now : Known) (stages : List SentStage) (commit : Option SentCommit) 
     begun = st.begun;
     behind = st.behind;
     at_begin = st.at_begin;
-    below = omega (arith, st.below, more.high);
+    below = reach_on k now sent_more heard_more more t t refl refl st.below;
     views =
         subst (λ hs. All (IsUndecidedOf t) hs) (sym more.heard)
         (All-append (IsUndecidedOf t) k.heard heard_more st.views
         (All-weaker (LeavesAsIs t) (IsUndecidedOf t) (λ h l about. let none : is_about t.id h.request ≡ false = l.other in absurd cc) heard_more leave));
     shown = st.shown ∙ sym (ap (last_shown t) more.sent ∙ shown-plain t k.sent sent_more quiet);
-    staged = staged2;
+    staged = subst (λ hs. AreStagedThere stages hs t) (sym more.heard) staged2;
     late =
         subst (λ hs. AreLateByWrites stages hs t) (sym more.heard)
-        (late_on k.heard heard_more t stages st.late
+        (late_on k.heard heard_more t t stages stays_up refl st.late
         (λ s there.
         let w : WasStageSent k.sent t.id s = All-contains (WasStageSent k.sent t.id) stages s st.staging.sent there in
         All-weaker (LeavesAsIs t) (λ h. RefutesWrite s h ⊎ RefutesRecord s h → ⊥) (λ h l. none_by t s h w.whose l.other (l.unrefuted s w.whose)) heard_more leave));
+    live =
+        subst (λ hs. AreLiveHere stages hs x.staging.staged t) (sym more.heard)
+        (live_on k.heard heard_more x.staging.staged t t stages refl refl refl
+        (All-weaker (LeavesAsIs t) (λ h. (ts : ℕ) → IsTrue (shows_staging t.id t.epoch ts h) → ⊥) (λ h l ts. shows_none t.id t.epoch ts h l.other) heard_more leave) st.live);
     puts =
         let P : Sent → Type 0 = λ m. PutsUpTo t (last_seq_of t.writes) m.request in
         subst (λ ms. All P ms) (sym more.sent)

@@ -1,4 +1,6 @@
 -- Why the open transaction stands on.
+pub mod Above
+pub mod Again
 pub mod Alive
 pub mod Commits
 pub mod Keeping
@@ -7,6 +9,7 @@ pub mod Laying
 pub mod Lists
 pub mod Locks
 pub mod Puts
+pub mod Querying
 pub mod Restarts
 pub mod Rows
 pub mod Same

@@ -1,5 +1,5 @@
 -- The open transaction was told an answer that leaves it open, or makes it restart; or was just begun.
-use Rattle.std.proofs.Common.{◌≡◌, ℕ, ◌+◌, ◌<◌, ◌≤◌, max, Bool, true, false, List, [], Option, Some, None, refl, sym, ap, ◌∙◌, subst, arith, All, Any, IsTrue, ◌==◌, ◌&&◌, inl, inr}
+use Rattle.std.proofs.Common.{◌≡◌, ℕ, ◌+◌, ◌<◌, ◌≤◌, max, Bool, true, false, ◌⊎◌, List, [], Option, Some, None, refl, sym, ap, ◌∙◌, subst, arith, All, Any, IsTrue, ◌==◌, ◌&&◌, inl, inr}
 use Rattle.std.specs.Option.{option_map_or}
 use Rattle.std.proofs.lemmas.Bool.{and_parts, eqb-true}
 use Rattle.std.proofs.lemmas.List.{append-nil}
@@ -30,17 +30,19 @@ use Rattle.pc_staging.specs.Laws.{LeavesStages, SendsNothingNew}
 use Rattle.pc_staging.specs.Standing.{AreRefutedBelow, WasStagedAt}
 use Rattle.pc_txn.proofs.Shown.{shown-new}
 use Rattle.pc_txn.proofs.Keeping.{shows_none}
+use Rattle.pc_txn.proofs.Above.{StaysUp, reach_on, staged_or_above}
+use Rattle.pc_txn.proofs.Late.{late_on, live_on}
 use Rattle.pc_txn.specs.Counted.{IsOfBegun, IsOwnHeard, IsOwnSent, IsOwnWrite, IsQueryOfBegun}
 use Rattle.pc_txn.specs.declared.txn.OpenTxn.{OpenTxn}
 use Rattle.pc_txn.specs.Opened.{just_begun, restarted_by}
-use Rattle.pc_txn.specs.Standing.{AreLateByWrites, HasMovedOn, IsProvedAbove, IsUndecidedOf, TxnStands}
+use Rattle.pc_txn.specs.Standing.{AreLateByWrites, AreLiveHere, AreStagedThere, HasMovedOn, StandsAbove, IsStageHere, IsUndecidedOf, TxnStands}
 use Rattle.pc_txn.specs.Writing.{AreEarlierFirst, IsKeyLocked, IsUnwrittenWhereUnproved, PutsUpTo, WasWriteSent, WritesStand}
 use Rattle.pc_world.specs.Known.{Known}
 use Rattle.pc_world.specs.Known.Reads.{Read}
 use Rattle.pc_world.specs.Known.Traffic.{Heard, Sent}
 use Rattle.pc_world.specs.Known.Transactions.{Txn, begun}
 use Rattle.pc_world.specs.Known.Writes.{last_seq_of}
-use Rattle.pc_world.specs.StageFate.{IsLate, SentCommit, SentStage, is_write_refuted}
+use Rattle.pc_world.specs.StageFate.{IsLate, RefutesRecord, RefutesWrite, SentCommit, SentStage, is_write_refuted}
 use Rattle.pc_world.specs.Tell.End.{shows_staging}
 
 -- The transaction with these reads, once an answer was told that leaves it open.
@@ -55,17 +57,21 @@ stands_told k now stages commit t x reads spans committed st more good =
     let sent-same : now.sent ≡ k.sent = more.sent ∙ append-nil k.sent in
     let heard-same : now.heard ≡ k.heard = more.heard ∙ append-nil k.heard in
     let w : WritesStand now.sent now.heard t = subst (λ ms. WritesStand ms now.heard t) (sym sent-same) (subst (λ hs. WritesStand k.sent hs t) (sym heard-same) st.writes) in
+    let stays : StaysUp t (told_open reads committed t) = record { id = refl; epoch = refl; up = omega arith } in
     record {
       same = ap (λ (x : OpenTxn). record x { reads = record { spans = spans; ts = x.reads.ts } }) st.same;
       number = omega (arith, st.number, more.begun);
       begun = st.begun;
       behind = st.behind;
       at_begin = st.at_begin;
-      below = omega (arith, st.below, more.high);
+      below = reach_on k now [] [] more t (told_open reads committed t) refl refl st.below;
       views = subst (λ hs. All (IsUndecidedOf t) hs) (sym heard-same) st.views;
       shown = st.shown ∙ sym (ap (last_shown t) sent-same);
-      staged = λ ts was. st.staged ts (subst (λ hs. WasStagedAt hs t ts) heard-same was);
-      late = subst (λ hs. AreLateByWrites stages hs t) (sym heard-same) st.late;
+      staged = subst (λ hs. AreStagedThere stages hs (told_open reads committed t)) (sym more.heard) (λ ts was. staged_or_above k.heard [] t (told_open reads committed t) stays stages ts t.writes (st.staged ts (subst (λ hs. WasStagedAt hs t ts) (append-nil k.heard) was)));
+      late = subst (λ hs. AreLateByWrites stages hs (told_open reads committed t)) (sym more.heard) (late_on k.heard [] t (told_open reads committed t) stages stays refl st.late (λ s there. All-nil (λ h. RefutesWrite s h ⊎ RefutesRecord s h → ⊥)));
+      live =
+          subst (λ hs. AreLiveHere stages hs x.staging.staged (told_open reads committed t)) (sym more.heard)
+          (live_on k.heard [] x.staging.staged t (told_open reads committed t) stages refl refl refl (All-nil (λ h. (ts : ℕ) → IsTrue (shows_staging t.id t.epoch ts h) → ⊥)) st.live);
       puts = subst (λ ms. All (λ m. PutsUpTo t (last_seq_of t.writes) m.request) ms) (sym sent-same) st.puts;
       put_heard = subst (λ hs. All (λ h. PutsUpTo t (last_seq_of t.writes) h.request) hs) (sym heard-same) st.put_heard;
       writes = record { by_sequence = w.by_sequence; each_sent = w.each_sent; unwritten = w.unwritten; locked = w.locked; unanchored = w.unanchored };
@@ -129,11 +135,12 @@ stands_restarted k now stages commit t x anchor key ts st over anchored more =
       begun = omega (arith, st.begun);
       behind = omega (arith, st.behind);
       at_begin = λ none. let e : Some anchor ≡ None = sym anchored ∙ none in absurd cc;
-      below = omega (arith, st.below, more.high);
+      below = reach_on k now [] [] more t (restarted key ts t) refl refl st.below;
       views = subst (λ hs. All (IsUndecidedOf (restarted key ts t)) hs) (sym heard-same) (All-weaker (IsUndecidedOf t) (IsUndecidedOf (restarted key ts t)) (undecided_before key ts t) k.heard st.views);
       shown = st.shown ∙ sym (ap (last_shown t) sent-same);
       staged = λ at was. absurd (unstaged_next t k.heard (t.epoch + 1) at (omega arith) st.views (subst (λ hs. WasStagedAt hs (restarted key ts t) at) heard-same was));
-      late = All-nil (λ s. IsLate now.heard s → Any (IsProvedAbove s.ts) []);
+      late = All-nil (λ s. IsLate now.heard s → Any (StandsAbove now.heard (restarted key ts t) s.ts) []);
+      live = All-nil (λ s. (IsLate now.heard s → ⊥) → IsStageHere now.heard None (restarted key ts t) s);
       puts =
           subst (λ ms. All (λ m. PutsUpTo (restarted key ts t) 0 m.request) ms) (sym sent-same)
           (All-weaker (λ m. PutsUpTo t (last_seq_of t.writes) m.request) (λ m. PutsUpTo (restarted key ts t) 0 m.request) (λ m up. puts_before key ts t m.request up) k.sent st.puts);
@@ -223,13 +230,14 @@ module _ (k now : Known) (session count : ℕ) (id : TxnId) (priority : Priority
     begun = omega arith;
     behind = omega arith;
     at_begin = λ none. refl;
-    below = low;
+    below = inl low;
     views = All-weaker (λ h. is_about id h.request ≡ false) (IsUndecidedOf t0) (λ h none about. let other : is_about id h.request ≡ false = none in absurd cc) now.heard none_heard;
     shown = sym (ap (last_shown t0) same_sent ∙ shown-new session count k.begun id whose later born k.sent sent);
     staged = λ at was.
         let f = any_of (λ h. is_about id h.request ≡ false) (λ h. IsTrue (shows_staging id 0 at h)) now.heard none_heard was in
         absurd (shows_none id 0 at f.0 f.1 f.2);
-    late = All-nil (λ s. IsLate now.heard s → Any (IsProvedAbove s.ts) []);
+    late = All-nil (λ s. IsLate now.heard s → Any (StandsAbove now.heard t0 s.ts) []);
+    live = All-nil (λ s. (IsLate now.heard s → ⊥) → IsStageHere now.heard None t0 s);
     puts =
         subst (λ ms. All (λ m. PutsUpTo t0 0 m.request) ms) (sym same_sent)
         (All-weaker (IsOwnSent session k.begun count) (λ m. PutsUpTo t0 0 m.request) (λ m own epoch seq put. absurd (new_put id epoch k.begun m.request later own.own.write seq put)) k.sent sent);

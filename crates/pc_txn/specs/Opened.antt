@@ -8,7 +8,7 @@ use Rattle.pc_proto.specs.declared.request.Request.{Request}
 use Rattle.pc_proto.specs.declared.request.Request.TheVariants as requests
 use Rattle.pc_proto.specs.declared.why.Why.{Why}
 use Rattle.pc_proto.specs.declared.why.Why.TheVariants as whys
-use Rattle.pc_staging.specs.Kept.{Evidence, nothing_kept, refuted_above, seen_undecided, with_stages, without_stages}
+use Rattle.pc_staging.specs.Kept.{Evidence, nothing_kept, refuted_above, refuted_at, seen_undecided, with_stages, without_stages}
 use Rattle.pc_txn.specs.declared.txn.OpenTxn.{OpenTxn}
 use Rattle.pc_world.specs.Known.Transactions.{Txn, with_lock}
 use Rattle.pc_world.specs.Known.Writes.{last_seq_of}
@@ -45,9 +45,13 @@ meta_now x anchor = record { id = x.id; epoch = x.epoch; priority = x.priority; 
 abbrev pub next_put : OpenTxn → List ℕ → Option (List ℕ) → Request
 next_put x key value = requests.Put (meta_now x (unwrap_or x.anchor key)) (x.seq + 1) x.write_ts key value
 
+-- A write of its that is in flight, at this timestamp.
+abbrev pub put_at : OpenTxn → List ℕ → ℕ → WriteInFlight → Request
+put_at x anchor ts w = requests.Put (meta_now x anchor) w.seq ts w.key w.value
+
 -- A write of its that is in flight, at its write timestamp.
 abbrev pub own_put : OpenTxn → List ℕ → WriteInFlight → Request
-own_put x anchor w = requests.Put (meta_now x anchor) w.seq x.write_ts w.key w.value
+own_put x anchor w = put_at x anchor x.write_ts w
 
 -- Its get of a key, at its read timestamp.
 abbrev pub own_get : OpenTxn → List ℕ → Request
@@ -81,6 +85,18 @@ landed_at key seq ts step x = record x {
   write_ts = max x.write_ts ts;
   in_flight = filter (is_another key seq) x.in_flight;
   staging = with_stages (map (refuted_above ts step) x.staging.stages) x.staging;
+}
+
+-- The transaction once a query found its write of this key and sequence.
+abbrev pub with_found : List ℕ → ℕ → OpenTxn → OpenTxn
+with_found key seq x = record x { in_flight = filter (is_another key seq) x.in_flight }
+
+-- The transaction once a query missed a write of its at this timestamp, where a stage lists it, by a reply that was evaluated at this step: it
+-- writes above that.
+abbrev pub missed_at : ℕ → ℕ → OpenTxn → OpenTxn
+missed_at ts step x = record x {
+  write_ts = max x.write_ts (ts + 1);
+  staging = with_stages (map (refuted_at ts step) x.staging.stages) x.staging;
 }
 
 -- The transaction once its commit was refused, by a reply that was evaluated at this step and shows where the record stands.

@@ -1,5 +1,5 @@
 -- How the writes of the open transaction's epoch stand beside what its session sent and heard of them. SIGMOD 2020 paper, section 3.1.
-use Rattle.std.specs.Prelude.{◌≡◌, ℕ, ◌<◌, ◌≤◌, false, not, None, List, [], All, Any, IsTrue}
+use Rattle.std.specs.Prelude.{◌≡◌, ℕ, ◌<◌, ◌≤◌, false, not, None, List, [], All, Any, Contains, IsTrue}
 use Rattle.pc_proto.specs.declared.request.Request.{Request}
 use Rattle.pc_proto.specs.Replies.{is_written}
 use Rattle.pc_proto.specs.Requests.{is_put_of}
@@ -19,6 +19,10 @@ IsNotWritten t seq h = IsTrue (is_put_of t.id t.epoch seq h.request) → is_writ
 -- A put of the write was sent.
 abbrev pub WasWriteSent : Txn → List Sent → Write → Type 0
 WasWriteSent t sent w = Any (λ m. IsTrue (is_put_of t.id t.epoch w.seq m.request)) sent
+
+-- The write of this sequence went out at this timestamp.
+abbrev pub WasAskedAt : Txn → ℕ → ℕ → Type 0
+WasAskedAt t seq ts = Any (λ w. (w.seq ≡ seq) × Contains w.asked ts) t.writes
 
 -- The write, where it is not proved, was not heard to be written.
 abbrev pub IsUnwrittenWhereUnproved : Txn → List Heard → Write → Type 0

@@ -1,6 +1,7 @@
 ghost use Rattle.std.specs.Prelude.{◌≡◌, ◌+◌, ◌<◌, All, IfOk, OnOk, length, unwrap_or};
 ghost use Rattle.pc_base.specs.declared.limits.TheConstants.{MOST_IN_FLIGHT};
-ghost use Rattle.pc_txn.specs.Opened.{just_begun, landed_at, meta_now, next_put, own_abort, own_commit, own_get, own_put, own_scan, refused_at, restarted_by, with_commit, with_next_write};
+ghost use Rattle.pc_base.specs.Timestamp.{greatest};
+ghost use Rattle.pc_txn.specs.Opened.{just_begun, landed_at, meta_now, missed_at, next_put, own_abort, own_commit, own_get, own_put, own_scan, refused_at, restarted_by, with_commit, with_found, with_next_write};
 ghost use Rattle.pc_world.specs.Known.Transactions.{begun};
 
 use pc_base::{Key, NoMemory, Priority, Span, Timestamp, TryCopy, TxnId, Value};
@@ -168,6 +169,22 @@ impl OpenTxn {
         self.write_ts = self.write_ts.max(ts);
         self.in_flight.proved(key, seq);
         self.staging.heard_written(ts, step);
+    }
+
+    /// A query found its write of this key and sequence, no later than the write timestamp.
+    pub fn found(&mut self, key: &Key, seq: u32)
+        ensures { self.new ≡ with_found key.now seq self.old }
+    {
+        self.in_flight.proved(key, seq);
+    }
+
+    /// A query missed a write of its at this timestamp, where a stage lists it, by a reply that was evaluated at this step: it writes above that.
+    pub fn missed(&mut self, ts: Timestamp, step: u64)
+        requires { ts < greatest }
+        ensures { self.new ≡ missed_at ts step self.old }
+    {
+        self.write_ts = self.write_ts.max(ts.next());
+        self.staging.heard_missing(ts, step);
     }
 
     /// Its commit was refused: its record is not final and stands at this timestamp, by a reply that was evaluated at this step.

@@ -7,9 +7,9 @@ use Rattle.pc_wave.specs.Messages.{message_to_send}
 use Rattle.pc_call.proofs.call.OpenCall.commit.Goals as goal
 
 pub returns-clause-stands : goal.returns-clause-stands
-returns-clause-stands c = λ splits k s commits is.
+returns-clause-stands c = λ set k s commits is.
     let x = c.args.txn.now in
     let e : c.in_ok-wave.wave ≡ message_to_send (own_commit x c.args.anchor.now) ∷ [] = c.in_ok-wave.ensures ∙ ap (λ r. message_to_send r ∷ []) c.in_ok-commit.ensures in
     let f : c.in_ok-wave.wave ≡ message_to_send (own_commit x commits.on.commits.anchor) ∷ [] = e ∙ ap (λ a. message_to_send (own_commit x a) ∷ []) (sym is) in
-    subst (λ now. InCall splits k x (purposes.Commit c.args.refusals) now) (sym f)
-    (commit_begins c.args.refusals k x s commits splits)
+    subst (λ now. InCall set k x (purposes.Commit c.args.refusals) now) (sym f)
+    (commit_begins c.args.refusals k x s commits set)

@@ -10,9 +10,9 @@ use Rattle.pc_call.proofs.call.OpenCall.get.Goals as goal
 pub returns : goal.returns
 returns c = record {
   unsent = subst (λ ms. All (λ m. is_to_send m ≡ true) ms) (sym (c.in_ok-wave.ensures ∙ ap (λ r. message_to_send r ∷ []) c.in_ok-get.ensures)) (all_to_send (own_get c.args.txn.now c.args.key.now ∷ []));
-  stands = λ splits k s why fresh call none.
+  stands = λ set k s why fresh call none.
       let x = c.args.txn.now in
       let e : c.in_ok-wave.wave ≡ message_to_send (own_get x c.args.key.now) ∷ [] = c.in_ok-wave.ensures ∙ ap (λ r. message_to_send r ∷ []) c.in_ok-get.ensures in
-      subst (λ now. InCall splits k x purposes.Read now) (sym e)
-      (get_begins k x s why fresh splits c.args.key.now call none);
+      subst (λ now. InCall set k x purposes.Read now) (sym e)
+      (get_begins k x s why fresh set c.args.key.now call none);
 }

@@ -7,11 +7,11 @@ use Rattle.pc_wave.specs.Messages.{is_to_send, message_to_send}
 use Rattle.pc_call.proofs.call.OpenCall.refresh.Goals as goal
 
 pub returns-clause-stands : goal.returns-clause-stands
-returns-clause-stands c = λ splits k goes_on behind.
+returns-clause-stands c = λ set k goes_on behind.
     let x = c.args.txn.now in
     let e : c.in_ok-wave.wave ≡ map message_to_send (map (refresh_to x.id x.reads.ts x.write_ts) x.reads.spans) = c.in_ok-wave.ensures ∙ ap (map message_to_send) c.in_ok-requests.ensures.made in
-    subst (λ now. InCall splits k x (purposes.Refresh c.args.refusals) now) (sym e)
-    (refresh_begins c.args.refusals k x goes_on behind splits)
+    subst (λ now. InCall set k x (purposes.Refresh c.args.refusals) now) (sym e)
+    (refresh_begins c.args.refusals k x goes_on behind set)
 
 pub returns-clause-unsent : goal.returns-clause-unsent
 returns-clause-unsent c = subst (λ ms. All (λ m. is_to_send m ≡ true) ms) (sym c.in_ok-wave.ensures) (all_to_send c.in_ok-requests.requests.items)
