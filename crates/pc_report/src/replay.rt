@@ -1,12 +1,14 @@
 //! Replays a history once: what its ranges become, and when each transaction is committed.
 
-ghost use Rattle.std.specs.Prelude.{◌≡◌, ◌+◌, ◌^◌, ◌<◌, ◌++◌, ◌∷◌, [], IfOk, OnOk, length, slice_get};
-ghost use Rattle.std.specs.List.{list_all};
+ghost use Rattle.std.specs.Prelude.{◌≡◌, ◌+◌, ◌^◌, ◌<◌, ◌++◌, ◌∷◌, [], false, is_some, IfOk, OnOk, length, slice_get};
+ghost use Rattle.std.specs.List.{list_all, list_any};
 ghost use Rattle.std.specs.Option.{option_copied};
+ghost use Rattle.pc_proto.specs.Requests.{subject};
 ghost use Rattle.pc_proto.specs.Table.{place_of};
 ghost use Rattle.pc_report.specs.Ordering.{rank_in};
 ghost use Rattle.pc_report.specs.ReportOf.{IsRunOver, ending_at, ending_by, rolled_back_in, told_ending};
 ghost use Rattle.pc_report.specs.Replaying.{AreBlank, HasRoomAt, HasRoomFor, IsReplayOf, Notes, after_eval, commit_kept, states_after, asked_in, commit_of_place, committed_one, ending_in, is_present_in, touched, touched_by_send, touched_in};
+ghost use Rattle.pc_report.specs.Seen.{SendsNoStage, kept_of, is_stage, sends_a_stage};
 ghost use Rattle.pc_sent.specs.Sending.{AreSendsOf};
 ghost use Rattle.pc_world.specs.Committed.{commit_by, committed_in, key_sent};
 ghost use Rattle.pc_world.specs.Named.{request_in};
@@ -32,6 +34,8 @@ pub(crate) struct Rank {
 /// What the entries so far come to.
 #[derive(Drop)]
 pub(crate) struct Replay {
+    /// Whether all of each range is kept, or its records and marks alone.
+    whole: bool,
     /// The ranges, in key order.
     states: Vec<RangeState>,
     /// The key of each transaction's first put.
@@ -54,7 +58,8 @@ pub(crate) fn replayed(
     requires run { IsRunOver splits.now entries.now }
     ensures { IfOk result (IsReplayOf splits.now entries.now) }
 {
-    let mut replay = Replay::new(alloc, splits)?;
+    let whole = any_sends_a_stage(entries);
+    let mut replay = Replay::new(alloc, splits, whole)?;
     let mut sent = Sent::new(alloc);
     for (done, entry) in entries.iter().enumerate() {
         let (before, _) = entries.split_at(done);
@@ -65,11 +70,13 @@ pub(crate) fn replayed(
 }
 
 impl Replay {
-    fn new(alloc: Global, splits: &Keys) -> Result<Replay, NoMemory>
+    fn new(alloc: Global, splits: &Keys, whole: bool) -> Result<Replay, NoMemory>
         requires { length splits.now + 1 < 2 ^ 32 }
-        ensures { IfOk result (IsReplayOf splits.now []) }
+        ensures replay { IfOk result (IsReplayOf splits.now []) }
+        ensures whole { IfOk result (λ r. r.whole ≡ whole) }
     {
         Ok(Replay {
+            whole,
             states: blank_ranges(alloc, splits.len())?,
             anchors: BTreeMap::new(alloc),
             told: BTreeMap::new(alloc),
@@ -89,15 +96,17 @@ impl Replay {
         requires few { length splits.now + 1 < 2 ^ 32 }
         requires sent { AreSendsOf before.now sent.now }
         requires so_far { IsReplayOf splits.now before.now self.old }
+        requires unstaged { self.old.whole ≡ false → SendsNoStage before.now }
         requires run { IsRunOver splits.now (before.now ++ entry.now ∷ []) }
-        ensures { OnOk result (IsReplayOf splits.now (before.now ++ entry.now ∷ []) self.new) }
+        ensures replay { OnOk result (IsReplayOf splits.now (before.now ++ entry.now ∷ []) self.new) }
+        ensures whole { OnOk result (self.new.whole ≡ self.old.whole) }
     {
         let length = before.len() as u64 + 1;
         note_anchor(&mut self.anchors, &entry.event)?;
         note_told(&mut self.told, &entry.event)?;
         note_rolled_back(&mut self.rolled_back, &entry.event)?;
         let asked = asked(sent, before, &entry.event);
-        evaluate(&mut self.states, entry.actor, asked)?;
+        evaluate(&mut self.states, entry.actor, kept_of(self.whole, asked))?;
         let Some(id) = self.committed_of(splits, touched_in(asked, &entry.event)) else {
             return Ok(());
         };
@@ -151,6 +160,62 @@ impl Replay {
                 Some(state) => ending_on(state, id, told),
             },
         }
+    }
+}
+
+/// Whether an entry sends a stage.
+fn any_sends_a_stage(entries: &[Entry<Event>]) -> bool
+    ensures { result ≡ list_any (λ e. sends_a_stage e.event) entries.now }
+{
+    entries.iter().any(|entry| sends_a_stage(&entry.event))
+}
+
+fn sends_a_stage(event: &Event) -> bool
+    ensures { result ≡ sends_a_stage event.now }
+{
+    match event {
+        Event::Send { request, .. } => is_stage(request),
+        _ => false,
+    }
+}
+
+fn is_stage(request: &Request) -> bool
+    ensures { result ≡ is_stage request.now }
+{
+    matches!(request, Request::Stage { .. })
+}
+
+/// The request, unless it changes nothing that is kept.
+fn kept_of(whole: bool, asked: Option<&Request>) -> Option<&Request>
+    ensures { option_copied result ≡ kept_of whole (option_copied asked) }
+{
+    let request = asked?;
+    if whole || is_of_record(request) {
+        Some(request)
+    } else {
+        None
+    }
+}
+
+/// Whether the request speaks of a transaction's record.
+fn is_of_record(request: &Request) -> bool
+    ensures { result ≡ is_some (subject request.now) }
+{
+    match request {
+        Request::Beat { .. }
+        | Request::Stage { .. }
+        | Request::Commit { .. }
+        | Request::Abort { .. }
+        | Request::Push { .. }
+        | Request::Recover { .. }
+        | Request::Remove { .. } => true,
+        Request::Get { .. }
+        | Request::Scan { .. }
+        | Request::Put { .. }
+        | Request::Refresh { .. }
+        | Request::Query { .. }
+        | Request::Resolve { .. }
+        | Request::Records => false,
     }
 }
 
