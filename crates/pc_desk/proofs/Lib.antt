@@ -13,3 +13,5 @@ pub mod Refusing
 pub mod Leaving
 pub mod Ending
 pub mod Stopping
+pub mod WaveSteps
+pub mod Besides

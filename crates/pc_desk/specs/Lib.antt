@@ -9,5 +9,6 @@ pub mod Commits
 pub mod Waiting
 pub mod Desk
 pub mod Refused
+pub mod Wave
 pub mod Ending
 pub mod Rest

@@ -1,4 +1,4 @@
-ghost use Rattle.std.specs.Prelude.{◌≡◌, ℕ, ◌+◌, ◌-◌, ◌<◌, ◌≤◌, ◌^◌, [], ◌∷◌, true, length, map, All, IfErr, IfOk, IfNone, IfSome, OnErr, OnOk};
+ghost use Rattle.std.specs.Prelude.{◌≡◌, ℕ, ◌+◌, ◌-◌, ◌<◌, ◌≤◌, ◌^◌, [], ◌∷◌, true, Err, length, map, All, IfErr, IfOk, IfNone, IfSome, OnErr, OnOk};
 ghost use Rattle.pc_base.specs.Rising.{AreRising};
 ghost use Rattle.pc_desk.specs.declared.halt.Halt.TheVariants as halts;
 ghost use Rattle.pc_desk.specs.Commits.{IsCommitPlace};
@@ -8,6 +8,7 @@ ghost use Rattle.pc_desk.specs.Keeping.{ReadsEach};
 ghost use Rattle.pc_desk.specs.OwnLog.{HasMadeEntry, IsNoRange, IsOwnLog, MayEnter};
 ghost use Rattle.pc_desk.specs.Refused.{GivesBack};
 ghost use Rattle.pc_desk.specs.Waiting.{IsBehindAll, IsNewest};
+ghost use Rattle.pc_desk.specs.Wave.{EndsFor, HasKeptAll, HasTakenIn, HasTakenWave, IsReply, MayGo, posted_of};
 ghost use Rattle.pc_history.specs.Own.{entries_of};
 ghost use Rattle.pc_history.specs.Parts.{newcomer, noted, told, with_uses, without_uses};
 ghost use Rattle.pc_proto.specs.declared.event.Event.TheVariants as events;
@@ -22,17 +23,20 @@ use crate::answered::Answered;
 use crate::halt::Halt;
 use crate::own_log::OwnLog;
 use crate::rest::Rest;
+use crate::wave::{first_refusal, join_wave, note_of, use_of};
 use pc_base::{ActorId, Entry, NoMemory, TryCopy, TxnId};
 use pc_clock::Clock;
 use pc_history::{Actor, Named, Note};
 use pc_proto::{Answer, Call, Event, Request};
 use pc_range::{CommitWorld, Gate, Message, Ranges, ReplyMsg, ServeFault};
+use pc_serving::{Delivery, Outcome, serve_beside};
 use pc_wire::{Outbox, Verdict, Wire};
 use pc_world::range_for;
 use std::alloc::Global;
 use std::collections::VecDeque;
 use std::marker::Model;
 use std::sync::Wait;
+use std::thread::Threads;
 
 /// The own list of a session or recoverer, and its messages on their way to the ranges and back. So far over a quiet wire alone.
 ///
@@ -317,11 +321,116 @@ impl<'a, N: Named<CommitWorld>, C: Clock, V: Wire, G: Gate> Desk<'a, N, C, V, G>
         Ok(())
     }
 
+    /// Takes all messages that wait, in the order of their numbers, each with a note of the actor's last entry beside it.
+    fn take_wave(&mut self) -> Result<Vec<Delivery<N>>, Halt>
+        requires track { KeepsTrack self.old }
+        requires some { 1 ≤ length self.old.posted }
+        ensures taken { IfOk result (λ wave. HasTakenWave self.old self.new wave.items) }
+        ensures all { OnOk result (self.new.posted ≡ []) }
+        ensures clock { self.new.log.clock ≡ self.old.log.clock }
+        ensures err { IfErr result (HasHalted self.old self.new) }
+        ensures ended { IfErr result (EndsOnly (λ made. ⊥) self.old self.new) }
+    {
+        let mut last = self.note_last()?;
+        let mut wave = Vec::new(*self.replies.allocator());
+        while self.waiting() > 0 {
+            let message = self.take_first();
+            match join_wave(&mut wave, message, &mut last) {
+                Ok(()) => {}
+                Err(NoMemory) => return Err(self.want_memory()),
+            }
+        }
+        Ok(wave)
+    }
+
+    /// Takes the message of the least number from those that wait.
+    fn take_first(&mut self) -> Message<N>
+        requires { 1 ≤ length self.old.posted }
+        ensures first { HasTakenFirst self.old self.new (posted_of result) }
+        ensures may { MayGo self.old result }
+        ensures clock { self.new.log.clock ≡ self.old.log.clock }
+    {
+        match self.outbox.take_first() {
+            Some((_, message)) => message,
+            None => unreachable!(),
+        }
+    }
+
+    /// Knows the evaluations of a wave, and keeps their replies, in order, until they are heard.
+    fn keep_all(&mut self, outcomes: Vec<Outcome<N>>) -> Result<(), Halt>
+        requires log { IsOwnLog self.old.log }
+        requires replies { All IsReply outcomes.items }
+        ensures ok { OnOk result (HasKeptAll self.old self.new outcomes.items) }
+        ensures clock { self.new.log.clock ≡ self.old.log.clock }
+        ensures err { IfErr result (HasHalted self.old self.new) }
+        ensures memory { IfErr result (λ halt. halt ≡ halts.NoMemory) }
+    {
+        for outcome in outcomes {
+            let reply = match outcome {
+                Ok(reply) => reply,
+                Err(_) => unreachable!(),
+            };
+            self.keep(reply)?;
+        }
+        Ok(())
+    }
+
+    /// Knows what became of the messages of a wave, has the uses of those that were given back, and makes no more entries.
+    fn end_for(&mut self, cause: Halt, outcomes: Vec<Outcome<N>>) -> Halt
+        ensures ends { EndsFor self.old self.new outcomes.items cause result }
+        ensures clock { self.new.log.clock ≡ self.old.log.clock }
+    {
+        for outcome in outcomes {
+            match self.take_in(outcome) {
+                Ok(()) => {}
+                Err(NoMemory) => return self.want_memory(),
+            }
+        }
+        self.log.halt();
+        cause
+    }
+
+    /// Knows what became of a message of a wave, and has its use where it was given back.
+    fn take_in(&mut self, outcome: Outcome<N>) -> Result<(), NoMemory>
+        ensures ok { OnOk result (HasTakenIn self.old self.new outcome) }
+        ensures refused { OnErr result (self.new ≡ self.old) }
+        ensures clock { self.new.log.clock ≡ self.old.log.clock }
+    {
+        match outcome {
+            Ok(reply) => {
+                self.log.take(note_of(reply));
+                Ok(())
+            }
+            Err(fault) => self.take_back(fault),
+        }
+    }
+
+    /// Knows the last entry of a full range that gave a message back, and has the message's use.
+    fn take_back(&mut self, fault: ServeFault<N>) -> Result<(), NoMemory>
+        ensures ok { OnOk result (HasTakenIn self.old self.new (Err fault)) }
+        ensures refused { OnErr result (self.new ≡ self.old) }
+        ensures clock { self.new.log.clock ≡ self.old.log.clock }
+    {
+        match fault {
+            ServeFault::Full {
+                range: _range,
+                last,
+                message,
+            } => {
+                self.log.take(last);
+                self.log.take(use_of(message));
+                Ok(())
+            }
+            ServeFault::NoMemory => Err(NoMemory),
+        }
+    }
+
     /// A note of the actor's last entry, behind which the messages that wait are evaluated.
     fn note_last(&mut self) -> Result<Note<CommitWorld, N>, Halt>
         requires track { KeepsTrack self.old }
         requires some { 1 ≤ length self.old.posted }
         ensures behind { IfOk result (λ n. IsBehindAll self.old.log.part.own n.known) }
+        ensures plain { IfOk result (λ n. n.known ≡ with_uses 0 n.known) }
         ensures same { OnOk result (self.new ≡ self.old) }
         ensures clock { self.new.log.clock ≡ self.old.log.clock }
         ensures err { IfErr result (HasHalted self.old self.new) }
@@ -453,6 +562,55 @@ impl<'a, N: Named<CommitWorld>, C: Clock, V: Wire, G: Gate> Desk<'a, N, C, V, G>
             step: answered.step,
         })?;
         Ok(Some(answered))
+    }
+}
+
+impl<'a, N: Named<CommitWorld> + Send + Sync, C: Clock, V: Wire, G: Gate + Sync> Desk<
+    'a,
+    N,
+    C,
+    V,
+    G,
+> {
+    /// Has each message's range evaluate it: those of a wave beside each other, where they are to go so, or else in the order of their numbers. All
+    /// are sent by then, and no reply waits to be heard.
+    pub fn deliver_wave<R: Wait + Threads + Sync>(&mut self, rt: &R) -> Result<(), Halt>
+        requires track { KeepsTrack self.old }
+        requires none_waits { self.old.replies ≡ [] }
+        ensures ok { OnOk result (HasDelivered self.old self.new) }
+        ensures all { OnOk result (self.new.posted ≡ []) }
+        ensures clock { self.new.log.clock ≡ self.old.log.clock }
+        ensures err { IfErr result (HasHalted self.old self.new) }
+        ensures ended { IfErr result (EndsOnly (λ made. ⊥) self.old self.new) }
+    {
+        if self.log.is_beside() && self.waiting() > 1 {
+            return self.deliver_beside(rt);
+        }
+        self.deliver(rt)
+    }
+
+    /// Has the messages' ranges evaluate them beside each other, and then keeps the replies in the order of their numbers. Where a range gave
+    /// one back, none of them is heard.
+    fn deliver_beside<R: Wait + Threads + Sync>(&mut self, rt: &R) -> Result<(), Halt>
+        requires track { KeepsTrack self.old }
+        requires beside { self.old.log.beside ≡ true }
+        requires some { 1 ≤ length self.old.posted }
+        requires none_waits { self.old.replies ≡ [] }
+        ensures ok { OnOk result (HasDelivered self.old self.new) }
+        ensures all { OnOk result (self.new.posted ≡ []) }
+        ensures clock { self.new.log.clock ≡ self.old.log.clock }
+        ensures err { IfErr result (HasHalted self.old self.new) }
+        ensures ended { IfErr result (EndsOnly (λ made. ⊥) self.old self.new) }
+    {
+        let wave = self.take_wave()?;
+        let outcomes = match serve_beside(rt, self.ranges, wave) {
+            Ok(outcomes) => outcomes,
+            Err(NoMemory) => return Err(self.want_memory()),
+        };
+        match first_refusal(outcomes.as_slice()) {
+            None => self.keep_all(outcomes),
+            Some(cause) => Err(self.end_for(cause, outcomes)),
+        }
     }
 }
 

@@ -7,6 +7,7 @@ mod desk;
 mod halt;
 mod own_log;
 mod rest;
+mod wave;
 
 pub use answered::Answered;
 pub use desk::Desk;

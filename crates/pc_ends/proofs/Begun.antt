@@ -1,5 +1,5 @@
 -- The sessions, and the recoverers, of a workload begin one after another.
-use Rattle.std.proofs.Common.{◌≡◌, ℕ, ◌+◌, ◌<◌, ◌≤◌, inl, inr, Bool, false, All, List, [], ◌∷◌, ◌++◌, length, slice_get, Option, None, Some, IfSome, Result, Ok, Err, IfOk, refl, sym, ap, subst, ◌∙◌, arith, length-append}
+use Rattle.std.proofs.Common.{◌≡◌, ℕ, ◌+◌, ◌<◌, ◌≤◌, inl, inr, Bool, true, false, not, All, List, [], ◌∷◌, ◌++◌, length, slice_get, is_none, is_some, Option, None, Some, IfSome, Result, Ok, Err, IfOk, refl, sym, ap, subst, ◌∙◌, arith, length-append}
 use Rattle.std.proofs.lemmas.List.{append-nil, append_assoc}
 use Rattle.std.proofs.lemmas.List.Elements.{All-contains}
 use Rattle.std.proofs.lemmas.Option.{slice_get_within}
@@ -42,12 +42,19 @@ pub recoverer_stop_from : (work : Workload) (index : ℕ) (stated : RecovererWor
 recoverer_stop_from work index stated accepted listed =
     some_entry stated.stop (All-contains IsRecovererWithin work.recoverers stated accepted.recoverers (get_contains work.recoverers index stated listed)).stop
 
+-- what a test for nothing tells
+pub told_none : {X : Type 0} (o : Option X) (told : Bool) → is_some o ≡ not told → told ≡ is_none o
+told_none None true is = refl
+told_none None false is = let no : false ≡ true = is in absurd cc
+told_none (Some x) true is = let no : true ≡ false = is in absurd cc
+told_none (Some x) false is = refl
+
 -- a session that was made with its script is that of its place
-pub runner_begun : {C : Type 0} (work : Workload) (index : ℕ) (stated : SessionWork) (s : ScriptedMeaning C) (d : SessionMeaning C) (head : Head) (part : Part Event) (spare : ℕ) (clock : C) (pipelining : Bool) (limit : ℕ) (stop : Option ℕ) (range_limit : ℕ)
+pub runner_begun : {C : Type 0} (work : Workload) (index : ℕ) (stated : SessionWork) (s : ScriptedMeaning C) (d : SessionMeaning C) (head : Head) (part : Part Event) (spare : ℕ) (clock : C) (pipelining beside : Bool) (limit : ℕ) (stop : Option ℕ) (range_limit : ℕ)
     → slice_get work.sessions index ≡ Some stated → IsScripted s → s ≡ record { session = d; script = stated.script; at = opened stated.script work.reruns }
-    → d.desk ≡ new_desk head part spare clock pipelining false limit stop range_limit → head ≡ head_in_work work → part ≡ newcomer (actors.Session (index + 1)) → limit ≡ work.limit → stop ≡ stated.stop → range_limit ≡ work.limit → IsRunnerIn work index s
-runner_begun {C} work index stated s d head part spare clock pipelining limit stop range_limit listed scripted is desk head_is part_is limit_is stop_is range_is =
-    let on : s.session.desk ≡ new_desk head part spare clock pipelining false limit stop range_limit = ap (λ (x : ScriptedMeaning C). x.session.desk) is ∙ desk in
+    → d.desk ≡ new_desk head part spare clock pipelining beside limit stop range_limit → head ≡ head_in_work work → part ≡ newcomer (actors.Session (index + 1)) → beside ≡ is_none work.turns → limit ≡ work.limit → stop ≡ stated.stop → range_limit ≡ work.limit → IsRunnerIn work index s
+runner_begun {C} work index stated s d head part spare clock pipelining beside limit stop range_limit listed scripted is desk head_is part_is beside_is limit_is stop_is range_is =
+    let on : s.session.desk ≡ new_desk head part spare clock pipelining beside limit stop range_limit = ap (λ (x : ScriptedMeaning C). x.session.desk) is ∙ desk in
     record {
       scripted = scripted;
       number = ap (λ (x : DeskMeaning C). session_number x.log.part.id) on ∙ ap (λ (p : Part Event). session_number p.id) part_is;
@@ -56,18 +63,19 @@ runner_begun {C} work index stated s d head part spare clock pipelining limit st
       script = sym (ap (λ (x : ScriptedMeaning C). x.script) is);
       reruns = sym (ap (λ (x : ScriptedMeaning C). x.at.reruns) is ∙ opened_reruns stated.script work.reruns);
       head = ap (λ (x : DeskMeaning C). x.log.head) on ∙ head_is;
+      beside = ap (λ (x : DeskMeaning C). x.log.beside) on ∙ beside_is;
       limit = ap (λ (x : DeskMeaning C). x.log.limit) on ∙ limit_is;
       stop = ap (λ (x : DeskMeaning C). x.log.stop) on ∙ stop_is;
       range_limit = ap (λ (x : DeskMeaning C). x.range_limit) on ∙ range_is;
     }
 
 -- where it was made
-pub runner_if : {C E : Type 0} (r : Result (ScriptedMeaning C) E) (work : Workload) (index : ℕ) (stated : SessionWork) (d : SessionMeaning C) (head : Head) (part : Part Event) (spare : ℕ) (clock : C) (pipelining : Bool) (limit : ℕ) (stop : Option ℕ) (range_limit : ℕ)
+pub runner_if : {C E : Type 0} (r : Result (ScriptedMeaning C) E) (work : Workload) (index : ℕ) (stated : SessionWork) (d : SessionMeaning C) (head : Head) (part : Part Event) (spare : ℕ) (clock : C) (pipelining beside : Bool) (limit : ℕ) (stop : Option ℕ) (range_limit : ℕ)
     → slice_get work.sessions index ≡ Some stated → IfOk r IsScripted → IfOk r (λ s. s ≡ record { session = d; script = stated.script; at = opened stated.script work.reruns })
-    → d.desk ≡ new_desk head part spare clock pipelining false limit stop range_limit → head ≡ head_in_work work → part ≡ newcomer (actors.Session (index + 1)) → limit ≡ work.limit → stop ≡ stated.stop → range_limit ≡ work.limit → IfOk r (IsRunnerIn work index)
-runner_if (Ok s) work index stated d head part spare clock pipelining limit stop range_limit listed scripted is desk head_is part_is limit_is stop_is range_is =
-    runner_begun work index stated s d head part spare clock pipelining limit stop range_limit listed scripted is desk head_is part_is limit_is stop_is range_is
-runner_if (Err e) work index stated d head part spare clock pipelining limit stop range_limit listed scripted is desk head_is part_is limit_is stop_is range_is = tt
+    → d.desk ≡ new_desk head part spare clock pipelining beside limit stop range_limit → head ≡ head_in_work work → part ≡ newcomer (actors.Session (index + 1)) → beside ≡ is_none work.turns → limit ≡ work.limit → stop ≡ stated.stop → range_limit ≡ work.limit → IfOk r (IsRunnerIn work index)
+runner_if (Ok s) work index stated d head part spare clock pipelining beside limit stop range_limit listed scripted is desk head_is part_is beside_is limit_is stop_is range_is =
+    runner_begun work index stated s d head part spare clock pipelining beside limit stop range_limit listed scripted is desk head_is part_is beside_is limit_is stop_is range_is
+runner_if (Err e) work index stated d head part spare clock pipelining beside limit stop range_limit listed scripted is desk head_is part_is beside_is limit_is stop_is range_is = tt
 
 -- its clock has the rule of its work
 pub clock_if : {C E : Type 0} (r : Result (ScriptedMeaning C) E) (rule : C → ℕ → ℕ → Bool) (given : ℕ → ℕ → Bool) (work : Workload) (index : ℕ) (stated : SessionWork) (d : SessionMeaning C) (at : Position) (clock : C)

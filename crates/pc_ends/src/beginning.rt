@@ -129,6 +129,7 @@ where
         Quiet::new(),
         work.tries,
         work.pipelining,
+        work.turns.is_none(),
         work.limit,
         stated.stop,
     );

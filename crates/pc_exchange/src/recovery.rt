@@ -4,7 +4,7 @@ ghost use Rattle.pc_desk.specs.Desk.{DeskMeaning, HasHalted};
 ghost use Rattle.pc_exchange.specs.Ending.{BreaksOff};
 ghost use Rattle.pc_exchange.specs.Exchange.{MayExchangeNow};
 ghost use Rattle.pc_exchange.specs.Growing.{IsSameActor};
-ghost use Rattle.pc_exchange.specs.Recovering.{HasRecoveredInRound, RecoversForRound, MayRecoverInRound};
+ghost use Rattle.pc_exchange.specs.Recovering.{HasRecoveredInRound, MayRecoverInRound, RecoversForRound};
 ghost use Rattle.pc_proto.specs.declared.machine.MachineNext.TheVariants as machines;
 ghost use Rattle.pc_proto.specs.declared.meta.TxnMeta.{TxnMeta};
 ghost use Rattle.pc_proto.specs.declared.view.View.{View};

@@ -28,11 +28,19 @@ use pc_wire::Wire;
 use pc_work::{Turn, Workload};
 use std::marker::Model;
 use std::sync::Wait;
+use std::thread::Threads;
 
 /// Brings the sessions and recoverers of a workload through its turns to their ends: the first session goes on by itself until its opening is
 /// over, then each turn that is stated is taken, then each session goes to the end of its script, one after another, and then each recoverer
 /// makes the rounds that are left to it.
-pub fn go_in_turns<'a, N: Named<CommitWorld>, C: Clock + Drop, V: Wire + Drop, G: Gate, R: Wait>(
+pub fn go_in_turns<
+    'a,
+    N: Named<CommitWorld> + Send + Sync,
+    C: Clock + Drop,
+    V: Wire + Drop,
+    G: Gate + Sync,
+    R: Wait + Threads + Sync,
+>(
     rt: &R,
     work: &'a Workload,
     stated: &[Turn],
@@ -81,52 +89,6 @@ impl<'a, N: Named<CommitWorld>, C: Clock, V: Wire, G> Model for InTurns<'a, N, C
 }
 
 impl<'a, N: Named<CommitWorld>, C: Clock + Drop, V: Wire + Drop, G: Gate> InTurns<'a, N, C, V, G> {
-    /// The first session goes on by itself until the opening is over.
-    fn open<R: Wait>(&mut self, rt: &R) -> Result<(), NoMemory>
-        requires { AreInTurns self.old }
-        ensures { OnOk result (HaveGoneOn C.rule (IsOpening self.old.work) self.old self.new) }
-    {
-        let items = self.work.opening as usize;
-        self.go(rt, 0, Task::Open(items))
-    }
-
-    /// Takes these turns, one after another.
-    fn take_all<R: Wait>(&mut self, rt: &R, stated: &[Turn]) -> Result<(), NoMemory>
-        requires in_turns { AreInTurns self.old }
-        requires there { All (IsTurnOf (length self.old.work.sessions) (length self.old.work.recoverers)) stated.now }
-        ensures { OnOk result (HaveGoneOn C.rule (TakeTurns self.old.work stated.now) self.old self.new) }
-    {
-        for turn in stated {
-            self.take(rt, *turn)?;
-        }
-        Ok(())
-    }
-
-    /// Takes one turn: a session's next call, its oldest job, or a recoverer's next round.
-    fn take<R: Wait>(&mut self, rt: &R, turn: Turn) -> Result<(), NoMemory>
-        requires in_turns { AreInTurns self.old }
-        requires there { IsTurnOf (length self.old.work.sessions) (length self.old.work.recoverers) turn }
-        ensures { OnOk result (HaveGoneOn C.rule (TakesTurn self.old.work turn) self.old self.new) }
-    {
-        match turn {
-            Turn::Session(number) => self.go(rt, number as usize - 1, Task::Call),
-            Turn::Job(number) => self.go(rt, number as usize - 1, Task::Job),
-            Turn::Recoverer(number) => self.recover(rt, number as usize - 1),
-        }
-    }
-
-    /// Each session, in order, goes on by itself to the end of its script.
-    fn run_out<R: Wait>(&mut self, rt: &R) -> Result<(), NoMemory>
-        requires { AreInTurns self.old }
-        ensures gone { OnOk result (HaveGoneOn C.rule (GoOut self.old.work (length self.old.work.sessions)) self.old self.new) }
-        ensures over { OnOk result (AreRunOut self.new.sessions) }
-    {
-        for index in 0..self.sessions.len() {
-            self.go(rt, index, Task::Rest)?;
-        }
-        Ok(())
-    }
-
     /// Each recoverer, in order, makes the rounds that are left to it.
     fn recover_out<R: Wait>(&mut self, rt: &R) -> Result<(), NoMemory>
         requires { AreInTurns self.old }
@@ -210,22 +172,6 @@ impl<'a, N: Named<CommitWorld>, C: Clock + Drop, V: Wire + Drop, G: Gate> InTurn
         }
     }
 
-    /// The session of this index does its task, behind all that was done before.
-    fn go<R: Wait>(&mut self, rt: &R, index: usize, task: Task) -> Result<(), NoMemory>
-        requires in_turns { AreInTurns self.old }
-        requires there { index < length self.old.sessions }
-        ensures gone { OnOk result (HaveGoneOn C.rule (IsTask self.old.work task index) self.old self.new) }
-        ensures others { OnOk result (HaveMovedAt index task self.old.sessions self.new.sessions) }
-    {
-        self.follow_last(index)?;
-        let entries = self.sessions[index].len();
-        self.act(rt, index, task)?;
-        if self.sessions[index].len() > entries {
-            self.last = index;
-        }
-        Ok(())
-    }
-
     /// The session of this index knows from now on the last entry that was made.
     fn follow_last(&mut self, index: usize) -> Result<(), NoMemory>
         requires in_turns { AreInTurns self.old }
@@ -238,66 +184,6 @@ impl<'a, N: Named<CommitWorld>, C: Clock + Drop, V: Wire + Drop, G: Gate> InTurn
         Ok(())
     }
 
-    /// The session of this index does its task.
-    fn act<R: Wait>(&mut self, rt: &R, index: usize, task: Task) -> Result<(), NoMemory>
-        requires in_turns { AreInTurns self.old }
-        requires there { index < length self.old.sessions }
-        ensures acted { OnOk result (HasActed C.rule (DoesTask task) index self.old self.new) }
-        ensures ends { OnOk result (IsAt (EndsWithTask task) index self.new) }
-    {
-        match task {
-            Task::Open(items) => self.go_until(rt, index, items),
-            Task::Call => self.call(rt, index),
-            Task::Job => self.finish_job(rt, index),
-            Task::Rest => self.go_to_end(rt, index),
-        }
-    }
-
-    /// The session of this index goes on by itself until so many items of its script are over.
-    fn go_until<R: Wait>(&mut self, rt: &R, index: usize, items: usize) -> Result<(), NoMemory>
-        requires in_turns { AreInTurns self.old }
-        requires there { index < length self.old.sessions }
-        ensures { OnOk result (HasActed C.rule (λ s. GoesUntil s (are_items_over items s.at.reruns s.script)) index self.old self.new) }
-    {
-        for _ in rt.forever() {
-            if self.sessions[index].is_opened(items) {
-                return Ok(());
-            }
-            self.go_on(rt, index)?;
-        }
-        unreachable!()
-    }
-
-    /// The session of this index goes on by itself to the end of its script.
-    fn go_to_end<R: Wait>(&mut self, rt: &R, index: usize) -> Result<(), NoMemory>
-        requires in_turns { AreInTurns self.old }
-        requires there { index < length self.old.sessions }
-        ensures acted { OnOk result (HasActed C.rule (λ s. GoesUntil s (is_script_over s.at.reruns s.script)) index self.old self.new) }
-        ensures over { OnOk result (IsAt IsRunOut index self.new) }
-    {
-        for _ in rt.forever() {
-            if self.sessions[index].is_run_out() {
-                return Ok(());
-            }
-            self.go_on(rt, index)?;
-        }
-        unreachable!()
-    }
-
-    /// What the session of this index does by itself: its oldest job where one waits, else its script's next call.
-    fn go_on<R: Wait>(&mut self, rt: &R, index: usize) -> Result<(), NoMemory>
-        requires in_turns { AreInTurns self.old }
-        requires there { index < length self.old.sessions }
-        requires going { IsAt (λ s. s.session.desk.log.stopped ≡ false) index self.old }
-        ensures { OnOk result (HasActed C.rule TakesNextAlone index self.old self.new) }
-    {
-        if self.sessions[index].has_job() {
-            self.finish_job(rt, index)
-        } else {
-            self.call(rt, index)
-        }
-    }
-
     /// The session of this index does its oldest job.
     fn finish_job<R: Wait>(&mut self, rt: &R, index: usize) -> Result<(), NoMemory>
         requires in_turns { AreInTurns self.old }
@@ -305,28 +191,6 @@ impl<'a, N: Named<CommitWorld>, C: Clock + Drop, V: Wire + Drop, G: Gate> InTurn
         ensures { OnOk result (HasActed C.rule FinishesInTurn index self.old self.new) }
     {
         self.sessions[index].finish_job(rt)
-    }
-
-    /// The session of this index asks its script's next call.
-    fn call<R: Wait>(&mut self, rt: &R, index: usize) -> Result<(), NoMemory>
-        requires in_turns { AreInTurns self.old }
-        requires there { index < length self.old.sessions }
-        ensures { OnOk result (HasActed C.rule AsksInTurn index self.old self.new) }
-    {
-        match self.sessions[index].learns() {
-            Some(id) => self.learn(index, id),
-            None => self.turn(rt, index),
-        }
-    }
-
-    /// The session of this index asks its script's next call, which is no learn.
-    fn turn<R: Wait>(&mut self, rt: &R, index: usize) -> Result<(), NoMemory>
-        requires in_turns { AreInTurns self.old }
-        requires there { index < length self.old.sessions }
-        requires other { IsAt (λ s. learnt_ahead s ≡ None) index self.old }
-        ensures { OnOk result (HasActed C.rule AsksInTurn index self.old self.new) }
-    {
-        self.sessions[index].turn(rt)
     }
 
     /// The session of this index asks its script's next call, which learns of this transaction: by a token of the session that began it, where
@@ -351,6 +215,177 @@ impl<'a, N: Named<CommitWorld>, C: Clock + Drop, V: Wire + Drop, G: Gate> InTurn
             Some(place) => self.sessions[place].token(id),
             None => Ok(None),
         }
+    }
+}
+
+impl<
+    'a,
+    N: Named<CommitWorld> + Send + Sync,
+    C: Clock + Drop,
+    V: Wire + Drop,
+    G: Gate + Sync,
+> InTurns<'a, N, C, V, G> {
+    /// The first session goes on by itself until the opening is over.
+    fn open<R: Wait + Threads + Sync>(&mut self, rt: &R) -> Result<(), NoMemory>
+        requires { AreInTurns self.old }
+        ensures { OnOk result (HaveGoneOn C.rule (IsOpening self.old.work) self.old self.new) }
+    {
+        let items = self.work.opening as usize;
+        self.go(rt, 0, Task::Open(items))
+    }
+
+    /// Takes these turns, one after another.
+    fn take_all<R: Wait + Threads + Sync>(
+        &mut self,
+        rt: &R,
+        stated: &[Turn],
+    ) -> Result<(), NoMemory>
+        requires in_turns { AreInTurns self.old }
+        requires there { All (IsTurnOf (length self.old.work.sessions) (length self.old.work.recoverers)) stated.now }
+        ensures { OnOk result (HaveGoneOn C.rule (TakeTurns self.old.work stated.now) self.old self.new) }
+    {
+        for turn in stated {
+            self.take(rt, *turn)?;
+        }
+        Ok(())
+    }
+
+    /// Takes one turn: a session's next call, its oldest job, or a recoverer's next round.
+    fn take<R: Wait + Threads + Sync>(&mut self, rt: &R, turn: Turn) -> Result<(), NoMemory>
+        requires in_turns { AreInTurns self.old }
+        requires there { IsTurnOf (length self.old.work.sessions) (length self.old.work.recoverers) turn }
+        ensures { OnOk result (HaveGoneOn C.rule (TakesTurn self.old.work turn) self.old self.new) }
+    {
+        match turn {
+            Turn::Session(number) => self.go(rt, number as usize - 1, Task::Call),
+            Turn::Job(number) => self.go(rt, number as usize - 1, Task::Job),
+            Turn::Recoverer(number) => self.recover(rt, number as usize - 1),
+        }
+    }
+
+    /// Each session, in order, goes on by itself to the end of its script.
+    fn run_out<R: Wait + Threads + Sync>(&mut self, rt: &R) -> Result<(), NoMemory>
+        requires { AreInTurns self.old }
+        ensures gone { OnOk result (HaveGoneOn C.rule (GoOut self.old.work (length self.old.work.sessions)) self.old self.new) }
+        ensures over { OnOk result (AreRunOut self.new.sessions) }
+    {
+        for index in 0..self.sessions.len() {
+            self.go(rt, index, Task::Rest)?;
+        }
+        Ok(())
+    }
+
+    /// The session of this index does its task, behind all that was done before.
+    fn go<R: Wait + Threads + Sync>(
+        &mut self,
+        rt: &R,
+        index: usize,
+        task: Task,
+    ) -> Result<(), NoMemory>
+        requires in_turns { AreInTurns self.old }
+        requires there { index < length self.old.sessions }
+        ensures gone { OnOk result (HaveGoneOn C.rule (IsTask self.old.work task index) self.old self.new) }
+        ensures others { OnOk result (HaveMovedAt index task self.old.sessions self.new.sessions) }
+    {
+        self.follow_last(index)?;
+        let entries = self.sessions[index].len();
+        self.act(rt, index, task)?;
+        if self.sessions[index].len() > entries {
+            self.last = index;
+        }
+        Ok(())
+    }
+
+    /// The session of this index does its task.
+    fn act<R: Wait + Threads + Sync>(
+        &mut self,
+        rt: &R,
+        index: usize,
+        task: Task,
+    ) -> Result<(), NoMemory>
+        requires in_turns { AreInTurns self.old }
+        requires there { index < length self.old.sessions }
+        ensures acted { OnOk result (HasActed C.rule (DoesTask task) index self.old self.new) }
+        ensures ends { OnOk result (IsAt (EndsWithTask task) index self.new) }
+    {
+        match task {
+            Task::Open(items) => self.go_until(rt, index, items),
+            Task::Call => self.call(rt, index),
+            Task::Job => self.finish_job(rt, index),
+            Task::Rest => self.go_to_end(rt, index),
+        }
+    }
+
+    /// The session of this index goes on by itself until so many items of its script are over.
+    fn go_until<R: Wait + Threads + Sync>(
+        &mut self,
+        rt: &R,
+        index: usize,
+        items: usize,
+    ) -> Result<(), NoMemory>
+        requires in_turns { AreInTurns self.old }
+        requires there { index < length self.old.sessions }
+        ensures { OnOk result (HasActed C.rule (λ s. GoesUntil s (are_items_over items s.at.reruns s.script)) index self.old self.new) }
+    {
+        for _ in rt.forever() {
+            if self.sessions[index].is_opened(items) {
+                return Ok(());
+            }
+            self.go_on(rt, index)?;
+        }
+        unreachable!()
+    }
+
+    /// The session of this index goes on by itself to the end of its script.
+    fn go_to_end<R: Wait + Threads + Sync>(&mut self, rt: &R, index: usize) -> Result<(), NoMemory>
+        requires in_turns { AreInTurns self.old }
+        requires there { index < length self.old.sessions }
+        ensures acted { OnOk result (HasActed C.rule (λ s. GoesUntil s (is_script_over s.at.reruns s.script)) index self.old self.new) }
+        ensures over { OnOk result (IsAt IsRunOut index self.new) }
+    {
+        for _ in rt.forever() {
+            if self.sessions[index].is_run_out() {
+                return Ok(());
+            }
+            self.go_on(rt, index)?;
+        }
+        unreachable!()
+    }
+
+    /// What the session of this index does by itself: its oldest job where one waits, else its script's next call.
+    fn go_on<R: Wait + Threads + Sync>(&mut self, rt: &R, index: usize) -> Result<(), NoMemory>
+        requires in_turns { AreInTurns self.old }
+        requires there { index < length self.old.sessions }
+        requires going { IsAt (λ s. s.session.desk.log.stopped ≡ false) index self.old }
+        ensures { OnOk result (HasActed C.rule TakesNextAlone index self.old self.new) }
+    {
+        if self.sessions[index].has_job() {
+            self.finish_job(rt, index)
+        } else {
+            self.call(rt, index)
+        }
+    }
+
+    /// The session of this index asks its script's next call.
+    fn call<R: Wait + Threads + Sync>(&mut self, rt: &R, index: usize) -> Result<(), NoMemory>
+        requires in_turns { AreInTurns self.old }
+        requires there { index < length self.old.sessions }
+        ensures { OnOk result (HasActed C.rule AsksInTurn index self.old self.new) }
+    {
+        match self.sessions[index].learns() {
+            Some(id) => self.learn(index, id),
+            None => self.turn(rt, index),
+        }
+    }
+
+    /// The session of this index asks its script's next call, which is no learn.
+    fn turn<R: Wait + Threads + Sync>(&mut self, rt: &R, index: usize) -> Result<(), NoMemory>
+        requires in_turns { AreInTurns self.old }
+        requires there { index < length self.old.sessions }
+        requires other { IsAt (λ s. learnt_ahead s ≡ None) index self.old }
+        ensures { OnOk result (HasActed C.rule AsksInTurn index self.old self.new) }
+    {
+        self.sessions[index].turn(rt)
     }
 }
 

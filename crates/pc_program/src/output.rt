@@ -18,6 +18,7 @@ use pc_report::{Report, print_report, report};
 use pc_runner::{run_threads, run_turns};
 use pc_work::Workload;
 use std::alloc::Global;
+use std::mem::forget;
 use std::sync::Wait;
 use std::thread::Threads;
 
@@ -36,7 +37,11 @@ where
 {
     let entries = history(rt, alloc, work, clocks, gate)?;
     let report = report(alloc, &work.splits, &entries)?;
-    print_output(alloc, work, &entries, &report)
+    let out = print_output(alloc, work, &entries, &report);
+    // The process ends behind its output: giving back the memory of each entry before would only take time.
+    forget(entries);
+    forget(report);
+    out
 }
 
 /// Runs the workload in the turns that it states, or else on threads.

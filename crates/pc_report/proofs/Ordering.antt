@@ -63,7 +63,7 @@ gives f g same (id ∷ ids) = by (f id) (g id) (same id) (gives f g same ids)
 
 module _ (splits : List (List ℕ)) (history : List (Entry Event)) (r : Replay) (is : IsReplayOf splits history r) where
   committed : (id : TxnId) → commit_kept splits r id ≡ commit_ts (over splits) history id
-  committed id = commit_means splits history r is.states is.anchors id is.told
+  committed id = commit_means splits history r is.states is.anchors id is.unstaged is.told
 
   rank-means : (id : TxnId) → option_map as-rank (placed splits r id) ≡ ranked (over splits) history id
   rank-means id = by (commit_kept splits r id) (held r.points id) (committed id) (is.points id)

@@ -2,6 +2,7 @@ pub mod Report
 pub mod Spelled
 pub mod ReportOf
 pub mod Replaying
+pub mod Seen
 pub mod Ordering
 pub mod Writing
 pub mod Rows

@@ -22,11 +22,6 @@ abbrev pub with_entry_if : {K V : Type 0} → (K → K → Ordering) → Option 
 with_entry_if cmp None sorted = sorted
 with_entry_if cmp (Some e) sorted = insert_entry cmp sorted e.0 e.1
 
--- What a begun transaction gives, if one was begun.
-abbrev pub given : {A : Type 0} → (TxnId → Option A) → Option TxnId → Option A
-given f None = None
-given f (Some id) = f id
-
 -- By timestamp, then by commit point.
 abbrev pub place_cmp : Rank → Rank → Ordering
 place_cmp one other = ordering_then (nat_cmp one.ts other.ts) (nat_cmp one.point other.point)
@@ -45,14 +40,22 @@ rank_in splits r id = rank_from (commit_kept splits r id) (held r.points id)
 abbrev pub placed : List (List ℕ) → Replay → TxnId → Option (Rank × TxnId)
 placed splits r id = option_map (λ (rank : Rank). (rank, id)) (rank_in splits r id)
 
+-- Of these transactions the committed ones in their order, by what was kept.
+abbrev pub order_among : List (List ℕ) → Replay → List TxnId → List (Rank × TxnId)
+order_among splits r ids = in_order place_cmp (filter_map (placed splits r) ids)
+
 -- The committed transactions in their order, by what was kept.
 abbrev pub order_in : List (List ℕ) → Replay → List (Entry Event) → List (Rank × TxnId)
-order_in splits r history = in_order place_cmp (filter_map (placed splits r) (all_begun history))
+order_in splits r history = order_among splits r (all_begun history)
 
 -- A transaction that is not committed, with its ending, by what was kept.
 abbrev pub other_in : List (List ℕ) → Replay → TxnId → Option (TxnId × Ending)
 other_in splits r id = other_unless (commit_kept splits r id) id (ending_in splits r id)
 
+-- Of these transactions those that are not committed, by what was kept.
+abbrev pub others_among : List (List ℕ) → Replay → List TxnId → List (TxnId × Ending)
+others_among splits r ids = in_order txn_cmp (filter_map (other_in splits r) ids)
+
 -- The transactions that are not committed, by what was kept.
 abbrev pub others_in : List (List ℕ) → Replay → List (Entry Event) → List (TxnId × Ending)
-others_in splits r history = in_order txn_cmp (filter_map (other_in splits r) (all_begun history))
+others_in splits r history = others_among splits r (all_begun history)

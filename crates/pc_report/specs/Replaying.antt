@@ -1,5 +1,5 @@
 -- What is kept of a history while it is replayed, entry by entry.
-use Rattle.std.specs.Prelude.{◌≡◌, ℕ, ◌+◌, ◌≤◌, Bool, false, if◌then◌else◌, Option, None, Some, List, [], ◌++◌, find, is_some, length, slice_get, slice_set, unwrap_or, ⊤}
+use Rattle.std.specs.Prelude.{◌≡◌, ℕ, ◌+◌, ◌≤◌, Bool, true, false, if◌then◌else◌, Option, None, Some, List, [], ◌++◌, find, is_some, length, slice_get, slice_set, unwrap_or, ⊤}
 use Rattle.std.specs.BTreeMap.{BTreeMap, get}
 use Rattle.std.specs.List.{list_all}
 use Rattle.pc_base.specs.declared.actor.ActorId.{ActorId}
@@ -21,6 +21,7 @@ use Rattle.pc_report.specs.declared.replay.Replay.{Replay}
 use Rattle.pc_report.specs.declared.rows.Ending.{Ending}
 use Rattle.pc_report.specs.declared.rows.Ending.TheVariants as endings
 use Rattle.pc_report.specs.ReportOf.{ending_at, rolled_back, told_ending}
+use Rattle.pc_report.specs.Seen.{HasNoStage, seen}
 use Rattle.pc_world.specs.After.{state_at}
 use Rattle.pc_world.specs.Committed.{anchor_in, commit_by, commit_ts, point_after, told_at}
 use Rattle.pc_world.specs.Evaluation.{state_after}
@@ -137,10 +138,14 @@ pub record AreBlank (splits : ℕ) (states : List RangeState) : Type 0 where
 abbrev pub over : List (List ℕ) → Head
 over splits = record { splits = splits; sessions = 0; recoverers = 0 }
 
--- The states are those of the ranges after the history.
-pub record AreStates (splits : List (List ℕ)) (history : List (Entry Event)) (states : List RangeState) : Type 0 where
+-- The states are what is kept of the ranges after the history.
+pub record AreSeen (whole : Bool) (splits : List (List ℕ)) (history : List (Entry Event)) (states : List RangeState) : Type 0 where
   pub count : length states ≡ length splits + 1
-  pub each : (range : ℕ) → range ≤ length splits → slice_get states range ≡ Some (state_at (over splits) range history)
+  pub each : (range : ℕ) → range ≤ length splits → slice_get states range ≡ Some (seen whole (state_at (over splits) range history))
+
+-- The states are those of the ranges after the history.
+abbrev pub AreStates : List (List ℕ) → List (Entry Event) → List RangeState → Type 0
+AreStates splits history states = AreSeen true splits history states
 
 -- The transaction is not committed after any beginning of the history, or it first was after so many entries.
 abbrev pub IsPoint : Head → List (Entry Event) → TxnId → Option ℕ → Type 0
@@ -150,7 +155,8 @@ IsPoint head history id (Some point) = (later : List (Entry Event)) → point_af
 
 -- What was kept is that of the history.
 pub record IsReplayOf (splits : List (List ℕ)) (history : List (Entry Event)) (r : Replay) : Type 0 where
-  pub states : AreStates splits history r.states.items
+  pub states : AreSeen r.whole splits history r.states.items
+  pub unstaged : r.whole ≡ false → (range : ℕ) → HasNoStage (state_at (over splits) range history)
   pub anchors : Holds r.anchors (λ id. anchor_in id history)
   pub told : Holds r.told (λ id. told_at id history)
   pub rolled_back : Holds r.rolled_back (λ id. rolled_back id history)

@@ -1,11 +1,12 @@
-ghost use Rattle.std.specs.Prelude.{◌≡◌, ℕ, ◌+◌, ◌^◌, ◌<◌, [], IfOk, OnOk, fold, length, map};
+ghost use Rattle.std.specs.Prelude.{◌≡◌, ℕ, ◌+◌, ◌++◌, ◌^◌, ◌<◌, [], IfOk, OnOk, fold, length, map};
 ghost use Rattle.std.specs.Cmp.Lexicographic.{slice_cmp};
+ghost use Rattle.std.specs.List.{cons_option};
 ghost use Rattle.std.specs.Ordering.{nat_cmp};
 ghost use Rattle.pc_base.specs.Keyed.{in_order};
-ghost use Rattle.pc_report.specs.Ordering.{given, order_in, other_in, others_in, placed};
+ghost use Rattle.pc_report.specs.Ordering.{order_among, other_in, others_among, placed};
 ghost use Rattle.pc_report.specs.ReportOf.{IsRunOver, other_row, report_of};
 ghost use Rattle.pc_report.specs.Rows.{commit_row, map_with_puts};
-ghost use Rattle.pc_world.specs.CommitOrder.{begun_in};
+ghost use Rattle.pc_world.specs.CommitOrder.{all_begun, begun_in};
 ghost use Rattle.pc_world.specs.Local.{Head};
 
 use crate::replay::{Rank, Replay, replayed};
@@ -26,9 +27,10 @@ pub fn report(alloc: Global, splits: &Keys, entries: &[Entry<Event>]) -> Result<
 {
     let replay = replayed(alloc, splits, entries)?;
     let writes = written(alloc, entries)?;
-    let order = commit_order(alloc, splits, entries, &replay)?;
+    let begun = all_begun(alloc, entries)?;
+    let order = commit_order(alloc, splits, &begun, &replay)?;
     let committed = committed_rows(alloc, &order, &writes)?;
-    let others = other_rows(alloc, splits, entries, &replay)?;
+    let others = other_rows(alloc, splits, &begun, &replay)?;
     let map = map_rows(alloc, &order, &writes)?;
     Ok(Report {
         committed,
@@ -37,41 +39,51 @@ pub fn report(alloc: Global, splits: &Keys, entries: &[Entry<Event>]) -> Result<
     })
 }
 
-/// The committed transactions, by timestamp and then by commit point.
+/// The transactions that were begun, in the order of their begins.
+fn all_begun(alloc: Global, entries: &[Entry<Event>]) -> Result<Vec<TxnId>, NoMemory>
+    ensures { IfOk result (λ begun. begun.items ≡ all_begun entries.now) }
+{
+    let mut ids = Vec::new(alloc);
+    for entry in entries {
+        add_begun(&mut ids, &entry.event)?;
+    }
+    Ok(ids)
+}
+
+/// Adds the transaction that the event tells begun, if it tells one.
+fn add_begun(ids: &mut Vec<TxnId>, event: &Event) -> Result<(), NoMemory>
+    ensures { OnOk result (ids.new.items ≡ ids.old.items ++ cons_option (begun_in event.now) []) }
+{
+    if let Event::Tell(Answer::Begun { id, .. }) = event {
+        ids.push(*id)?;
+    }
+    Ok(())
+}
+
+/// Of these transactions the committed ones, by timestamp and then by commit point.
 fn commit_order(
     alloc: Global,
     splits: &Keys,
-    entries: &[Entry<Event>],
+    begun: &[TxnId],
     replay: &Replay,
 ) -> Result<Vec<(Rank, TxnId)>, NoMemory>
     requires { length splits.now + 1 < 2 ^ 32 }
-    ensures { IfOk result (λ order. order.items ≡ order_in splits.now replay.now entries.now) }
+    ensures { IfOk result (λ order. order.items ≡ order_among splits.now replay.now begun.now) }
 {
     let mut order = BTreeMap::new(alloc);
-    for entry in entries {
-        insert(&mut order, placed(splits, replay, &entry.event))?;
+    for id in begun {
+        insert(&mut order, placed(splits, replay, id))?;
     }
     Ok(order.into_iter().collect(alloc)?)
 }
 
-/// The transaction that was begun, with its place in the order, if it is committed.
-fn placed(splits: &Keys, replay: &Replay, event: &Event) -> Option<(Rank, TxnId)>
+/// The transaction with its place in the order, if it is committed.
+fn placed(splits: &Keys, replay: &Replay, id: &TxnId) -> Option<(Rank, TxnId)>
     requires { length splits.now + 1 < 2 ^ 32 }
-    ensures { result ≡ given (placed splits.now replay.now) (begun_in event.now) }
+    ensures { result ≡ placed splits.now replay.now id.now }
 {
-    let id = begun(event)?;
-    let rank = replay.rank(splits, id)?;
-    Some((rank, id))
-}
-
-/// The transaction that the event tells begun.
-fn begun(event: &Event) -> Option<TxnId>
-    ensures { result ≡ begun_in event.now }
-{
-    match event {
-        Event::Tell(Answer::Begun { id, .. }) => Some(*id),
-        _ => None,
-    }
+    let rank = replay.rank(splits, *id)?;
+    Some((rank, *id))
 }
 
 fn committed_rows(
@@ -95,46 +107,44 @@ fn committed_rows(
 fn other_rows(
     alloc: Global,
     splits: &Keys,
-    entries: &[Entry<Event>],
+    begun: &[TxnId],
     replay: &Replay,
 ) -> Result<OtherRows, NoMemory>
     requires { length splits.now + 1 < 2 ^ 32 }
-    ensures { IfOk result (λ rows. rows ≡ map other_row (others_in splits.now replay.now entries.now)) }
+    ensures { IfOk result (λ rows. rows ≡ map other_row (others_among splits.now replay.now begun.now)) }
 {
     let mut rows = Items::new(alloc);
-    for (id, ending) in others(alloc, splits, entries, replay)? {
+    for (id, ending) in others(alloc, splits, begun, replay)? {
         rows.add(OtherRow { id, ending })?;
     }
     Ok(rows)
 }
 
-/// The transactions that are not committed, by session and number.
+/// Of these transactions those that are not committed, by session and number.
 fn others(
     alloc: Global,
     splits: &Keys,
-    entries: &[Entry<Event>],
+    begun: &[TxnId],
     replay: &Replay,
 ) -> Result<BTreeMap<TxnId, Ending>, NoMemory>
     requires { length splits.now + 1 < 2 ^ 32 }
-    ensures { IfOk result (λ others. others.entries ≡ others_in splits.now replay.now entries.now) }
+    ensures { IfOk result (λ others. others.entries ≡ others_among splits.now replay.now begun.now) }
 {
     let mut others = BTreeMap::new(alloc);
-    for entry in entries {
-        insert(&mut others, other(splits, replay, &entry.event)?)?;
+    for id in begun {
+        insert(&mut others, other(splits, replay, id)?)?;
     }
     Ok(others)
 }
 
-/// The transaction that was begun, with its ending, unless it is committed.
-fn other(splits: &Keys, replay: &Replay, event: &Event) -> Result<Option<(TxnId, Ending)>, NoMemory>
+/// The transaction with its ending, unless it is committed.
+fn other(splits: &Keys, replay: &Replay, id: &TxnId) -> Result<Option<(TxnId, Ending)>, NoMemory>
     requires { length splits.now + 1 < 2 ^ 32 }
-    ensures { IfOk result (λ other. other ≡ given (other_in splits.now replay.now) (begun_in event.now)) }
+    ensures { IfOk result (λ other. other ≡ other_in splits.now replay.now id.now) }
 {
-    match begun(event) {
-        Some(id) if replay.commit(splits, id).is_none() => {
-            Ok(Some((id, replay.ending(splits, id)?)))
-        }
-        _ => Ok(None),
+    match replay.commit(splits, *id) {
+        Some(_) => Ok(None),
+        None => Ok(Some((*id, replay.ending(splits, *id)?))),
     }
 }
 

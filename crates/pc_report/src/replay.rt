@@ -1,19 +1,21 @@
 //! Replays a history once: what its ranges become, and when each transaction is committed.
 
-ghost use Rattle.std.specs.Prelude.{◌≡◌, ◌+◌, ◌^◌, ◌<◌, ◌++◌, ◌∷◌, [], IfOk, OnOk, length, slice_get};
-ghost use Rattle.std.specs.List.{list_all};
+ghost use Rattle.std.specs.Prelude.{◌≡◌, ◌+◌, ◌^◌, ◌<◌, ◌++◌, ◌∷◌, [], false, is_some, IfOk, OnOk, length, slice_get};
+ghost use Rattle.std.specs.List.{list_all, list_any};
 ghost use Rattle.std.specs.Option.{option_copied};
+ghost use Rattle.pc_proto.specs.Requests.{subject};
 ghost use Rattle.pc_proto.specs.Table.{place_of};
 ghost use Rattle.pc_report.specs.Ordering.{rank_in};
 ghost use Rattle.pc_report.specs.ReportOf.{IsRunOver, ending_at, ending_by, rolled_back_in, told_ending};
 ghost use Rattle.pc_report.specs.Replaying.{AreBlank, HasRoomAt, HasRoomFor, IsReplayOf, Notes, after_eval, commit_kept, states_after, asked_in, commit_of_place, committed_one, ending_in, is_present_in, touched, touched_by_send, touched_in};
+ghost use Rattle.pc_report.specs.Seen.{SendsNoStage, kept_of, is_stage, sends_a_stage};
 ghost use Rattle.pc_sent.specs.Sending.{AreSendsOf};
 ghost use Rattle.pc_world.specs.Committed.{commit_by, committed_in, key_sent};
 ghost use Rattle.pc_world.specs.Named.{request_in};
 ghost use Rattle.pc_world.specs.RangeOf.{range_of};
 
 use crate::rows::Ending;
-use crate::tables::keep_first;
+use crate::tables::{keep_first, keep_first_copy};
 use pc_base::{ActorId, Entry, Key, NoMemory, Timestamp, TryCopy, TxnId};
 use pc_eval::RangeState;
 use pc_proto::{Answer, Event, Keys, Record, Request, Standing, Status, Why};
@@ -32,6 +34,8 @@ pub(crate) struct Rank {
 /// What the entries so far come to.
 #[derive(Drop)]
 pub(crate) struct Replay {
+    /// Whether all of each range is kept, or its records and marks alone.
+    whole: bool,
     /// The ranges, in key order.
     states: Vec<RangeState>,
     /// The key of each transaction's first put.
@@ -54,7 +58,8 @@ pub(crate) fn replayed(
     requires run { IsRunOver splits.now entries.now }
     ensures { IfOk result (IsReplayOf splits.now entries.now) }
 {
-    let mut replay = Replay::new(alloc, splits)?;
+    let whole = any_sends_a_stage(entries);
+    let mut replay = Replay::new(alloc, splits, whole)?;
     let mut sent = Sent::new(alloc);
     for (done, entry) in entries.iter().enumerate() {
         let (before, _) = entries.split_at(done);
@@ -65,11 +70,13 @@ pub(crate) fn replayed(
 }
 
 impl Replay {
-    fn new(alloc: Global, splits: &Keys) -> Result<Replay, NoMemory>
+    fn new(alloc: Global, splits: &Keys, whole: bool) -> Result<Replay, NoMemory>
         requires { length splits.now + 1 < 2 ^ 32 }
-        ensures { IfOk result (IsReplayOf splits.now []) }
+        ensures replay { IfOk result (IsReplayOf splits.now []) }
+        ensures whole { IfOk result (λ r. r.whole ≡ whole) }
     {
         Ok(Replay {
+            whole,
             states: blank_ranges(alloc, splits.len())?,
             anchors: BTreeMap::new(alloc),
             told: BTreeMap::new(alloc),
@@ -89,16 +96,19 @@ impl Replay {
         requires few { length splits.now + 1 < 2 ^ 32 }
         requires sent { AreSendsOf before.now sent.now }
         requires so_far { IsReplayOf splits.now before.now self.old }
+        requires unstaged { self.old.whole ≡ false → SendsNoStage before.now }
         requires run { IsRunOver splits.now (before.now ++ entry.now ∷ []) }
-        ensures { OnOk result (IsReplayOf splits.now (before.now ++ entry.now ∷ []) self.new) }
+        ensures replay { OnOk result (IsReplayOf splits.now (before.now ++ entry.now ∷ []) self.new) }
+        ensures whole { OnOk result (self.new.whole ≡ self.old.whole) }
     {
         let length = before.len() as u64 + 1;
         note_anchor(&mut self.anchors, &entry.event)?;
         note_told(&mut self.told, &entry.event)?;
         note_rolled_back(&mut self.rolled_back, &entry.event)?;
         let asked = asked(sent, before, &entry.event);
-        evaluate(&mut self.states, entry.actor, asked)?;
-        let Some(id) = self.committed_of(splits, touched_in(asked, &entry.event)) else {
+        let kept = kept_of(self.whole, asked);
+        evaluate(&mut self.states, entry.actor, kept)?;
+        let Some(id) = self.committed_of(splits, touched_in(kept, &entry.event)) else {
             return Ok(());
         };
         keep_first(&mut self.points, id, length)?;
@@ -154,6 +164,62 @@ impl Replay {
     }
 }
 
+/// Whether an entry sends a stage.
+fn any_sends_a_stage(entries: &[Entry<Event>]) -> bool
+    ensures { result ≡ list_any (λ e. sends_a_stage e.event) entries.now }
+{
+    entries.iter().any(|entry| sends_a_stage(&entry.event))
+}
+
+fn sends_a_stage(event: &Event) -> bool
+    ensures { result ≡ sends_a_stage event.now }
+{
+    match event {
+        Event::Send { request, .. } => is_stage(request),
+        _ => false,
+    }
+}
+
+fn is_stage(request: &Request) -> bool
+    ensures { result ≡ is_stage request.now }
+{
+    matches!(request, Request::Stage { .. })
+}
+
+/// The request, unless it changes nothing that is kept.
+fn kept_of(whole: bool, asked: Option<&Request>) -> Option<&Request>
+    ensures { option_copied result ≡ kept_of whole (option_copied asked.entry) }
+{
+    let request = asked?;
+    if whole || is_of_record(request) {
+        Some(request)
+    } else {
+        None
+    }
+}
+
+/// Whether the request speaks of a transaction's record.
+fn is_of_record(request: &Request) -> bool
+    ensures { result ≡ is_some (subject request.now) }
+{
+    match request {
+        Request::Beat { .. }
+        | Request::Stage { .. }
+        | Request::Commit { .. }
+        | Request::Abort { .. }
+        | Request::Push { .. }
+        | Request::Recover { .. }
+        | Request::Remove { .. } => true,
+        Request::Get { .. }
+        | Request::Scan { .. }
+        | Request::Put { .. }
+        | Request::Refresh { .. }
+        | Request::Query { .. }
+        | Request::Resolve { .. }
+        | Request::Records => false,
+    }
+}
+
 /// Ranges on which nothing has happened, one more than there are splits.
 fn blank_ranges(alloc: Global, splits: usize) -> Result<Vec<RangeState>, NoMemory>
     requires { splits + 1 < 2 ^ 32 }
@@ -182,7 +248,7 @@ fn note_anchor(table: &mut BTreeMap<TxnId, Key>, event: &Event) -> Result<(), No
         ..
     } = event
     {
-        keep_first(table, meta.id, key.copy()?)?;
+        keep_first_copy(table, meta.id, key)?;
     }
     Ok(())
 }
@@ -200,7 +266,7 @@ fn note_rolled_back(table: &mut BTreeMap<TxnId, Why>, event: &Event) -> Result<(
     ensures { OnOk result (Notes rolled_back_in table.old event.now table.new) }
 {
     if let Event::Tell(Answer::RolledBack { id, why }) = event {
-        keep_first(table, *id, why.copy()?)?;
+        keep_first_copy(table, *id, why)?;
     }
     Ok(())
 }

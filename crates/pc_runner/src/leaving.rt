@@ -22,7 +22,13 @@ use std::sync::Wait;
 use std::thread::Threads;
 
 /// The workload's sessions and recoverers go from their beginnings through these turns to their ends, and finish.
-pub(crate) fn leave_turns<'a, N: Named<CommitWorld>, M: Clocks, G: Gate, R: Wait>(
+pub(crate) fn leave_turns<
+    'a,
+    N: Named<CommitWorld> + Send + Sync,
+    M: Clocks,
+    G: Gate + Sync,
+    R: Wait + Threads + Sync,
+>(
     rt: &R,
     alloc: Global,
     work: &'a Workload,

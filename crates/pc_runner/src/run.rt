@@ -24,9 +24,11 @@ use std::thread::Threads;
 /// What every run keeps, this one keeps: the laws `decisions_do_not_differ` and `outcomes_are_true` of `pc_implicit`, `commits_are_ordered`,
 /// `histories_are_legal` and `one_session_runs_plainly` of `pc_serial`.
 ///
+/// It starts no thread: the messages of a wave are evaluated one after another, in the order of their numbers (`HearsInOrder` of `pc_follows`).
+///
 /// A workload that was read is of the form that is required. Readings are in nanoseconds; a session or recoverer that states no clock reads
 /// the one that is handed in for it. An entry's step is its place in the list. `NoMemory` comes where memory runs out, or a number of 64 bits.
-pub fn run_turns<M: Clocks, G: Gate, R: Wait>(
+pub fn run_turns<M: Clocks, G: Gate + Sync, R: Wait + Threads + Sync>(
     rt: &R,
     alloc: Global,
     work: &Workload,
@@ -72,7 +74,12 @@ where
 }
 
 /// Runs the workload in these turns, on the table of this name.
-fn turns_on<N: Named<CommitWorld>, M: Clocks, G: Gate, R: Wait>(
+fn turns_on<
+    N: Named<CommitWorld> + Send + Sync,
+    M: Clocks,
+    G: Gate + Sync,
+    R: Wait + Threads + Sync,
+>(
     rt: &R,
     alloc: Global,
     blank: Blank<CommitWorld>,

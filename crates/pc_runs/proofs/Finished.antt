@@ -8,8 +8,8 @@ use Rattle.pc_closing.proofs.Leaving.{full_range_may_leave, heard_may_leave, own
 use Rattle.pc_closing.specs.Leaving.{AreLeavers, IsLeaver, Leaver, MayLeave}
 use Rattle.pc_desk.specs.Desk.{DeskMeaning, GivesOnce, IsReadyToGo, WaitingMessage}
 use Rattle.pc_desk.specs.Ending.{EndsEarly}
-use Rattle.pc_desk.specs.Keeping.{EachAfter, KeepsEach, ReadsEach}
-use Rattle.pc_desk.specs.Waves.{KeepsWavesEach, KeepsWavesNext}
+use Rattle.pc_desk.specs.Keeping.{KeepsEach, ReadsEach}
+use Rattle.pc_desk.specs.Waves.{KeepsWavesEach}
 use Rattle.pc_exchange.proofs.Called.{all_heard_ever}
 use Rattle.pc_history.specs.declared.pair.Pair.{Pair}
 use Rattle.pc_history.specs.declared.view.Part.{Part}
@@ -24,11 +24,6 @@ use Rattle.pc_turns.specs.Shares.{client_at}
 use Rattle.pc_work.specs.declared.session.SessionWork.{SessionWork}
 use Rattle.pc_work.specs.declared.workload.Workload.{Workload}
 use Rattle.pc_world.specs.Local.{Head}
-
--- what is evaluated in order keeps its waves, also where it might not have been
-waves-on : (beside : Bool) (before own : List (Pair Event)) → EachAfter (λ b (p : Pair Event). KeepsWavesNext false b p.entry.event p.named) before own → EachAfter (λ b (p : Pair Event). KeepsWavesNext beside b p.entry.event p.named) before own
-waves-on beside before [] each = tt
-waves-on beside before (p ∷ own) each = (record { whole = each.0.whole; order = λ one. each.0.order refl }, waves-on beside (before ++ p ∷ []) own each.1)
 
 pub there : {X : Type 0} (xs : List X) (i : ℕ) → i < length xs → (x : X) × (slice_get xs i ≡ Some x)
 there [] i lt = absurd (omega arith)
@@ -119,7 +114,7 @@ module _ {C : Type 0} (work : Workload) (rule : C → ℕ → ℕ → Bool) (c :
           keeps = subst (λ b. KeepsEach (actors.Session (index + 1)) work.splits b (own_list s)) (r.scripted.unpiped ∙ sym unpiped)
               (subst (λ (h : Head). KeepsEach (actors.Session (index + 1)) h.splits s.session.desk.log.pipelining (own_list s)) r.head
               (subst (λ (i : ActorId). KeepsEach i s.session.desk.log.head.splits s.session.desk.log.pipelining (own_list s)) (r.scripted.id ∙ ap actors.Session r.number) f.log.keeps));
-          waves = waves-on (is_none work.turns) [] (own_list s) (subst (λ b. KeepsWavesEach b (own_list s)) r.scripted.one_by_one f.log.waves);
+          waves = subst (λ b. KeepsWavesEach b (own_list s)) r.beside f.log.waves;
           within = subst (λ n. length (own_list s) ≤ n) r.limit r.scripted.within;
           no_later = f.log.at_stop;
         };

@@ -80,7 +80,6 @@ module _ {C : Type 0} (old : ScriptedMeaning C) (new : SessionMeaning C) (at : P
         (subst (All (λ p. p.entry.actor ≡ actors.Session (own_number old))) (sym called.grown.own)
         (All-append (λ (p : Pair Event). p.entry.actor ≡ actors.Session (own_number old)) (own_list old) called.part scripted.whose whole-call.whose));
     unpiped = log-is (λ l. l.pipelining ≡ false) scripted.unpiped;
-    one_by_one = log-is (λ l. l.beside ≡ false) scripted.one_by_one;
     within = called.rest.track.log.within;
     given = called.rest.track.given;
     asks = subst (λ n. AskInOrder n old.script new.desk.log.part.own) (sym same-reruns)
@@ -112,6 +111,7 @@ module _ {C : Type 0} (old : ScriptedMeaning C) (new : SessionMeaning C) (at : P
         reruns = same-reruns;
         head = log-is (λ l. l.head ≡ old.session.desk.log.head) refl;
         limit = limit-then;
+        beside = log-is (λ l. l.beside ≡ old.session.desk.log.beside) refl;
         stop = log-is (λ l. l.stop ≡ old.session.desk.log.stop) refl;
         range_limit = called.limit;
       };

@@ -45,7 +45,6 @@ begun_scripted session script at reruns rest none going start =
       id = rest.one.whose ∙ ap actors.Session (sym (ap session_number rest.one.whose));
       whose = subst (All (λ (p : Pair Event). p.entry.actor ≡ actors.Session (session_number id))) (sym none) (All-nil (λ (p : Pair Event). p.entry.actor ≡ actors.Session (session_number id)));
       unpiped = rest.one.unpiped;
-      one_by_one = rest.one.one_by_one;
       within = rest.track.log.within;
       given = rest.track.given;
       asks = subst (AskInOrder at.reruns script) (sym none) tt;
@@ -98,7 +97,6 @@ followed_scripted {C} old new note is rests scripted =
       id = scripted.id;
       whose = scripted.whose;
       unpiped = scripted.unpiped;
-      one_by_one = scripted.one_by_one;
       within = scripted.within;
       given = record { each = scripted.given.each; once = scripted.given.once };
       asks = scripted.asks;

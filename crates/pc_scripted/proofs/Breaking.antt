@@ -101,7 +101,6 @@ module _ {C : Type 0} (Are : List Event → Type 0) (old : ScriptedMeaning C) (n
         (subst (All (λ p. p.entry.actor ≡ actors.Session (own_number old))) (sym b.own)
         (All-append (λ (p : Pair Event). p.entry.actor ≡ actors.Session (own_number old)) (own_list old) b.part scripted.whose whose-part));
     unpiped = log-is (λ l. l.pipelining ≡ false) scripted.unpiped;
-    one_by_one = log-is (λ l. l.beside ≡ false) scripted.one_by_one;
     within = b.within;
     given = b.given;
     asks = subst (AskInOrder old.at.reruns old.script) (sym b.own) orders;
@@ -117,6 +116,7 @@ module _ {C : Type 0} (Are : List Event → Type 0) (old : ScriptedMeaning C) (n
       script = refl;
       reruns = refl;
       head = log-is (λ l. l.head ≡ old.session.desk.log.head) refl;
+      beside = log-is (λ l. l.beside ≡ old.session.desk.log.beside) refl;
       limit = limit-then;
       stop = stop-then;
       range_limit = b.limit;

@@ -71,7 +71,6 @@ module _ {C : Type 0} (old : ScriptedMeaning C) (new : SessionMeaning C) (script
         (subst (All (λ p. p.entry.actor ≡ actors.Session (own_number old))) (sym step.grown.own)
         (All-append (λ (p : Pair Event). p.entry.actor ≡ actors.Session (own_number old)) (own_list old) step.part scripted.whose whole-job.whose));
     unpiped = log-is (λ l. l.pipelining ≡ false) scripted.unpiped;
-    one_by_one = log-is (λ l. l.beside ≡ false) scripted.one_by_one;
     within = step.rest.track.log.within;
     given = step.rest.track.given;
     asks = subst (AskInOrder old.at.reruns old.script) (sym step.grown.own) (order_between old.at.reruns old.script (own_list old) step.part scripted.asks step.whole.within);
@@ -97,6 +96,7 @@ module _ {C : Type 0} (old : ScriptedMeaning C) (new : SessionMeaning C) (script
         reruns = refl;
         head = log-is (λ l. l.head ≡ old.session.desk.log.head) refl;
         limit = limit-then;
+        beside = log-is (λ l. l.beside ≡ old.session.desk.log.beside) refl;
         stop = log-is (λ l. l.stop ≡ old.session.desk.log.stop) refl;
         range_limit = step.limit;
       };

@@ -51,7 +51,6 @@ pub record IsScripted {C : Type 0} (s : ScriptedMeaning C) : Type 0 where
   pub id : s.session.desk.log.part.id ≡ actors.Session (own_number s)
   pub whose : All (λ p. p.entry.actor ≡ actors.Session (own_number s)) (own_list s)
   pub unpiped : s.session.desk.log.pipelining ≡ false
-  pub one_by_one : s.session.desk.log.beside ≡ false
   pub within : length (own_list s) ≤ s.session.desk.log.limit
   pub given : GivesOnce s.session.desk.log.part
   pub asks : AskInOrder s.at.reruns s.script (own_list s)

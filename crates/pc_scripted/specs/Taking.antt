@@ -19,12 +19,13 @@ use Rattle.pc_work.specs.declared.workload.Workload.{Workload}
 use Rattle.pc_follows.specs.FinishingJobs.{jobs_of}
 use Rattle.pc_world.specs.Known.Traffic.{Sent}
 
--- The session, its script, its limits and its stop are the same.
+-- The session, its script, its way of evaluating a wave, its limits and its stop are the same.
 pub record IsSameScripted {C : Type 0} (old new : ScriptedMeaning C) : Type 0 where
   pub number : own_number new ≡ own_number old
   pub script : new.script ≡ old.script
   pub reruns : new.at.reruns ≡ old.at.reruns
   pub head : new.session.desk.log.head ≡ old.session.desk.log.head
+  pub beside : new.session.desk.log.beside ≡ old.session.desk.log.beside
   pub limit : new.session.desk.log.limit ≡ old.session.desk.log.limit
   pub stop : new.session.desk.log.stop ≡ old.session.desk.log.stop
   pub range_limit : new.session.desk.range_limit ≡ old.session.desk.range_limit

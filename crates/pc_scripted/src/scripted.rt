@@ -30,6 +30,7 @@ use pc_work::Script;
 use std::alloc::Global;
 use std::marker::Model;
 use std::sync::Wait;
+use std::thread::Threads;
 
 /// One session with its script. It asks the script's calls in order, some of them again where they were refused, and does its jobs.
 ///
@@ -135,40 +136,11 @@ impl<'a, N: Named<CommitWorld>, C: Clock + Drop, V: Wire + Drop, G: Gate> Script
         }
     }
 
-    /// Asks the script's next call, and is told its answer; nothing where the script is over or the list has ended.
-    pub fn turn<R: Wait>(&mut self, rt: &R) -> Result<(), NoMemory>
-        requires { IsScripted self.old }
-        ensures ok { OnOk result (HasMoved (AsksInTurn self.old) self.old self.new) }
-        ensures rule { C.rule self.new.session.desk.log.clock ≡ C.rule self.old.session.desk.log.clock }
-    {
-        if self.has_stopped() {
-            return Ok(());
-        }
-        match self.next()? {
-            Some(call) => self.call(rt, call),
-            None => Ok(()),
-        }
-    }
-
     /// The call that comes next. None at the script's end.
     fn next(&self) -> Result<Option<Call>, NoMemory>
         ensures { IfOk result (λ call. call ≡ next_call self.now.at) }
     {
         self.run.next()
-    }
-
-    /// Asks the call, which comes next, and is told its answer.
-    fn call<R: Wait>(&mut self, rt: &R, call: Call) -> Result<(), NoMemory>
-        requires scripted { IsScripted self.old }
-        requires going { self.old.session.desk.log.stopped ≡ false }
-        requires next { next_call self.old.at ≡ Some call }
-        ensures ok { OnOk result (HasMoved (AsksInTurn self.old) self.old self.new) }
-        ensures rule { C.rule self.new.session.desk.log.clock ≡ C.rule self.old.session.desk.log.clock }
-    {
-        match self.session.call(rt, call) {
-            Ok(answer) => go_on_by(&mut self.run, answer),
-            Err(halt) => unless_memory(halt),
-        }
     }
 
     /// Does its oldest job; nothing where none waits or the list has ended.
@@ -224,51 +196,6 @@ impl<'a, N: Named<CommitWorld>, C: Clock + Drop, V: Wire + Drop, G: Gate> Script
         self.run.is_over()
     }
 
-    /// What it does by itself: its oldest job where one waits, else its script's next call.
-    fn go_on<R: Wait>(&mut self, rt: &R) -> Result<(), NoMemory>
-        requires scripted { IsScripted self.old }
-        requires going { self.old.session.desk.log.stopped ≡ false }
-        ensures ok { OnOk result (HasMoved (TakesNextAlone self.old) self.old self.new) }
-        ensures rule { C.rule self.new.session.desk.log.clock ≡ C.rule self.old.session.desk.log.clock }
-    {
-        if self.has_job() {
-            self.finish_job(rt)
-        } else {
-            self.turn(rt)
-        }
-    }
-
-    /// Goes on by itself until so many items of its script are over, or all of it, and no job waits; or until its list has ended.
-    pub fn open<R: Wait>(&mut self, rt: &R, items: usize) -> Result<(), NoMemory>
-        requires { IsScripted self.old }
-        ensures ok { OnOk result (HasMoved (GoesUntil self.old (are_items_over items self.old.at.reruns self.old.script)) self.old self.new) }
-        ensures rule { C.rule self.new.session.desk.log.clock ≡ C.rule self.old.session.desk.log.clock }
-    {
-        for _ in rt.forever() {
-            if self.is_opened(items) {
-                return Ok(());
-            }
-            self.go_on(rt)?;
-        }
-        unreachable!()
-    }
-
-    /// Goes on by itself until its script is over and no job waits, or its list has ended.
-    pub fn run_to_end<R: Wait>(&mut self, rt: &R) -> Result<(), NoMemory>
-        requires { IsScripted self.old }
-        ensures ok { OnOk result (HasMoved (GoesUntil self.old (is_script_over self.old.at.reruns self.old.script)) self.old self.new) }
-        ensures over { OnOk result (IsRunOut self.new) }
-        ensures rule { C.rule self.new.session.desk.log.clock ≡ C.rule self.old.session.desk.log.clock }
-    {
-        for _ in rt.forever() {
-            if self.is_run_out() {
-                return Ok(());
-            }
-            self.go_on(rt)?;
-        }
-        unreachable!()
-    }
-
     /// Whether it has nothing more to do before so many items are over.
     pub fn is_opened(&self, items: usize) -> bool
         requires { IsScripted self.now }
@@ -296,6 +223,88 @@ impl<'a, N: Named<CommitWorld>, C: Clock + Drop, V: Wire + Drop, G: Gate> Script
         ensures keeps { (work : Workload) (session : SessionWork) (rule : ℕ → ℕ → Bool) → DoesWork work session self.entry → C.rule self.entry.session.desk.log.clock ≡ clock_rule session.clock rule → EachAfter (KeepsWork work session rule) [] (own_list self.entry) }
     {
         self.session.finish()
+    }
+}
+
+impl<
+    'a,
+    N: Named<CommitWorld> + Send + Sync,
+    C: Clock + Drop,
+    V: Wire + Drop,
+    G: Gate + Sync,
+> Scripted<'a, N, C, V, G> {
+    /// Asks the script's next call, and is told its answer; nothing where the script is over or the list has ended.
+    pub fn turn<R: Wait + Threads + Sync>(&mut self, rt: &R) -> Result<(), NoMemory>
+        requires scripted { IsScripted self.old }
+        ensures ok { OnOk result (HasMoved (AsksInTurn self.old) self.old self.new) }
+        ensures rule { C.rule self.new.session.desk.log.clock ≡ C.rule self.old.session.desk.log.clock }
+    {
+        if self.has_stopped() {
+            return Ok(());
+        }
+        match self.next()? {
+            Some(call) => self.call(rt, call),
+            None => Ok(()),
+        }
+    }
+
+    /// Asks the call, which comes next, and is told its answer.
+    fn call<R: Wait + Threads + Sync>(&mut self, rt: &R, call: Call) -> Result<(), NoMemory>
+        requires scripted { IsScripted self.old }
+        requires going { self.old.session.desk.log.stopped ≡ false }
+        requires next { next_call self.old.at ≡ Some call }
+        ensures ok { OnOk result (HasMoved (AsksInTurn self.old) self.old self.new) }
+        ensures rule { C.rule self.new.session.desk.log.clock ≡ C.rule self.old.session.desk.log.clock }
+    {
+        match self.session.call(rt, call) {
+            Ok(answer) => go_on_by(&mut self.run, answer),
+            Err(halt) => unless_memory(halt),
+        }
+    }
+
+    /// What it does by itself: its oldest job where one waits, else its script's next call.
+    fn go_on<R: Wait + Threads + Sync>(&mut self, rt: &R) -> Result<(), NoMemory>
+        requires scripted { IsScripted self.old }
+        requires going { self.old.session.desk.log.stopped ≡ false }
+        ensures ok { OnOk result (HasMoved (TakesNextAlone self.old) self.old self.new) }
+        ensures rule { C.rule self.new.session.desk.log.clock ≡ C.rule self.old.session.desk.log.clock }
+    {
+        if self.has_job() {
+            self.finish_job(rt)
+        } else {
+            self.turn(rt)
+        }
+    }
+
+    /// Goes on by itself until so many items of its script are over, or all of it, and no job waits; or until its list has ended.
+    pub fn open<R: Wait + Threads + Sync>(&mut self, rt: &R, items: usize) -> Result<(), NoMemory>
+        requires scripted { IsScripted self.old }
+        ensures ok { OnOk result (HasMoved (GoesUntil self.old (are_items_over items self.old.at.reruns self.old.script)) self.old self.new) }
+        ensures rule { C.rule self.new.session.desk.log.clock ≡ C.rule self.old.session.desk.log.clock }
+    {
+        for _ in rt.forever() {
+            if self.is_opened(items) {
+                return Ok(());
+            }
+            self.go_on(rt)?;
+        }
+        unreachable!()
+    }
+
+    /// Goes on by itself until its script is over and no job waits, or its list has ended.
+    pub fn run_to_end<R: Wait + Threads + Sync>(&mut self, rt: &R) -> Result<(), NoMemory>
+        requires scripted { IsScripted self.old }
+        ensures ok { OnOk result (HasMoved (GoesUntil self.old (is_script_over self.old.at.reruns self.old.script)) self.old self.new) }
+        ensures over { OnOk result (IsRunOut self.new) }
+        ensures rule { C.rule self.new.session.desk.log.clock ≡ C.rule self.old.session.desk.log.clock }
+    {
+        for _ in rt.forever() {
+            if self.is_run_out() {
+                return Ok(());
+            }
+            self.go_on(rt)?;
+        }
+        unreachable!()
     }
 }
 

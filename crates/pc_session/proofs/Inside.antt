@@ -35,9 +35,6 @@ module _ {C : Type 0} (old new : LogMeaning C) (part : List (Pair Event)) (grown
   pub piped_same : new.pipelining ≡ old.pipelining
   piped_same = ap (λ (l : LogMeaning C). l.pipelining) grown.rest
 
-  pub beside_same : new.beside ≡ old.beside
-  beside_same = ap (λ (l : LogMeaning C). l.beside) grown.rest
-
   pub stopped_same : new.stopped ≡ old.stopped
   stopped_same = ap (λ (l : LogMeaning C). l.stopped) grown.rest
 
@@ -48,7 +45,6 @@ one_on old new c d part grown one session splits knows = record {
   whose = id_same old.log new.log part grown ∙ (one.whose ∙ ap (λ n. actors.Session n) (sym session));
   splits = splits ∙ (one.splits ∙ ap (λ (h : Head). h.splits) (sym (head_same old.log new.log part grown)));
   unpiped = piped_same old.log new.log part grown ∙ one.unpiped;
-  one_by_one = beside_same old.log new.log part grown ∙ one.one_by_one;
   knows = knows;
 }
 

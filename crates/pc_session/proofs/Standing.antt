@@ -23,8 +23,8 @@ use Rattle.pc_world.specs.Tell.Refusal.{is_heard}
 
 -- before its first call
 pub begun_rests : {C : Type 0} (s : SessionMeaning C) (session : ℕ) → s.desk.log.part ≡ newcomer (actors.Session session) → KeepsTrack s.desk → s.coordinator ≡ new_coordination session s.desk.log.head.splits → Knows s.coordinator nothing_known
-    → s.desk.log.pipelining ≡ false → s.desk.log.beside ≡ false → s.desk.posted ≡ [] → s.desk.replies ≡ [] → s.jobs ≡ [] → IsAtRest s
-begun_rests s session fresh track made knows unpiped one_by_one posted replies jobs =
+    → s.desk.log.pipelining ≡ false → s.desk.posted ≡ [] → s.desk.replies ≡ [] → s.jobs ≡ [] → IsAtRest s
+begun_rests s session fresh track made knows unpiped posted replies jobs =
     let own : s.desk.log.part.own ≡ [] = ap (λ (p : Part Event). p.own) fresh in
     let known : known_of s.desk.log.part.own ≡ nothing_known = ap known_of own in
     record {
@@ -33,7 +33,6 @@ begun_rests s session fresh track made knows unpiped one_by_one posted replies j
         whose = ap (λ (p : Part Event). p.id) fresh ∙ ap (λ n. actors.Session n) (sym (ap (λ (c : Coordination). c.session) made));
         splits = ap (λ (c : Coordination). c.splits) made;
         unpiped = unpiped;
-        one_by_one = one_by_one;
         knows = subst (Knows s.coordinator) (sym known) knows;
       };
       posted = posted;
@@ -74,7 +73,6 @@ followed_rests {C} old new note same took track rests = λ going.
         whose = ap (λ (d : DeskMeaning C). d.log.part.id) took ∙ rest.one.whose;
         splits = rest.one.splits ∙ sym (ap (λ (d : DeskMeaning C). d.log.head.splits) took);
         unpiped = ap (λ (d : DeskMeaning C). d.log.pipelining) took ∙ rest.one.unpiped;
-        one_by_one = ap (λ (d : DeskMeaning C). d.log.beside) took ∙ rest.one.one_by_one;
         knows = subst (λ own. Knows old.coordinator (known_of own)) (sym own) rest.one.knows;
       });
       posted = ap (λ (d : DeskMeaning C). d.posted) took ∙ rest.posted;

@@ -22,13 +22,11 @@ pub record SessionMeaning (C : Type 0) : Type 0 where
 abbrev pub session_knows : {C : Type 0} → SessionMeaning C → Known
 session_knows s = known_of s.desk.log.part.own
 
--- The desk and the coordinator are of one session, which does not pipeline its writes and has its messages evaluated one after another, and
--- the coordinator knows what the own list says.
+-- The desk and the coordinator are of one session, which does not pipeline its writes, and the coordinator knows what the own list says.
 pub record AreOfOneSession {C : Type 0} (d : DeskMeaning C) (c : Coordination) : Type 0 where
   pub whose : d.log.part.id ≡ actors.Session c.session
   pub splits : c.splits ≡ d.log.head.splits
   pub unpiped : d.log.pipelining ≡ false
-  pub one_by_one : d.log.beside ≡ false
   pub knows : Knows c (known_of d.log.part.own)
 
 -- These jobs wait after the own list, and each may be done; its transactions are numbered up to how many were begun.

@@ -38,6 +38,7 @@ use std::alloc::Global;
 use std::collections::VecDeque;
 use std::marker::Model;
 use std::sync::Wait;
+use std::thread::Threads;
 
 /// What a session works with: its desk, its coordinator, and the jobs that wait. It may be in the middle of a call.
 #[derive(Drop)]
@@ -70,24 +71,6 @@ impl<'a, N: Named<CommitWorld>, C: Clock, V: Wire, G: Gate> Office<'a, N, C, V, 
             coordinator,
             jobs: VecDeque::new(alloc),
         }
-    }
-
-    /// Asks the call, makes its messages and the rounds of its conflicts, and tells its answer.
-    pub(crate) fn call<R: Wait>(&mut self, rt: &R, call: Call) -> Result<Answer, Halt>
-        requires rest { IsAtRest self.old }
-        requires may { MayBeCalled self.old call }
-        ensures ok { IfOk result (HasCalled self.old self.new call) }
-        ensures err { IfErr result (HasHalted self.old.desk self.new.desk) }
-        ensures ended { IfErr result (λ halt. BreaksOff (AreOfBrokenCall call halt) self.old.desk self.new.desk halt) }
-        ensures rule { C.rule self.new.desk.log.clock ≡ C.rule self.old.desk.log.clock }
-    {
-        let reading = self.ask(call)?;
-        for _ in rt.forever() {
-            if let Some(answer) = self.go_on(rt, reading)? {
-                return Ok(answer);
-            }
-        }
-        unreachable!()
     }
 
     /// A token of the commit of which the entry at this place tells.
@@ -176,28 +159,6 @@ impl<'a, N: Named<CommitWorld>, C: Clock, V: Wire, G: Gate> Office<'a, N, C, V, 
         }
     }
 
-    /// Does what is due. Gives the answer once it was told.
-    fn go_on<R: Wait>(&mut self, rt: &R, reading: u64) -> Result<Option<Answer>, Halt>
-        requires calls { HasOpenCall self.old reading }
-        requires between { IsBetweenWaves self.old.desk }
-        ensures ok { IfOk result (GoesOnOrTold self.old self.new reading) }
-        ensures err { IfErr result (HasHalted self.old.desk self.new.desk) }
-        ensures ended { IfErr result (λ halt. BreaksOff (AreOfOpenCall halt) self.old.desk self.new.desk halt) }
-        ensures clock { self.new.desk.log.clock ≡ self.old.desk.log.clock }
-    {
-        match self.due(reading)? {
-            Next::Send(request) => self.send(reading, request),
-            Next::Wave => self.wave(rt, reading),
-            Next::Conflict {
-                number,
-                conflict,
-                reader,
-            } => self.round(rt, reading, number, conflict, reader),
-            Next::Tell(answer) => self.tell(reading, answer),
-            Next::Idle => unreachable!(),
-        }
-    }
-
     /// What is due in the call that was asked at this reading.
     fn due(&mut self, reading: u64) -> Result<Next, Halt>
         requires { HasOpenCall self.old reading }
@@ -231,40 +192,6 @@ impl<'a, N: Named<CommitWorld>, C: Clock, V: Wire, G: Gate> Office<'a, N, C, V, 
             Ok(()) => Ok(None),
             Err(NoMemory) => Err(self.want_memory()),
         }
-    }
-
-    /// A wave: the messages that wait are evaluated, and then their replies heard.
-    fn wave<R: Wait>(&mut self, rt: &R, reading: u64) -> Result<Option<Answer>, Halt>
-        requires calls { HasOpenCall self.old reading }
-        requires between { IsBetweenWaves self.old.desk }
-        requires due { next_of self.old.coordinator ≡ nexts.Wave }
-        ensures ok { IfOk result (GoesOnOrTold self.old self.new reading) }
-        ensures err { IfErr result (HasHalted self.old.desk self.new.desk) }
-        ensures ended { IfErr result (BreaksOff (All IsInBetween) self.old.desk self.new.desk) }
-        ensures clock { self.new.desk.log.clock ≡ self.old.desk.log.clock }
-    {
-        self.deliver(rt, reading)?;
-        loop {
-            if !self.hear(reading)? {
-                return Ok(None);
-            }
-        }
-    }
-
-    /// Has the messages that wait evaluated.
-    fn deliver<R: Wait>(&mut self, rt: &R, reading: u64) -> Result<(), Halt>
-        requires calls { HasOpenCall self.old reading }
-        requires whole { IsWholeOut self.old }
-        requires none_waits { self.old.desk.replies ≡ [] }
-        ensures calls { OnOk result (HasOpenCall self.new reading) }
-        ensures whole { OnOk result (IsWholeOut self.new) }
-        ensures all { OnOk result (self.new.desk.posted ≡ []) }
-        ensures goes { OnOk result (HasGoneInside self.old self.new) }
-        ensures err { IfErr result (HasHalted self.old.desk self.new.desk) }
-        ensures ended { IfErr result (BreaksOff (All IsInBetween) self.old.desk self.new.desk) }
-        ensures clock { self.new.desk.log.clock ≡ self.old.desk.log.clock }
-    {
-        self.desk.deliver(rt)
     }
 
     /// Hears the reply that has waited longest. False where none waits.
@@ -377,6 +304,100 @@ impl<'a, N: Named<CommitWorld>, C: Clock, V: Wire, G: Gate> Office<'a, N, C, V, 
         coordinating_goes_on();
         self.coordinator.raise(ts);
         Ok(true)
+    }
+}
+
+impl<'a, N: Named<CommitWorld> + Send + Sync, C: Clock, V: Wire, G: Gate + Sync> Office<
+    'a,
+    N,
+    C,
+    V,
+    G,
+> {
+    /// Asks the call, makes its messages and the rounds of its conflicts, and tells its answer.
+    pub(crate) fn call<R: Wait + Threads + Sync>(
+        &mut self,
+        rt: &R,
+        call: Call,
+    ) -> Result<Answer, Halt>
+        requires rest { IsAtRest self.old }
+        requires may { MayBeCalled self.old call }
+        ensures ok { IfOk result (HasCalled self.old self.new call) }
+        ensures err { IfErr result (HasHalted self.old.desk self.new.desk) }
+        ensures ended { IfErr result (λ halt. BreaksOff (AreOfBrokenCall call halt) self.old.desk self.new.desk halt) }
+        ensures rule { C.rule self.new.desk.log.clock ≡ C.rule self.old.desk.log.clock }
+    {
+        let reading = self.ask(call)?;
+        for _ in rt.forever() {
+            if let Some(answer) = self.go_on(rt, reading)? {
+                return Ok(answer);
+            }
+        }
+        unreachable!()
+    }
+
+    /// Does what is due. Gives the answer once it was told.
+    fn go_on<R: Wait + Threads + Sync>(
+        &mut self,
+        rt: &R,
+        reading: u64,
+    ) -> Result<Option<Answer>, Halt>
+        requires calls { HasOpenCall self.old reading }
+        requires between { IsBetweenWaves self.old.desk }
+        ensures ok { IfOk result (GoesOnOrTold self.old self.new reading) }
+        ensures err { IfErr result (HasHalted self.old.desk self.new.desk) }
+        ensures ended { IfErr result (λ halt. BreaksOff (AreOfOpenCall halt) self.old.desk self.new.desk halt) }
+        ensures clock { self.new.desk.log.clock ≡ self.old.desk.log.clock }
+    {
+        match self.due(reading)? {
+            Next::Send(request) => self.send(reading, request),
+            Next::Wave => self.wave(rt, reading),
+            Next::Conflict {
+                number,
+                conflict,
+                reader,
+            } => self.round(rt, reading, number, conflict, reader),
+            Next::Tell(answer) => self.tell(reading, answer),
+            Next::Idle => unreachable!(),
+        }
+    }
+
+    /// A wave: the messages that wait are evaluated, and then their replies heard.
+    fn wave<R: Wait + Threads + Sync>(
+        &mut self,
+        rt: &R,
+        reading: u64,
+    ) -> Result<Option<Answer>, Halt>
+        requires calls { HasOpenCall self.old reading }
+        requires between { IsBetweenWaves self.old.desk }
+        requires due { next_of self.old.coordinator ≡ nexts.Wave }
+        ensures ok { IfOk result (GoesOnOrTold self.old self.new reading) }
+        ensures err { IfErr result (HasHalted self.old.desk self.new.desk) }
+        ensures ended { IfErr result (BreaksOff (All IsInBetween) self.old.desk self.new.desk) }
+        ensures clock { self.new.desk.log.clock ≡ self.old.desk.log.clock }
+    {
+        self.deliver(rt, reading)?;
+        loop {
+            if !self.hear(reading)? {
+                return Ok(None);
+            }
+        }
+    }
+
+    /// Has the messages that wait evaluated.
+    fn deliver<R: Wait + Threads + Sync>(&mut self, rt: &R, reading: u64) -> Result<(), Halt>
+        requires calls { HasOpenCall self.old reading }
+        requires whole { IsWholeOut self.old }
+        requires none_waits { self.old.desk.replies ≡ [] }
+        ensures calls { OnOk result (HasOpenCall self.new reading) }
+        ensures whole { OnOk result (IsWholeOut self.new) }
+        ensures all { OnOk result (self.new.desk.posted ≡ []) }
+        ensures goes { OnOk result (HasGoneInside self.old self.new) }
+        ensures err { IfErr result (HasHalted self.old.desk self.new.desk) }
+        ensures ended { IfErr result (BreaksOff (All IsInBetween) self.old.desk self.new.desk) }
+        ensures clock { self.new.desk.log.clock ≡ self.old.desk.log.clock }
+    {
+        self.desk.deliver_wave(rt)
     }
 }
 

@@ -30,6 +30,7 @@ use pc_wire::Wire;
 use std::alloc::Global;
 use std::marker::Model;
 use std::sync::Wait;
+use std::thread::Threads;
 
 /// One session of the ranges: it begins transactions, reads, writes and ends them, one call after another, and does what they leave.
 ///
@@ -61,6 +62,7 @@ impl<'a, N: Named<CommitWorld>, C: Clock, V: Wire, G: Gate> Session<'a, N, C, V,
         wire: V,
         tries: u32,
         pipelining: bool,
+        beside: bool,
         limit: u64,
         stop: Option<u64>,
     ) -> Session<'a, N, C, V, G>
@@ -74,13 +76,13 @@ impl<'a, N: Named<CommitWorld>, C: Clock, V: Wire, G: Gate> Session<'a, N, C, V,
         requires few { length actor.world.splits ≤ 31 }
         requires unpiped { pipelining ≡ false }
         requires quiet { (number : ℕ) → V.rule wire number ≡ verdicts.Deliver }
-        ensures made { result.desk ≡ new_desk actor.world actor.part actor.spare clock pipelining false limit stop ranges.now.limit }
+        ensures made { result.desk ≡ new_desk actor.world actor.part actor.spare clock pipelining beside limit stop ranges.now.limit }
         ensures session { result.coordinator.session ≡ number }
         ensures jobs { result.jobs ≡ [] }
         ensures rests { IsAtRest result }
     {
         let desk = Desk::new(
-            alloc, actor, ranges, clock, wire, pipelining, false, limit, stop,
+            alloc, actor, ranges, clock, wire, pipelining, beside, limit, stop,
         );
         let coordinator = Coordinator::new(alloc, number, tries, pipelining, ranges.splits());
         Session {
@@ -134,18 +136,6 @@ impl<'a, N: Named<CommitWorld>, C: Clock, V: Wire, G: Gate> Session<'a, N, C, V,
         self.office.desk.follow(mark);
     }
 
-    /// Asks the call, makes its messages and the rounds of its conflicts, and is told its answer.
-    pub fn call<R: Wait>(&mut self, rt: &R, call: Call) -> Result<Answer, Halt>
-        requires { self.old.desk.log.stopped ≡ false → MayBeCalled self.old call }
-        ensures ok { IfOk result (HasCalled self.old self.new call) }
-        ensures err { IfErr result (HasHalted self.old.desk self.new.desk) }
-        ensures ended { IfErr result (λ halt. BreaksOff (AreOfBrokenCall call halt) self.old.desk self.new.desk halt) }
-        ensures rule { C.rule self.new.desk.log.clock ≡ C.rule self.old.desk.log.clock }
-    {
-        self.going()?;
-        self.office.call(rt, call)
-    }
-
     /// A token by which another session may learn that the transaction committed. None where this session was not told so.
     pub fn token(&mut self, id: TxnId) -> Result<Option<Token<N>>, NoMemory>
         ensures token { IfOk result (λ token. IfSome token (λ t. t.id ≡ id)) }
@@ -194,6 +184,26 @@ impl<'a, N: Named<CommitWorld>, C: Clock, V: Wire, G: Gate> Session<'a, N, C, V,
     {
         self.going()?;
         self.office.step(rt)
+    }
+}
+
+impl<'a, N: Named<CommitWorld> + Send + Sync, C: Clock, V: Wire, G: Gate + Sync> Session<
+    'a,
+    N,
+    C,
+    V,
+    G,
+> {
+    /// Asks the call, makes its messages and the rounds of its conflicts, and is told its answer.
+    pub fn call<R: Wait + Threads + Sync>(&mut self, rt: &R, call: Call) -> Result<Answer, Halt>
+        requires { self.old.desk.log.stopped ≡ false → MayBeCalled self.old call }
+        ensures ok { IfOk result (HasCalled self.old self.new call) }
+        ensures err { IfErr result (HasHalted self.old.desk self.new.desk) }
+        ensures ended { IfErr result (λ halt. BreaksOff (AreOfBrokenCall call halt) self.old.desk self.new.desk halt) }
+        ensures rule { C.rule self.new.desk.log.clock ≡ C.rule self.old.desk.log.clock }
+    {
+        self.going()?;
+        self.office.call(rt, call)
     }
 }
 

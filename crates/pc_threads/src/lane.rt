@@ -2,7 +2,6 @@ ghost use Rattle.std.specs.Prelude.{◌≡◌, IfOk};
 ghost use Rattle.pc_scripted.specs.Scripted.{IsScripted};
 ghost use Rattle.pc_threads.specs.Lanes.{HasLeftLane, HasRunLane};
 
-use crate::runs::Runs;
 use pc_base::NoMemory;
 use pc_clock::Clock;
 use pc_history::Named;
@@ -11,6 +10,7 @@ use pc_scripted::Scripted;
 use pc_wire::Wire;
 use std::marker::Model;
 use std::sync::Wait;
+use std::thread::Threads;
 
 /// A session that goes to the end of its script beside others, and how it ended.
 #[derive(Drop)]
@@ -47,14 +47,18 @@ impl<'a, N: Named<CommitWorld>, C: Clock + Drop, V: Wire + Drop, G: Gate> Lane<'
     }
 }
 
-impl<'a, N: Named<CommitWorld>, C: Clock + Drop, V: Wire + Drop, G: Gate> Runs
-    for Lane<'a, N, C, V, G> {
-    ghost may_run = { λ l. IsScripted l.session };
-
-    ghost has_run = { HasRunLane C.rule };
-
+impl<'a, N: Named<CommitWorld> + Send + Sync, C: Clock + Drop, V: Wire + Drop, G: Gate + Sync> Lane<
+    'a,
+    N,
+    C,
+    V,
+    G,
+> {
     /// The session goes by itself to the end of its script.
-    fn run<R: Wait>(&mut self, rt: &R) {
+    pub(crate) fn run<R: Wait + Threads + Sync>(&mut self, rt: &R)
+        requires { IsScripted self.old.session }
+        ensures { HasRunLane C.rule self.old self.new }
+    {
         self.ended = self.session.run_to_end(rt);
     }
 }

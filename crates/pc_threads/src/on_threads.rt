@@ -65,15 +65,15 @@ fn run_to_ends<
     R: Wait + Threads + Sync,
 >(
     rt: &R,
-    mut lanes: Vec<Lane<'a, N, C, V, G>>,
-    mut round_lanes: Vec<RoundLane<'a, N, C, V, G>>,
+    lanes: Vec<Lane<'a, N, C, V, G>>,
+    round_lanes: Vec<RoundLane<'a, N, C, V, G>>,
 ) -> Result<Clients<'a, N, C, V, G>, NoMemory>
     requires some { 1 ≤ length lanes.items }
     requires scripted { All (λ l. IsScripted l.session) lanes.items }
     requires counted { All (λ l. GoesInRounds l.recoverer) round_lanes.items }
     ensures { IfOk result (λ gone. HaveRunToEnds C.rule lanes.entry.items round_lanes.entry.items gone.0.items gone.1.items) }
 {
-    run_both(rt, lanes.as_mut_slice(), round_lanes.as_mut_slice());
+    let (lanes, round_lanes) = run_both(rt, lanes, round_lanes);
     let sessions = take_back(lanes)?;
     let recoverers = take_rounds_back(round_lanes)?;
     Ok((sessions, recoverers))
@@ -81,7 +81,14 @@ fn run_to_ends<
 
 /// The sessions and the recoverers in lanes of their own, once the first session has gone on by itself until so many items of its script are
 /// over.
-fn start<'a, N: Named<CommitWorld>, C: Clock + Drop, V: Wire + Drop, G: Gate, R: Wait>(
+fn start<
+    'a,
+    N: Named<CommitWorld> + Send + Sync,
+    C: Clock + Drop,
+    V: Wire + Drop,
+    G: Gate + Sync,
+    R: Wait + Threads + Sync,
+>(
     rt: &R,
     opening: usize,
     mut sessions: Vec<Scripted<'a, N, C, V, G>>,

@@ -2,7 +2,6 @@ ghost use Rattle.std.specs.Prelude.{◌≡◌, IfOk};
 ghost use Rattle.pc_rounds.specs.Counted.{GoesInRounds};
 ghost use Rattle.pc_threads.specs.RoundLanes.{HasLeftRoundLane, HasRunRounds};
 
-use crate::runs::Runs;
 use pc_base::NoMemory;
 use pc_clock::Clock;
 use pc_history::Named;
@@ -51,16 +50,12 @@ impl<'a, N: Named<CommitWorld>, C: Clock + Drop, V: Wire + Drop, G: Gate> RoundL
         self.ended?;
         Ok(self.recoverer)
     }
-}
-
-impl<'a, N: Named<CommitWorld>, C: Clock + Drop, V: Wire + Drop, G: Gate> Runs
-    for RoundLane<'a, N, C, V, G> {
-    ghost may_run = { λ l. GoesInRounds l.recoverer };
-
-    ghost has_run = { HasRunRounds C.rule };
 
     /// The recoverer makes the rounds that are left to it.
-    fn run<R: Wait>(&mut self, rt: &R) {
+    pub(crate) fn run<R: Wait>(&mut self, rt: &R)
+        requires { GoesInRounds self.old.recoverer }
+        ensures { HasRunRounds C.rule self.old self.new }
+    {
         self.ended = self.recoverer.make_all(rt);
     }
 }

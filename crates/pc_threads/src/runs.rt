@@ -1,56 +1,95 @@
 ghost use Rattle.std.specs.Prelude.{All};
 ghost use Rattle.std.specs.List.{AllZip};
+ghost use Rattle.std.specs.Thread.{IsSync};
+ghost use Rattle.pc_rounds.specs.Counted.{GoesInRounds};
+ghost use Rattle.pc_scripted.specs.Scripted.{IsScripted};
+ghost use Rattle.pc_threads.specs.Lanes.{HasRunLane};
+ghost use Rattle.pc_threads.specs.RoundLanes.{HasRunRounds};
 
+use crate::lane::Lane;
+use crate::round_lane::RoundLane;
+use pc_clock::Clock;
+use pc_history::Named;
+use pc_range::{CommitWorld, Gate};
+use pc_wire::Wire;
 use std::marker::{Send, Sync};
 use std::sync::Wait;
 use std::thread;
 use std::thread::Threads;
 
-/// What goes to its end by itself.
-pub(crate) trait Runs {
-    ghost may_run: { Self → Type 0 };
-
-    ghost has_run: { Self → Self → Type 0 };
-
-    /// Goes to its end.
-    fn run<R: Wait>(&mut self, rt: &R)
-        requires { may_run self.old }
-        ensures { has_run self.old self.new };
-}
-
-/// All of these go to their ends, each on a thread of its own where one can be made.
-fn run_all<T: Runs + Send, R: Wait + Threads + Sync>(rt: &R, all: &mut [T])
-    requires { All T.may_run all.old }
-    ensures { AllZip T.has_run all.old all.new }
+/// All sessions go to their ends in their lanes, each on a thread of its own where one can be made.
+fn run_lanes<
+    'a,
+    N: Named<CommitWorld> + Send + Sync,
+    C: Clock + Drop + Send,
+    V: Wire + Drop + Send,
+    G: Gate + Sync,
+    R: Wait + Threads + Sync,
+>(rt: &R, mut lanes: Vec<Lane<'a, N, C, V, G>>) -> Vec<Lane<'a, N, C, V, G>>
+    requires { All (λ l. IsScripted l.session) lanes.items }
+    ensures { AllZip (HasRunLane C.rule) lanes.entry.items result.items }
 {
-    let threads = all.len().max(1);
-    let run = |_: usize, one: &mut T|
-        requires { T.may_run one.old }
-        ensures { T.has_run one.old one.new }
+    let threads = lanes.len().max(1);
+    let run = |_: usize, lane: &mut Lane<N, C, V, G>|
+        requires { IsSync R.row × IsScripted lane.old.session }
+        ensures { HasRunLane C.rule lane.old lane.new }
     {
-        one.run(rt);
+        lane.run(rt);
     };
-    thread::for_each_mut(rt, all, threads, &run);
+    thread::for_each_mut(rt, lanes.as_mut_slice(), threads, &run);
+    lanes
 }
 
-/// All of these and all of those go to their ends, beside each other.
-pub(crate) fn run_both<S: Runs + Send, T: Runs + Send, R: Wait + Threads + Sync>(
-    rt: &R,
-    these: &mut [S],
-    those: &mut [T],
-)
-    requires these { All S.may_run these.old }
-    requires those { All T.may_run those.old }
-    ensures these { AllZip S.has_run these.old these.new }
-    ensures those { AllZip T.has_run those.old those.new }
+/// All recoverers make their rounds in their lanes, each on a thread of its own where one can be made.
+fn run_round_lanes<
+    'a,
+    N: Named<CommitWorld> + Send + Sync,
+    C: Clock + Drop + Send,
+    V: Wire + Drop + Send,
+    G: Gate + Sync,
+    R: Wait + Threads + Sync,
+>(rt: &R, mut lanes: Vec<RoundLane<'a, N, C, V, G>>) -> Vec<RoundLane<'a, N, C, V, G>>
+    requires { All (λ l. GoesInRounds l.recoverer) lanes.items }
+    ensures { AllZip (HasRunRounds C.rule) lanes.entry.items result.items }
 {
-    let mut first = ||
-        requires { All S.may_run these.now }
-        ensures { AllZip S.has_run these.entry.now these.exit.now }
-    { run_all(rt, these) };
-    let mut second = ||
-        requires { All T.may_run those.now }
-        ensures { AllZip T.has_run those.entry.now those.exit.now }
-    { run_all(rt, those) };
-    thread::join_mut(rt, &mut first, &mut second);
+    let threads = lanes.len().max(1);
+    let run = |_: usize, lane: &mut RoundLane<N, C, V, G>|
+        requires { GoesInRounds lane.old.recoverer }
+        ensures { HasRunRounds C.rule lane.old lane.new }
+    {
+        lane.run(rt);
+    };
+    thread::for_each_mut(rt, lanes.as_mut_slice(), threads, &run);
+    lanes
+}
+
+/// All sessions and all recoverers go to their ends in their lanes, beside each other.
+pub(crate) fn run_both<
+    'a,
+    N: Named<CommitWorld> + Send + Sync,
+    C: Clock + Drop + Send,
+    V: Wire + Drop + Send,
+    G: Gate + Sync,
+    R: Wait + Threads + Sync,
+>(
+    rt: &R,
+    lanes: Vec<Lane<'a, N, C, V, G>>,
+    round_lanes: Vec<RoundLane<'a, N, C, V, G>>,
+) -> (Vec<Lane<'a, N, C, V, G>>, Vec<RoundLane<'a, N, C, V, G>>)
+    requires scripted { All (λ l. IsScripted l.session) lanes.items }
+    requires counted { All (λ l. GoesInRounds l.recoverer) round_lanes.items }
+    ensures sessions { AllZip (HasRunLane C.rule) lanes.entry.items result.0.items }
+    ensures recoverers { AllZip (HasRunRounds C.rule) round_lanes.entry.items result.1.items }
+{
+    thread::join(
+        rt,
+        || -> Vec<Lane<N, C, V, G>>
+            requires { IsSync R.row × All (λ l. IsScripted l.session) lanes.items }
+            ensures { AllZip (HasRunLane C.rule) lanes.entry.items result.items }
+        { run_lanes(rt, lanes) },
+        || -> Vec<RoundLane<N, C, V, G>>
+            requires { IsSync R.row × All (λ l. GoesInRounds l.recoverer) round_lanes.items }
+            ensures { AllZip (HasRunRounds C.rule) round_lanes.entry.items result.items }
+        { run_round_lanes(rt, round_lanes) },
+    )
 }

@@ -1,4 +1,4 @@
-//! Two sessions on threads are inside two ranges at once.
+//! On threads two sessions, and also one session alone, are inside two ranges at once.
 
 use crate::outputs::output;
 use pc_range::Gate;
@@ -7,12 +7,16 @@ use std::test::Fail;
 use std::thread::sleep;
 use std::time::{Clock, Duration};
 
-/// How often a session that is inside one range looks whether another one is inside the other range, a millisecond after each look.
+/// How often whoever is inside one range looks whether somebody is inside the other range, a millisecond after each look.
 const LOOKS: u32 = 20_000;
 
 /// Two sessions that write in ranges of their own.
 const TWO: &str =
     r#"{"version":1,"pipelining":false,"splits":["m"],"sessions":[{"clock":{"start":10,"step":1},"script":[{"do":[{"put":["a","x"]}]}]},{"clock":{"start":20,"step":1},"script":[{"do":[{"put":["n","y"]}]}]}]}"#;
+
+/// One session that reads two ranges in one call.
+const ONE: &str =
+    r#"{"version":1,"pipelining":false,"splits":["m"],"sessions":[{"clock":{"start":10,"step":1},"script":[{"do":[{"scan":["",""]}]}]}]}"#;
 
 const REPORT: &[u8] =
     b"\nreport\ncommitted 1.1 10.0 a=x\ncommitted 2.1 20.0 n=y\nmap a=x\nmap n=y\nend\n";
@@ -72,5 +76,14 @@ fn two_sessions_are_inside_two_ranges_at_once(rt: HostRuntime) -> Result<(), Fai
     let out = output(&rt, rt.alloc(), TWO, &gate).ok_or("an output")?;
     assert!(rt; !gate.was_in_vain());
     assert!(rt; out.as_slice().ends_with(REPORT));
+    Ok(())
+}
+
+/// A program that evaluates the messages of a wave one after another, in either order, looks in vain.
+#[test]
+fn one_session_is_inside_two_ranges_at_once(rt: HostRuntime) -> Result<(), Fail> {
+    let gate = Meeting::new(&rt);
+    let _out = output(&rt, rt.alloc(), ONE, &gate).ok_or("an output")?;
+    assert!(rt; !gate.was_in_vain());
     Ok(())
 }

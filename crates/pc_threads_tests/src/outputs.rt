@@ -39,7 +39,11 @@ pub fn output<G: Gate + Sync, R: Wait + Threads + Sync>(
 
 /// The journal and the report of the run of the workload that the text is, in the turns that it states. Nothing where it is none with turns, or
 /// memory runs out.
-pub fn output_in_turns<R: Wait>(rt: &R, alloc: Global, text: &[u8]) -> Option<Vec<u8>> {
+pub fn output_in_turns<R: Wait + Threads + Sync>(
+    rt: &R,
+    alloc: Global,
+    text: &[u8],
+) -> Option<Vec<u8>> {
     let Ok(work) = Workload::read_accepted(alloc, text) else {
         return None;
     };

@@ -5,9 +5,10 @@ use pc_vectors::{ROWS, Row};
 use std::alloc::Global;
 use std::sync::Wait;
 use std::test::Fail;
+use std::thread::Threads;
 
 /// Whether the row's workload writes just what the row says.
-fn is_as_written<R: Wait>(rt: &R, alloc: Global, row: &Row) -> bool {
+fn is_as_written<R: Wait + Threads + Sync>(rt: &R, alloc: Global, row: &Row) -> bool {
     match output_in_turns(rt, alloc, row.input) {
         Some(out) => out.as_slice() == row.output,
         None => false,

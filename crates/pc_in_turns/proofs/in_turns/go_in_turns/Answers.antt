@@ -5,7 +5,7 @@ use Rattle.pc_work.specs.declared.workload.Workload.{Workload}
 use Rattle.pc_in_turns.proofs.in_turns.go_in_turns.Goals as goal
 
 pub take_all-requires-clause-there : goal.take_all-requires-clause-there
-take_all-requires-clause-there g c =
+take_all-requires-clause-there g c κs within =
     subst (λ (w : Workload). All (IsTurnOf (length w.sessions) (length w.recoverers)) c.args.stated.now) (sym c.in_ok-open.ensures.work) c.requires.turns
 
 pub returns-clause-clients : goal.returns-clause-clients

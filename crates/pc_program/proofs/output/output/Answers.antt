@@ -9,6 +9,6 @@ report-requires-clause-run g c = run_over c.args.work.now c.in_ok-entries.entrie
 
 pub returns : goal.returns
 returns g c =
-    output_of c.print_output.result (λ out. out.items) c.args.work.now _ c.in_ok-entries.entries.items c.deref.result.now c.deref-2.result.now c.in_ok-report.report
+    output_of c.print_output-out.result (λ out. out.items) c.args.work.now _ c.in_ok-entries.entries.items c.deref.result.now c.deref-2.result.now c.in_ok-report.report
     c.requires c.in_ok-entries.ensures.run c.in_ok-entries.ensures.follows c.deref.ensures.value c.deref-2.ensures.value c.in_ok-report.ensures
-    c.print_output.ensures.text c.print_output.ensures.keys c.print_output.ensures.spelled c.print_output.ensures.reported
+    c.print_output-out.ensures.text c.print_output-out.ensures.keys c.print_output-out.ensures.spelled c.print_output-out.ensures.reported

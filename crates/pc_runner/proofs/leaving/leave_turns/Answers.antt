@@ -6,7 +6,7 @@ use Rattle.pc_runner.proofs.Whole.{all_counted, all_scripted, left_if}
 use Rattle.pc_runner.proofs.leaving.leave_turns.Goals as goal
 
 pub go_in_turns-requires-clause-clients : goal.go_in_turns-requires-clause-clients
-go_in_turns-requires-clause-clients g c = record { runners = c.in_ok-sessions.ensures.runners; recoverers = c.in_ok-recoverers.ensures.recoverers }
+go_in_turns-requires-clause-clients g c κs within = record { runners = c.in_ok-sessions.ensures.runners; recoverers = c.in_ok-recoverers.ensures.recoverers }
 
 pub finish-requires-clause-sessions : goal.finish-requires-clause-sessions
 finish-requires-clause-sessions g c = all_scripted c.args.work.now (record { sessions = c.in_ok-sessions-2.sessions.items; recoverers = c.in_ok-sessions-2.recoverers.items }) c.in_ok-sessions-2.ensures.clients

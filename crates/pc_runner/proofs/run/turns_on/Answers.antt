@@ -6,7 +6,7 @@ use Rattle.pc_runner.specs.WorkRun.{IsWorkRun}
 use Rattle.pc_runner.proofs.run.turns_on.Goals as goal
 
 pub leave_turns-requires-clause-turns : goal.leave_turns-requires-clause-turns
-leave_turns-requires-clause-turns g c = stated_there c.args.work.now c.args.stated.now c.requires.accepted c.requires.turns
+leave_turns-requires-clause-turns g c κs within = stated_there c.args.work.now c.args.stated.now c.requires.accepted c.requires.turns
 
 pub close-requires-clause-opener : goal.close-requires-clause-opener
 close-requires-clause-opener g c = opener_is c.args.work.now c.in_ok-opener.field-0.opener c.in_ok-opener.ensures.opener

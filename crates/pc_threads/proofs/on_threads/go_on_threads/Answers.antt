@@ -5,13 +5,13 @@ use Rattle.pc_threads.proofs.Whole.{all_scripted, client_clocks_went, clients_we
 use Rattle.pc_threads.proofs.on_threads.go_on_threads.Goals as goal
 
 pub start-requires-clause-some : goal.start-requires-clause-some
-start-requires-clause-some g c = subst (λ n. 1 ≤ n) (sym c.requires.clients.runners.many) c.requires.some_session
+start-requires-clause-some g c κs within = subst (λ n. 1 ≤ n) (sym c.requires.clients.runners.many) c.requires.some_session
 
 pub start-requires-clause-scripted : goal.start-requires-clause-scripted
-start-requires-clause-scripted g c = all_scripted c.args.work.now c.args.sessions.items c.requires.clients.runners
+start-requires-clause-scripted g c κs within = all_scripted c.args.work.now c.args.sessions.items c.requires.clients.runners
 
 pub start-requires-clause-counted : goal.start-requires-clause-counted
-start-requires-clause-counted g c = all_counted c.args.work.now c.args.recoverers.items c.requires.clients.recoverers
+start-requires-clause-counted g c κs within = all_counted c.args.work.now c.args.recoverers.items c.requires.clients.recoverers
 
 pub run_to_ends-requires-clause-some : goal.run_to_ends-requires-clause-some
 run_to_ends-requires-clause-some g c κs within = lanes_some g.C.Clock.rule c.args.work.now.opening c.args.sessions.items c.in_ok-lanes.lanes.0.items c.in_ok-lanes.ensures.0

@@ -6,8 +6,8 @@ use Rattle.pc_threads.specs.Lanes.{LeadsIn}
 use Rattle.pc_threads.specs.RoundLanes.{WaitInLanes}
 use Rattle.pc_threads.proofs.on_threads.start.Goals as goal
 
-pub open-requires : goal.open-requires
-open-requires g c =
+pub open-requires-clause-scripted : goal.open-requires-clause-scripted
+open-requires-clause-scripted g c κs within =
     let cut = is_cut c.args.sessions.items c.remove-first.new.self.items c.remove-first.result c.requires.some c.remove-first.ensures.value c.remove-first.ensures.items in
     All-head IsScripted c.remove-first.result c.remove-first.new.self.items (subst (All IsScripted) cut c.requires.scripted)
 

@@ -9,6 +9,6 @@ learn-requires-clause-next g c =
     at_one (λ s. learnt_ahead s ≡ Some c.in-Some.id) c.args.self.now c.args.index c.index.result.now at (sym c.learns.ensures ∙ c.in-Some.is)
 
 pub turn-requires-clause-other : goal.turn-requires-clause-other
-turn-requires-clause-other g c =
+turn-requires-clause-other g c κs within =
     let at = at_read _ c.args.self.now c.args.index c.index.result.now c.self.view_is c.requires.there c.index.ensures in
     at_one (λ s. learnt_ahead s ≡ None) c.args.self.now c.args.index c.index.result.now at (sym c.learns.ensures ∙ c.in-None.is)

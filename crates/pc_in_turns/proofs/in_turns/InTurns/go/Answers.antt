@@ -4,10 +4,10 @@ use Rattle.pc_in_turns.proofs.Runners.{followed_in_turns}
 use Rattle.pc_in_turns.proofs.in_turns.InTurns.go.Goals as goal
 
 pub act-requires-clause-in_turns : goal.act-requires-clause-in_turns
-act-requires-clause-in_turns g c = followed_in_turns c.args.index c.args.self.now c.requires.in_turns c.follow_last.new.self c.in_ok-follow_last.ensures
+act-requires-clause-in_turns g c κs within = followed_in_turns c.args.index c.args.self.now c.requires.in_turns c.follow_last.new.self c.in_ok-follow_last.ensures
 
 pub act-requires-clause-there : goal.act-requires-clause-there
-act-requires-clause-there g c = followed_there c.args.index c.args.self.now c.follow_last.new.self c.in_ok-follow_last.ensures
+act-requires-clause-there g c κs within = followed_there c.args.index c.args.self.now c.follow_last.new.self c.in_ok-follow_last.ensures
 
 pub returns-then-len-entries-clause-gone : goal.returns-then-len-entries-clause-gone
 returns-then-len-entries-clause-gone g c =

@@ -22,10 +22,10 @@ returns-then-is_run_out-clause-over g c =
     at_one (λ s. IsRunOut s) c.loop.self c.args.index c.index.result.now at (c.is_run_out.ensures.over c.if-is_run_out.true)
 
 pub go_on-requires-clause-in_turns : goal.go_on-requires-clause-in_turns
-go_on-requires-clause-in_turns g c = gone_in_turns g.C.Clock.rule is_script_over c.args.index c.args.self.now c.requires.in_turns c.loop.self c.loop.invariant
+go_on-requires-clause-in_turns g c κs within = gone_in_turns g.C.Clock.rule is_script_over c.args.index c.args.self.now c.requires.in_turns c.loop.self c.loop.invariant
 
 pub go_on-requires-clause-going : goal.go_on-requires-clause-going
-go_on-requires-clause-going g c =
+go_on-requires-clause-going g c κs within =
     let there = gone_there g.C.Clock.rule is_script_over c.args.index c.args.self.now c.requires.in_turns c.loop.self c.loop.invariant in
     let at = at_read _ c.loop.self c.args.index c.index.result.now c.self.view_is there c.index.ensures in
     let says = subst (λ b. SaysWhetherDone (is_script_over c.index.result.now.at.reruns c.index.result.now.script) c.index.result.now b) c.if-is_run_out.false c.is_run_out.ensures.told in

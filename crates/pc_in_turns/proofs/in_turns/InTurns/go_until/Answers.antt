@@ -16,10 +16,10 @@ returns-then-is_opened g c =
     (at_one (λ s. SaysWhetherDone (are_items_over c.args.items s.at.reruns s.script) s true) c.loop.self c.args.index c.index.result.now at says)
 
 pub go_on-requires-clause-in_turns : goal.go_on-requires-clause-in_turns
-go_on-requires-clause-in_turns g c = gone_in_turns g.C.Clock.rule (are_items_over c.args.items) c.args.index c.args.self.now c.requires.in_turns c.loop.self c.loop.invariant
+go_on-requires-clause-in_turns g c κs within = gone_in_turns g.C.Clock.rule (are_items_over c.args.items) c.args.index c.args.self.now c.requires.in_turns c.loop.self c.loop.invariant
 
 pub go_on-requires-clause-going : goal.go_on-requires-clause-going
-go_on-requires-clause-going g c =
+go_on-requires-clause-going g c κs within =
     let there = gone_there g.C.Clock.rule (are_items_over c.args.items) c.args.index c.args.self.now c.requires.in_turns c.loop.self c.loop.invariant in
     let at = at_read _ c.loop.self c.args.index c.index.result.now c.self.view_is there c.index.ensures in
     let says = subst (λ b. SaysWhetherDone (are_items_over c.args.items c.index.result.now.at.reruns c.index.result.now.script) c.index.result.now b) c.if-is_opened.false c.is_opened.ensures in

@@ -6,10 +6,10 @@ pub loop-index-init : goal.loop-index-init
 loop-index-init g c = (went_none g.C.Clock.rule c.args.self.now c.requires, λ other s lt at. absurd (omega arith))
 
 pub go-requires-clause-in_turns : goal.go-requires-clause-in_turns
-go-requires-clause-in_turns g c = c.loop-index.invariant.0.in_turns
+go-requires-clause-in_turns g c κs within = c.loop-index.invariant.0.in_turns
 
 pub go-requires-clause-there : goal.go-requires-clause-there
-go-requires-clause-there g c =
+go-requires-clause-there g c κs within =
     let long = c.len-index-end.ensures ∙ (c.self.inside.sessions.ok.0 ∙ ap (λ t. length t.sessions) c.self.view_is) in
     subst (λ n. c.loop-index.index < n) (long ∙ (c.requires.runners.many ∙ sym (as_many g.C.Clock.rule c.args.self.now c.requires c.loop-index.self c.loop-index.invariant.0))) c.loop-index-test.true
 

@@ -5,10 +5,10 @@ pub loop-turn-init : goal.loop-turn-init
 loop-turn-init g c = took_none g.C.Clock.rule c.args.self.now c.requires.in_turns c.args.stated.now
 
 pub take-requires-clause-in_turns : goal.take-requires-clause-in_turns
-take-requires-clause-in_turns g c = c.loop-turn.invariant.in_turns
+take-requires-clause-in_turns g c κs within = c.loop-turn.invariant.in_turns
 
 pub take-requires-clause-there : goal.take-requires-clause-there
-take-requires-clause-there g c = rw c.loop-turn.invariant.work (c.requires.there c.loop-turn.turn-index _ c.loop-turn-test.true)
+take-requires-clause-there g c κs within = rw c.loop-turn.invariant.work (c.requires.there c.loop-turn.turn-index _ c.loop-turn-test.true)
 
 pub loop-turn-preserved : goal.loop-turn-preserved
 loop-turn-preserved g c =

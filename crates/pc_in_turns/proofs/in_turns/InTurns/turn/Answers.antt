@@ -2,8 +2,8 @@ use Rattle.pc_in_turns.proofs.Acting.{at_read, turned_now, scripted_at}
 use Rattle.pc_scripted.proofs.Beginning.{on_ok}
 use Rattle.pc_in_turns.proofs.in_turns.InTurns.turn.Goals as goal
 
-pub turn-requires : goal.turn-requires
-turn-requires g c =
+pub turn-requires-clause-scripted : goal.turn-requires-clause-scripted
+turn-requires-clause-scripted g c κs within =
     scripted_at c.args.self.now c.args.index c.index_mut.result.now c.requires.in_turns
     (at_read _ c.args.self.now c.args.index c.index_mut.result.now c.self.view_is c.requires.there c.index_mut.ensures.value)
 

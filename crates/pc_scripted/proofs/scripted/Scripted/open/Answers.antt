@@ -4,7 +4,7 @@ use Rattle.pc_scripted.specs.Taking.{are_items_over, SaysWhetherDone}
 use Rattle.pc_scripted.proofs.scripted.Scripted.open.Goals as goal
 
 pub loop-init : goal.loop-init
-loop-init g c = (gone_nothing (are_items_over c.args.items c.args.self.now.at.reruns c.args.self.now.script) c.args.self.now c.requires, refl)
+loop-init g c = (gone_nothing (are_items_over c.args.items c.args.self.now.at.reruns c.args.self.now.script) c.args.self.now c.requires.scripted, refl)
 
 pub is_opened-requires : goal.is_opened-requires
 is_opened-requires g c = c.loop.invariant.0.by.scripted

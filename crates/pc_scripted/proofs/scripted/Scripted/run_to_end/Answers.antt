@@ -4,7 +4,7 @@ use Rattle.pc_scripted.specs.Taking.{is_script_over, SaysWhetherDone}
 use Rattle.pc_scripted.proofs.scripted.Scripted.run_to_end.Goals as goal
 
 pub loop-init : goal.loop-init
-loop-init g c = (gone_nothing (is_script_over c.args.self.now.at.reruns c.args.self.now.script) c.args.self.now c.requires, refl)
+loop-init g c = (gone_nothing (is_script_over c.args.self.now.at.reruns c.args.self.now.script) c.args.self.now c.requires.scripted, refl)
 
 pub is_run_out-requires : goal.is_run_out-requires
 is_run_out-requires g c = c.loop.invariant.0.by.scripted

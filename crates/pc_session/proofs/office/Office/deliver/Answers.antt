@@ -6,23 +6,23 @@ use Rattle.pc_session.specs.InCall.{HasOpenCall, IsWholeOut}
 use Rattle.pc_session.proofs.Ending.{nothing_breaks_if}
 use Rattle.pc_session.proofs.office.Office.deliver.Goals as goal
 
-pub deliver-requires-clause-none_waits : goal.deliver-requires-clause-none_waits
-deliver-requires-clause-none_waits g c = subst (λ s. s.desk.replies ≡ []) (sym c.self.view_is) c.requires.none_waits
+pub deliver_wave-requires-clause-none_waits : goal.deliver_wave-requires-clause-none_waits
+deliver_wave-requires-clause-none_waits g c κs within = subst (λ s. s.desk.replies ≡ []) (sym c.self.view_is) c.requires.none_waits
 
 pub returns-clause-calls : goal.returns-clause-calls
 returns-clause-calls g c =
     let calls = subst (λ s. HasOpenCall s c.args.reading) (sym c.self.view_is) c.requires.calls in
-    on_ok_weaker c.deliver.result (λ made. delivered_open _ c.args.reading calls c.deliver.new.self made) c.deliver.ensures.ok
+    on_ok_weaker c.deliver_wave.result (λ made. delivered_open _ c.args.reading calls c.deliver_wave.new.self made) c.deliver_wave.ensures.ok
 
 pub returns-clause-goes : goal.returns-clause-goes
 returns-clause-goes g c =
     let calls = subst (λ s. HasOpenCall s c.args.reading) (sym c.self.view_is) c.requires.calls in
-    on_ok_weaker c.deliver.result (λ made. inside_from _ c.args.self.now _ c.self.view_is (delivered_goes _ c.args.reading calls c.deliver.new.self made)) c.deliver.ensures.ok
+    on_ok_weaker c.deliver_wave.result (λ made. inside_from _ c.args.self.now _ c.self.view_is (delivered_goes _ c.args.reading calls c.deliver_wave.new.self made)) c.deliver_wave.ensures.ok
 
 pub returns-clause-whole : goal.returns-clause-whole
 returns-clause-whole g c =
     let calls = subst (λ s. HasOpenCall s c.args.reading) (sym c.self.view_is) c.requires.calls in
-    on_ok_weaker c.deliver.result (λ made. delivered_whole _ c.args.reading calls c.deliver.new.self made (subst IsWholeOut (sym c.self.view_is) c.requires.whole)) c.deliver.ensures.ok
+    on_ok_weaker c.deliver_wave.result (λ made. delivered_whole _ c.args.reading calls c.deliver_wave.new.self made (subst IsWholeOut (sym c.self.view_is) c.requires.whole)) c.deliver_wave.ensures.ok
 
 pub returns-clause-ended : goal.returns-clause-ended
-returns-clause-ended g c = nothing_breaks_if _ c.args.self.now c.deliver.new.self c.self.view_is (λ made. ⊥) c.deliver.result c.requires.calls.track (λ event none. absurd none) c.deliver.ensures.ended
+returns-clause-ended g c = nothing_breaks_if _ c.args.self.now c.deliver_wave.new.self c.self.view_is (λ made. ⊥) c.deliver_wave.result c.requires.calls.track (λ event none. absurd none) c.deliver_wave.ensures.ended

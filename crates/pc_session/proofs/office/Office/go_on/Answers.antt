@@ -8,7 +8,7 @@ pub send-requires-clause-between : goal.send-requires-clause-between
 send-requires-clause-between g c = subst (λ s. IsBetweenWaves s.desk) (sym c.in_ok-request.ensures.same) c.requires.between
 
 pub wave-requires-clause-between : goal.wave-requires-clause-between
-wave-requires-clause-between g c = subst (λ s. IsBetweenWaves s.desk) (sym c.in_ok-request.ensures.same) c.requires.between
+wave-requires-clause-between g c κs within = subst (λ s. IsBetweenWaves s.desk) (sym c.in_ok-request.ensures.same) c.requires.between
 
 pub returns-in-Tell-clause-ended : goal.returns-in-Tell-clause-ended
 returns-in-Tell-clause-ended g c =

@@ -7,10 +7,10 @@ use Rattle.pc_session.proofs.Ending.{inside_breaks}
 use Rattle.pc_session.proofs.office.Office.wave.Goals as goal
 
 pub deliver-requires-clause-whole : goal.deliver-requires-clause-whole
-deliver-requires-clause-whole g c = whole_wave c.args.self.now c.args.reading c.requires.calls c.requires.due
+deliver-requires-clause-whole g c κs within = whole_wave c.args.self.now c.args.reading c.requires.calls c.requires.due
 
 pub deliver-requires-clause-none_waits : goal.deliver-requires-clause-none_waits
-deliver-requires-clause-none_waits g c = c.requires.between.none_waits
+deliver-requires-clause-none_waits g c κs within = c.requires.between.none_waits
 
 pub hear-requires-clause-none_waits : goal.hear-requires-clause-none_waits
 hear-requires-clause-none_waits g c = c.loop.invariant.3

@@ -1,0 +1,2 @@
+-- What becomes of the messages of a wave.
+pub mod Delivery
