@@ -3,3 +3,4 @@ pub mod KeyTables
 pub mod VersionOrder
 pub mod TxnOrder
 pub mod SpanBounds
+pub mod KeyText

@@ -15,24 +15,25 @@ use crate::value::BaseFault;
 use std::alloc::Global;
 use std::cmp::Ordering;
 use std::marker::Model;
+use std::str;
 
 /// A key of the map: 1 to 64 bytes, each a letter, a digit, `_`, `/` or `.`.
 ///
-/// Keys are ordered byte by byte. Contracts see a key as its bytes.
+/// Keys are ordered byte by byte, as texts are, of which std compares several bytes at a time. Contracts see a key as its bytes.
 #[derive(Debug, Drop)]
 pub struct Key {
-    bytes: Vec<u8>,
+    text: String,
 }
 
 impl Model for Key {
-    ghost use Rattle.std.specs.Prelude.{ℕ, List};
+    ghost use Rattle.std.specs.Prelude.{ℕ, List, string_bytes};
     ghost use Rattle.pc_base.specs.Key.{IsKey};
 
     ghost Value = { List ℕ };
 
-    ghost view = { λ k. k.bytes.items };
+    ghost view = { λ k. string_bytes k.text };
 
-    ghost invariant = { λ k. IsKey k.bytes.items };
+    ghost invariant = { λ k. IsKey (string_bytes k.text) };
 }
 
 impl Key {
@@ -49,15 +50,18 @@ impl Key {
         if !are_key_bytes(bytes) {
             return Err(BaseFault::KeyByte);
         }
-        let bytes = Vec::from_slice(alloc, bytes)?;
-        Ok(Key { bytes })
+        let Ok(text) = str::from_utf8(bytes) else {
+            unreachable!()
+        };
+        let text = String::from_str(alloc, text)?;
+        Ok(Key { text })
     }
 
     pub fn as_bytes(&self) -> &[u8]
         ensures bytes { result.now ≡ self.now }
         ensures allowed { IsKey self.now }
     {
-        self.bytes.as_slice()
+        self.text.as_bytes()
     }
 }
 
@@ -75,8 +79,8 @@ fn is_key_byte(byte: u8) -> bool
 
 impl TryCopy for Key {
     fn copy(&self) -> Result<Key, NoMemory> {
-        let bytes = self.bytes.clone()?;
-        Ok(Key { bytes })
+        let text = self.text.clone()?;
+        Ok(Key { text })
     }
 }
 
@@ -86,7 +90,7 @@ impl PartialEq for Key {
     ghost laws = { Prim.search (comparing, rules) };
 
     fn eq(&self, other: &Key) -> bool {
-        self.as_bytes() == other.as_bytes()
+        self.text == other.text
     }
 }
 
@@ -114,6 +118,6 @@ impl Ord for Key {
     ghost matches_eq = { Prim.search (comparing, rules) };
 
     fn cmp(&self, other: &Key) -> Ordering {
-        self.as_bytes().cmp(&other.as_bytes())
+        self.text.cmp(&other.text)
     }
 }

@@ -494,25 +494,12 @@ module _ {C : Type 0} (d : DeskMeaning C) (own : TxnId) (holder : TxnMeta) (met 
 
   -- ---- its end
 
-  ends_over : (p : Progress) (view : View) → (recovering_due p r ≡ machine.Settled view) ⊎ (recovering_due p r ≡ machine.Changed view) → p ≡ progresses.Over view
-  ends_over (progresses.Found n) view (inl e) = absurd cc
-  ends_over (progresses.Found n) view (inr e) = absurd cc
-  ends_over (progresses.Missing key) view (inl e) = absurd cc
-  ends_over (progresses.Missing key) view (inr e) = absurd cc
-  ends_over (progresses.Over shown) view is = by (is_final_view shown) is
-    where
-      by : (b : Bool) → (over_by b shown ≡ machine.Settled view) ⊎ (over_by b shown ≡ machine.Changed view) → progresses.Over shown ≡ progresses.Over view
-      by true (inl e) = let same : shown ≡ view = cc in ap (λ v. progresses.Over v) same
-      by true (inr e) = absurd cc
-      by false (inl e) = absurd cc
-      by false (inr e) = let same : shown ≡ view = cc in ap (λ v. progresses.Over v) same
-
   -- the record was decided
   pub recovering_ends : (given : MachineNext) (view : View) → given ≡ recovering_next r → (given ≡ machine.Settled view) ⊎ (given ≡ machine.Changed view) → HasRecoveredInRound d own holder met start now view
   recovering_ends given view due is = record {
     r = r;
     recovered = f;
-    over = ends_over r.progress view (elim is [ inl e ↦ inl (sym due ∙ e) | inr e ↦ inr (sym due ∙ e) ]);
+    over = is_over_with r.progress r view (elim is [ inl e ↦ inl (sym due ∙ e) | inr e ↦ inr (sym due ∙ e) ]);
   }
 
 -- ---- the round goes on by it

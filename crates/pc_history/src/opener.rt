@@ -119,7 +119,7 @@ impl<W: World, N: Named<W>> Opener<W, N> {
         if !whole {
             return Err(NoMemory);
         }
-        entries.sort_by_key(|entry| entry.step)?;
+        entries.sort_by_cached_key(|entry| entry.step)?;
         Ok(entries)
     }
 }

@@ -1,3 +1,4 @@
 pub mod Deciding
 pub mod Going
+pub mod Over
 pub mod Stepping

@@ -313,19 +313,6 @@ module _ {C : Type 0} (maker : RoundMaker) (old : DeskMeaning C) (meta : TxnMeta
 
 -- ---- its end
 
-ends-over : (p : Progress) (m : Recovering) (view : View) → (recovering_due p m ≡ machine.Settled view) ⊎ (recovering_due p m ≡ machine.Changed view) → p ≡ progresses.Over view
-ends-over (progresses.Found n) m view (inl e) = absurd cc
-ends-over (progresses.Found n) m view (inr e) = absurd cc
-ends-over (progresses.Missing key) m view (inl e) = absurd cc
-ends-over (progresses.Missing key) m view (inr e) = absurd cc
-ends-over (progresses.Over shown) m view is = by (is_final_view shown) is
-  where
-    by : (b : Bool) → (over_by b shown ≡ machine.Settled view) ⊎ (over_by b shown ≡ machine.Changed view) → progresses.Over shown ≡ progresses.Over view
-    by true (inl e) = let same : shown ≡ view = cc in ap (λ v. progresses.Over v) same
-    by true (inr e) = absurd cc
-    by false (inl e) = absurd cc
-    by false (inr e) = let same : shown ≡ view = cc in ap (λ v. progresses.Over v) same
-
 module _ {C : Type 0} (maker : RoundMaker) (old : DeskMeaning C) (meta : TxnMeta) (met : View) (m : Recovering) (d : DeskMeaning C) (f : IsBeingRecovered maker old meta met m d) where
   anchored-now : anchor_heard meta.id (known_of d.log.part.own).heard ≡ Some meta.anchor
   anchored-now =
@@ -335,7 +322,7 @@ module _ {C : Type 0} (maker : RoundMaker) (old : DeskMeaning C) (meta : TxnMeta
   -- the record was decided
   pub recovering_ends : (given : MachineNext) (view : View) → given ≡ recovering_next m → (given ≡ machine.Settled view) ⊎ (given ≡ machine.Changed view) → HasRecovered maker meta met old d view
   recovering_ends given view due is =
-      let over : m.progress ≡ progresses.Over view = ends-over m.progress m view (elim is [ inl e ↦ inl (sym due ∙ e) | inr e ↦ inr (sym due ∙ e) ]) in
+      let over : m.progress ≡ progresses.Over view = is_over_with m.progress m view (elim is [ inl e ↦ inl (sym due ∙ e) | inr e ↦ inr (sym due ∙ e) ]) in
       let come = subst (λ (p : Progress). HasRecoveredTo maker meta f.start.epoch f.start.ts f.start.writes p f.traffic (known_of d.log.part.own)) over f.come in
       record {
         traffic = f.traffic;

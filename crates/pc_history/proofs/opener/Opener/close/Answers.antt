@@ -17,8 +17,8 @@ pub returns-clause-history : goal.returns-clause-history
 returns-clause-history g c =
     let i = c.self.inside in
     let t = i.table.value.shared in
-    let sorted = c.sort_by_key.new.self.items in
-    let sort = c.in_ok-sort_by_key.ensures in
+    let sorted = c.sort_by_cached_key.new.self.items in
+    let sort = c.in_ok-sort_by_cached_key.ensures in
     subst (λ (o : OpenerMeaning g.row.W.Denot g.row.W-Event.Denot). IsHistoryOf (g.W.World.sense o.world) sorted o.parts) c.self.view_is
     (closed-history (g.W.World.sense t.key) i.seat.me.0.parts _ i.entries.items sorted (c.load.ensures.2.1 t.key c.self.invariant.world_is) (c.self.invariant.entries_are (search rules)) sort.permutation
     (IsNonDecreasingBy-from_sort_by_key (λ (e : Entry g.row.W-Event.Denot). e.step) _ sort.sorted (λ a r q k. search rules)))
