@@ -1,9 +1,9 @@
 -- A call goes on once the heartbeat of its transaction was heard.
-use Rattle.std.specs.Prelude.{Option, None, Some}
+use Rattle.std.specs.Prelude.{Bool, Option, None, Some}
 use Rattle.pc_call.specs.declared.purpose.Purpose.{Purpose}
 use Rattle.pc_call.specs.declared.purpose.Purpose.TheVariants as purposes
 use Rattle.pc_call.specs.Fresh.{IsFresh}
-use Rattle.pc_call.specs.Suiting.{SuitsFlight}
+use Rattle.pc_call.specs.Suiting.{SuitsFlightIn}
 use Rattle.pc_proto.specs.declared.call.Call.{Call}
 use Rattle.pc_proto.specs.declared.why.Why.{Why}
 use Rattle.pc_txn.specs.declared.txn.OpenTxn.{OpenTxn}
@@ -17,8 +17,8 @@ call_kept (purposes.Beat call reading) = Some call
 call_kept _ = None
 
 -- The statement begins, its heartbeat heard: it reads, writes or commits, and suits the transaction.
-pub record GoesOnAlive (k : Known) (x : OpenTxn) (s : Statement) : Type 0 where
+pub record GoesOnAlive (pipelining : Bool) (k : Known) (x : OpenTxn) (s : Statement) : Type 0 where
   pub why : Why
   pub fresh : IsFresh k x s why
   pub asks : MayBlock s.call
-  pub suits : SuitsFlight s.call x.in_flight
+  pub suits : SuitsFlightIn pipelining s.call x.in_flight

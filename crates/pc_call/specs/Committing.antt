@@ -1,8 +1,12 @@
 -- A commit goes on: none of its messages is waited for, and it refreshes or commits next.
 use Rattle.std.specs.Prelude.{◌≡◌, ℕ, Option, None, Some, List, [], All}
+use Rattle.pc_call.specs.Suiting.{SuitsFlightIn}
+use Rattle.pc_proto.specs.declared.call.Call.TheVariants as calls
+use Rattle.pc_call.specs.Setting.{Setting}
 use Rattle.pc_call.specs.Paced.{IsPaced}
-use Rattle.pc_call.specs.Serving.{IsCommitCall, MetNoWrite, IsOpenIn, IsRefreshUpTo, IsSplit, WasRefusedIfCommit}
-use Rattle.pc_call.specs.Telling.{MayTellOpen}
+use Rattle.pc_call.specs.Beside.{ArePastOrInFlight}
+use Rattle.pc_call.specs.Serving.{IsCommitCall, MetNoWrite, NoneMetEighth, IsOpenIn, IsRefreshUpTo, IsSplit, WasRefusedIfCommit}
+use Rattle.pc_call.specs.GivenUp.{GivesUpBy}
 use Rattle.pc_proto.specs.declared.answer.Answer.TheVariants as answers
 use Rattle.pc_proto.specs.declared.why.Why.TheVariants as whys
 use Rattle.pc_proto.specs.Replies.{status_ts}
@@ -17,12 +21,16 @@ use Rattle.pc_world.specs.Known.Reads.{IsGoodAt}
 use Rattle.pc_world.specs.Known.Statements.{Statement}
 use Rattle.pc_world.specs.Known.Transactions.{Txn}
 use Rattle.pc_world.specs.Tell.Refusal.{WasMoved}
+use Rattle.pc_world.specs.StageFate.{IsLate, SentStage}
 
 -- The open transaction commits, after its commit was moved so often: every commit that was sent in the call was refused, each refresh was to a
--- timestamp that is no later than this one, and held, and heartbeats went out where they were due.
+-- timestamp that is no later than this one, and held, and heartbeats went out where they were due. Each stage that is kept is late, no request met its
+-- eighth, and each was sent once more than it met intents, but for the puts of writes in flight.
 pub record CommitsUpTo (bound refusals : ℕ) (k : Known) (t : Txn) (x : OpenTxn) (s : Statement) : Type 0 where
   pub open_in : IsOpenIn k t
-  pub stands : TxnStands k [] None t x
+  pub stages : List SentStage
+  pub stands : TxnStands k stages None t x
+  pub late : All (IsLate k.heard) stages
   pub client : x.cause ≡ whys.Client
   pub opened : k.statement ≡ Some s
   pub split : IsSplit k
@@ -32,6 +40,8 @@ pub record CommitsUpTo (bound refusals : ℕ) (k : Known) (t : Txn) (x : OpenTxn
   pub refreshes : All (λ m. IsRefreshUpTo bound m.request) k.sent_now
   pub held : All MetNoWrite k.heard_now
   pub beaten : HasBeaten k t
+  pub none_eighth : NoneMetEighth k.heard_now
+  pub done : ArePastOrInFlight k t.id t.epoch x.in_flight
 
 -- It commits where its reads are good at its write timestamp.
 pub record CommitsNow (refusals : ℕ) (k : Known) (x : OpenTxn) (s : Statement) : Type 0 where
@@ -45,10 +55,11 @@ pub record CommitsOn (refusals : ℕ) (k : Known) (x : OpenTxn) : Type 0 where
   pub s : Statement
   pub on : CommitsUpTo t.read_ts refusals k t x s
 
--- What follows a commit that was refused where its record stands: it goes on after so many refusals, or is told that it was moved there.
-abbrev pub IsRefusalOf : List (List ℕ) → ℕ → Known → ℕ → OpenTxn → Option ℕ → Type 0
-IsRefusalOf splits session k recorded x None = MayTellOpen splits session k (answers.Moved recorded) x
-IsRefusalOf splits session k recorded x (Some refusals) = CommitsOn refusals k x
+-- What follows a commit that was refused where its record stands: it goes on after so many refusals, or gives up, as it was moved there as often as it may
+-- be.
+abbrev pub IsRefusalOf : Setting → ℕ → Known → ℕ → OpenTxn → Option ℕ → Type 0
+IsRefusalOf set session k recorded x None = GivesUpBy k x (answers.Moved recorded)
+IsRefusalOf set session k recorded x (Some refusals) = CommitsOn refusals k x × SuitsFlightIn set.course.pipelines calls.Commit x.in_flight
 
 -- The commit was moved as often as it may be, there the last time.
 pub record IsUsedUp (now : Known) (recorded : ℕ) : Type 0 where

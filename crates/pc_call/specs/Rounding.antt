@@ -1,12 +1,14 @@
 -- The round of a conflict that an open call met was made.
-use Rattle.std.specs.Prelude.{◌≡◌, ◌+◌, ◌≤◌, false, if◌then◌else◌, Option, None, Some, List, All, Any, IsTrue, count_by, ⊤}
+use Rattle.std.specs.Prelude.{◌≡◌, ◌+◌, ◌≤◌, false, if◌then◌else◌, Option, None, Some, List, All, Any, IsTrue, count_by, drop, length, ⊤}
 use Rattle.pc_base.specs.declared.transaction.TxnId.{TxnId}
 use Rattle.pc_base.specs.Transaction.{same_txn}
 use Rattle.pc_call.specs.Paced.{KeepsBehindPushes, was_met, was_pushed}
+use Rattle.pc_follows.specs.RoundsMade.{rounds_made}
 use Rattle.pc_proto.specs.declared.reply.Reply.{Reply}
 use Rattle.pc_proto.specs.declared.reply.Reply.TheVariants as replies
 use Rattle.pc_proto.specs.Replies.{holder_in, is_conflict}
 use Rattle.pc_proto.specs.Requests.{is_about}
+use Rattle.pc_reads.specs.Replies.{unrefreshed_by}
 use Rattle.pc_txn.specs.Standing.{is_query_of}
 use Rattle.pc_wave.specs.Due.{FollowsConflict}
 use Rattle.pc_wave.specs.Standing.{HasMore, goes_beside}
@@ -24,8 +26,8 @@ abbrev pub KeepsPace : Option TxnId → List Heard → List Heard → Type 0
 KeepsPace None before now = ⊤
 KeepsPace (Some id) before now = IsPushedOnce id before now
 
--- Since then the session has made the round of this conflict, and nothing that it sent or heard besides is of its call, speaks of the record
--- or asks for a write of its open transaction, of this name, or met an intent.
+-- Since then the session has made the round of this conflict, the next one, and nothing that it sent or heard besides is of its call, speaks of the record
+-- or asks for a write of its open transaction, of this name, or met an intent or a write.
 pub record MakesRound (start k : Known) (own : TxnId) (conflict : Reply) : Type 0 where
   pub sent_more : List Sent
   pub heard_more : List Heard
@@ -35,7 +37,11 @@ pub record MakesRound (start k : Known) (own : TxnId) (conflict : Reply) : Type 
   pub other : All (λ h. is_about own h.request ≡ false) heard_more
   pub unqueried : All (λ h. is_query_of own h.request ≡ false) heard_more
   pub unmet : All (λ h. is_conflict h.reply ≡ false) heard_more
+  pub unrefreshed : All (λ h. unrefreshed_by h.reply ≡ None) heard_more
+  pub numbered : All (λ m. length start.sent + 1 ≤ m.number) sent_more
   pub followed : FollowsConflict conflict heard_more
+  pub over : (rounds_made k).waiting ≡ drop 1 (rounds_made start).waiting
+  pub unpushed : (rounds_made k).push ≡ None
   pub pace : KeepsPace (holder_in conflict) start.heard_now k.heard_now
   pub statement : k.statement ≡ start.statement
   pub is_open : k.is_open ≡ start.is_open

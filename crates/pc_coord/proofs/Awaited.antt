@@ -9,7 +9,7 @@ use Rattle.pc_base.specs.declared.span.Span.{Span}
 use Rattle.pc_call.proofs.Lists.{all_behind, all_unmapped}
 use Rattle.pc_call.specs.declared.purpose.Purpose.{Purpose}
 use Rattle.pc_call.specs.declared.purpose.Purpose.TheVariants as purposes
-use Rattle.pc_call.specs.Serving.{AreReadsOf, InCall, LaysLast, LaysNext, Serves}
+use Rattle.pc_call.specs.Serving.{AreReadsOf, InCall, LaysLast, LaysNext, SendsAgain, Serves}
 use Rattle.pc_proto.specs.declared.call.Call.{Call}
 use Rattle.pc_proto.specs.declared.call.Call.TheVariants as calls
 use Rattle.pc_proto.specs.declared.request.Request.{Request}
@@ -25,6 +25,7 @@ use Rattle.pc_wave.specs.declared.message.Message.{Message}
 use Rattle.pc_wave.specs.declared.step.Step.TheVariants as steps
 use Rattle.pc_wave.specs.Messages.{awaits_at, first_in_conflict, has_answer, is_to_send, step_of, wave_awaits}
 use Rattle.pc_wave.specs.Standing.{IsAsFar, IsMessageAt, IsOnItsWay, MessageStands}
+use Rattle.pc_wave.specs.Course.{plain_course}
 use Rattle.pc_follows.specs.Resends.{AreAnsweredNow}
 use Rattle.pc_world.specs.Known.{Known}
 use Rattle.pc_world.specs.Known.Traffic.{Heard, Sent, request_sent}
@@ -33,13 +34,13 @@ use Rattle.pc_world.specs.SameRequest.{IsSameRequest}
 use Rattle.pc_world.specs.Tell.Refusal.{is_heard}
 
 -- a message that is waited for is on its way
-pub awaited_out : (k : Known) (number : ℕ) (ms : List Message) → All (MessageStands k) ms → wave_awaits number ms ≡ true → (r : Request) × IsOnItsWay k number r
+pub awaited_out : (k : Known) (number : ℕ) (ms : List Message) → All (MessageStands plain_course k) ms → wave_awaits number ms ≡ true → (r : Request) × IsOnItsWay plain_course k number r
 awaited_out k number [] a waits = absurd cc
-awaited_out k number (m ∷ ms) a waits = by (awaited_out k number ms (All-tail (MessageStands k) m ms a)) (awaits_at number m) refl waits
+awaited_out k number (m ∷ ms) a waits = by (awaited_out k number ms (All-tail (MessageStands plain_course k) m ms a)) (awaits_at number m) refl waits
   where
-    by : (wave_awaits number ms ≡ true → (r : Request) × IsOnItsWay k number r) → (b : Bool) → awaits_at number m ≡ b → (b || wave_awaits number ms) ≡ true → (r : Request) × IsOnItsWay k number r
+    by : (wave_awaits number ms ≡ true → (r : Request) × IsOnItsWay plain_course k number r) → (b : Bool) → awaits_at number m ≡ b → (b || wave_awaits number ms) ≡ true → (r : Request) × IsOnItsWay plain_course k number r
     by later true is e =
-        let far : IsOnItsWay k number m.request × (m.conflicts < MOST_CONFLICTS) = subst (λ p. IsAsFar k m.request m.conflicts p) (awaits_as number m.progress is) (All-head (MessageStands k) m ms a).as_far in
+        let far : IsOnItsWay plain_course k number m.request × (m.conflicts < MOST_CONFLICTS) = subst (λ p. IsAsFar plain_course k m.request m.conflicts p) (awaits_as number m.progress is) (All-head (MessageStands plain_course k) m ms a).as_far in
         (m.request, far.0)
     by later false is e = later e
 
@@ -101,16 +102,18 @@ module _ (session : ℕ) (splits : List (List ℕ)) (k : Known) (x : OpenTxn) (p
       (All-map (IsOwn session k.begun) (λ p. own_scan x p.1) (pieces splits span) (every (λ p. IsOwn session k.begun (own_scan x p.1)) (λ p. own_scan_is p.1) (pieces splits span)))
   own_reads call rs e = absurd e
 
-  own_writes : (key : List ℕ) (value : Option (List ℕ)) (again : Bool) (m : Message) → LaysNext k w.s w.t x key value again m ⊎ LaysLast k w.s w.t x key value again m → IsOwn session k.begun m.request
-  own_writes key value again m (inl l) = own_put m.request _ (x.seq + 1) x.write_ts key value l.said refl
-  own_writes key value again m (inr l) = own_put m.request _ l.w.seq x.write_ts l.w.key l.w.value l.said refl
+  own_writes : (key : List ℕ) (value : Option (List ℕ)) (m : Message) → LaysNext k w.s w.t x key value m ⊎ LaysLast k w.t x key value m → IsOwn session k.begun m.request
+  own_writes key value m (inl l) = own_put m.request _ (x.seq + 1) x.write_ts key value l.said refl
+  own_writes key value m (inr l) = own_put m.request _ l.w.seq x.write_ts l.w.key l.w.value l.said refl
 
   all_own : (p : Purpose) → Serves splits k w.s w.t x p ms → All (λ m. IsOwn session k.begun m.request) ms
   all_own (purposes.Beat call reading) s =
       own_one s.m s.one (subst (IsOwn session k.begun) (sym s.said)
       (record { write = tt; record_of = λ id about whose. let e : x.id ≡ id = same_Some x.id id about in omega (arith, low, ap (λ i. i.number) e); query_of = tt }))
+  all_own (purposes.Prove call) s =
+      All-weaker (SendsAgain call k w.t x) (λ m. IsOwn session k.begun m.request) (λ m a. own_put m.request _ a.w.seq a.ts a.w.key a.w.value a.said refl) ms s.again
   all_own purposes.Read s = all_unmapped (IsOwn session k.begun) (λ m. m.request) ms (own_reads w.s.call _ s.asked)
-  all_own (purposes.Write again) s = own_one s.m s.one (own_writes s.key s.value again s.m s.lays)
+  all_own purposes.Write s = own_one s.m s.one (own_writes s.key s.value s.m s.lays)
   all_own (purposes.Refresh n) s =
       all_unmapped (IsOwn session k.begun) (λ m. m.request) ms
       (subst (λ rs. All (IsOwn session k.begun) rs) (sym s.asked)

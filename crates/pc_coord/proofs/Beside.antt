@@ -16,12 +16,13 @@ use Rattle.pc_proto.specs.Stamps.{why_stamps}
 use Rattle.pc_txn.proofs.Keeping.{quiet_leaves, stands_on}
 use Rattle.pc_txn.specs.Counted.{IsCounted, IsOfBegun, IsOwn, IsOwnHeard, IsOwnSent, IsOwnWrite, IsQueryOfBegun}
 use Rattle.pc_txn.specs.declared.txn.OpenTxn.{OpenTxn}
-use Rattle.pc_txn.specs.Standing.{HasMovedOn, LeavesAsIs, TxnStands, is_plain, is_query_of}
+use Rattle.pc_txn.specs.Standing.{HasMovedOn, LeavesAsIs, TxnStands, is_plain, is_query_of, MissedNothing}
 use Rattle.pc_wave.specs.Standing.{HasMore, goes_beside}
 use Rattle.pc_world.specs.Known.{Known}
 use Rattle.pc_world.specs.Known.Traffic.{Heard}
 use Rattle.pc_world.specs.Known.Transactions.{Txn}
 use Rattle.pc_world.specs.StageFate.{SentCommit}
+use Rattle.pc_txn.proofs.Above.{none_missed_on}
 
 all_both : {X : Type 0} (P Q R : X → Type 0) → ((x : X) → P x → Q x → R x) → (xs : List X) → All P xs → All Q xs → All R xs
 all_both P Q R on [] p q = All-nil R
@@ -121,6 +122,7 @@ module _ (c : Coordination) (start k : Known) (later : IsLaterBeside c start k) 
       t = o.t;
       open_in = record { others = o.open_in.others; is_open = later.is_open ∙ o.open_in.is_open; first = later.txns ∙ o.open_in.first };
       stands = stands-beside None o.t o.stands;
+      unmissed = subst (λ hs. MissedNothing x.id hs) (sym later.heard) (none_missed_on x.id start.heard later.heard_more o.unmissed unqueried-beside);
       cause = o.cause;
       low = All-weaker (λ ts. ts ≤ start.top + 1) (λ ts. ts ≤ k.top + 1) (λ ts low. omega (arith, low, later.top)) (why_stamps x.cause) o.low;
     }

@@ -164,9 +164,9 @@ plain_alive reply is = refl
 
 module _ (c : Coordination) (call : OpenCall) (x : OpenTxn) (number : ℕ) (reply : Reply) (k : Known) (h : Heard) (is : HearsNow c call x number reply k h) where
   -- once its write was written, no conflict waits
-  pub written_none : (again : Bool) → call.purpose ≡ purposes.Write again → is_conflict reply ≡ false → list_any is_in_conflict (first_changed (awaits_at number) (back_with number reply) call.wave) ≡ false
-  written_none again writes plain =
-      let s = served_write c.splits k x call.purpose call.wave is.in_call again writes in
+  pub written_none : call.purpose ≡ purposes.Write → is_conflict reply ≡ false → list_any is_in_conflict (first_changed (awaits_at number) (back_with number reply) call.wave) ≡ false
+  written_none writes plain =
+      let s = served_write c.splits k x call.purpose call.wave is.in_call writes in
       one_back number reply call.wave s.m s.one plain is.waited
 
   -- nor once its heartbeat was answered

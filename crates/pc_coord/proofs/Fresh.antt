@@ -28,6 +28,7 @@ use Rattle.pc_wave.specs.declared.message.Progress.TheVariants as progresses
 use Rattle.pc_wave.specs.declared.step.Step.TheVariants as steps
 use Rattle.pc_wave.specs.Messages.{has_answer, is_to_send, message_to_send, progress_awaits, progress_has_answer, progress_to_send, step_of, wave_awaits}
 use Rattle.pc_wave.specs.Standing.{IsAsFar, IsMessageAt, IsSentUnder, MessageStands}
+use Rattle.pc_wave.specs.Course.{plain_course}
 use Rattle.pc_coord.proofs.Dues.{answered_all}
 use Rattle.pc_world.specs.Known.{Known}
 use Rattle.pc_world.specs.Known.Transactions.{Txn}
@@ -46,6 +47,7 @@ stands_caused k stages commit t x why st = record {
   views = st.views;
   staged = st.staged;
   late = st.late;
+  live = st.live;
   shown = st.shown;
   puts = st.puts;
   put_heard = st.put_heard;
@@ -66,6 +68,7 @@ fresh_asked call reading k x o =
       stands =
           stands_caused k2 [] None o.t x whys.Client
           (stands_on k k2 [] None o.t x [] [] o.stands on (All-nil (λ m. is_plain m.request ≡ true)) (All-nil (LeavesAsIs o.t)));
+      unmissed = o.unmissed;
       client = refl;
       cause = o.cause;
       low = All-weaker (λ ts. ts ≤ k.top + 1) (λ ts. ts ≤ k2.top + 1) (λ ts low. omega (arith, low)) (why_stamps x.cause) o.low;
@@ -75,20 +78,20 @@ fresh_asked call reading k x o =
     }
 
 module _ (k : Known) (none : k.sent_now ≡ []) where
-  none_out : (number : ℕ) (request : Request) → IsSentUnder k number request → ⊥
+  none_out : (number : ℕ) (request : Request) → IsSentUnder plain_course k number request → ⊥
   none_out number request out =
       let a : Any (IsMessageAt number request) [] = subst (λ ms. Any (IsMessageAt number request) ms) none out.now in
       absurd (omega (arith, a.2))
 
-  unsent_at : (request : Request) (conflicts : ℕ) (p : Progress) → IsAsFar k request conflicts p → progress_to_send p ≡ true
+  unsent_at : (request : Request) (conflicts : ℕ) (p : Progress) → IsAsFar plain_course k request conflicts p → progress_to_send p ≡ true
   unsent_at request conflicts progresses.ToSend far = refl
   unsent_at request conflicts (progresses.Sent number) far = absurd (none_out number request far.0.out)
   unsent_at request conflicts (progresses.Met number conflict) far = absurd (none_out number request far.out)
   unsent_at request conflicts (progresses.Answered number reply) far = absurd (none_out number request far.0.out)
 
   -- where nothing was sent in the call, each of its messages is to be sent
-  pub all_unsent : (ms : List Message) → All (MessageStands k) ms → All (λ m. is_to_send m ≡ true) ms
-  all_unsent ms stand = All-weaker (MessageStands k) (λ m. is_to_send m ≡ true) (λ m s. unsent_at m.request m.conflicts m.progress s.as_far) ms stand
+  pub all_unsent : (ms : List Message) → All (MessageStands plain_course k) ms → All (λ m. is_to_send m ≡ true) ms
+  all_unsent ms stand = All-weaker (MessageStands plain_course k) (λ m. is_to_send m ≡ true) (λ m s. unsent_at m.request m.conflicts m.progress s.as_far) ms stand
 
 unsent_waits : (n : ℕ) (p : Progress) → progress_to_send p ≡ true → progress_awaits n p ≡ false
 unsent_waits n progresses.ToSend is = refl
@@ -127,9 +130,10 @@ unsent_many splits k x p ms w a due = by p w.serves
   where
     by : (p : Purpose) → Serves splits k w.s w.t x p ms → IsForMany p
     by (purposes.Beat call reading) s = absurd (one_unsent ms s.m s.one a due)
+    by (purposes.Prove call) s = tt
     by purposes.Read s = tt
     by (purposes.Refresh n) s = tt
-    by (purposes.Write again) s = absurd (one_unsent ms s.m s.one a due)
+    by purposes.Write s = absurd (one_unsent ms s.m s.one a due)
     by (purposes.Commit n) s = absurd (one_unsent ms s.m s.one a due)
     by (purposes.Abort why) s = absurd (one_unsent ms s.m s.one a due)
 

@@ -129,8 +129,9 @@ served_begins splits k x p ms w = λ s is. subst (λ s. is_begin s.call ≡ fals
   where
     by : (p : Purpose) → Serves splits k w.s w.t x p ms → is_begin w.s.call ≡ false
     by (purposes.Beat call reading) s = ap (λ (s : Statement). is_begin s.call) s.asked ∙ blocks_begin call s.asks
+    by (purposes.Prove kept) s = ap is_begin (s.asked ∙ s.writes) ∙ write_begin s.key s.value
     by purposes.Read s = reads_begin splits x w.s.call _ s.asked
-    by (purposes.Write again) s = ap is_begin s.call ∙ write_begin s.key s.value
+    by purposes.Write s = ap is_begin s.call ∙ write_begin s.key s.value
     by (purposes.Refresh n) s = ap is_begin s.commits.call
     by (purposes.Commit n) s = ap is_begin s.commits.call
     by (purposes.Abort why) s = ap is_begin s.call

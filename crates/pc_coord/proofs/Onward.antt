@@ -4,12 +4,12 @@ use Rattle.std.specs.List.{list_all, list_any}
 use Rattle.std.proofs.lemmas.Bool.{eq-eqb, eqb-true}
 use Rattle.pc_base.specs.declared.transaction.TxnId.{TxnId}
 use Rattle.pc_call.proofs.Facts.{open_is}
-use Rattle.pc_call.proofs.Hearing.{one_asked}
+use Rattle.pc_call.proofs.Hearing.{found, one_asked, same_request}
 use Rattle.pc_call.specs.declared.call.OpenCall.{OpenCall}
 use Rattle.pc_call.specs.declared.purpose.Purpose.{Purpose}
 use Rattle.pc_call.specs.declared.purpose.Purpose.TheVariants as purposes
 use Rattle.pc_call.specs.Opening.{GoesOn}
-use Rattle.pc_call.specs.Serving.{InCall, LaysLast, LaysNext, Serves, ServesAbort, ServesBeat, ServesCommit, ServesWrite, out_of}
+use Rattle.pc_call.specs.Serving.{InCall, LaysLast, LaysNext, SendsAgain, Serves, ServesAbort, ServesBeat, ServesCommit, ServesProve, ServesWrite, out_of}
 use Rattle.pc_coord.proofs.Dues.{answered_all}
 use Rattle.pc_coord.specs.Coordination.{Coordination}
 use Rattle.pc_coord.specs.Events.{IsAnsweredAlive, IsAnsweredUnstaged, ShowsUncommitted, ShowsUnstaged}
@@ -26,6 +26,7 @@ use Rattle.pc_txn.proofs.Rows.{is_uncommitted}
 use Rattle.pc_txn.specs.Opened.{own_commit}
 use Rattle.pc_txn.specs.Silence.{own_beat}
 use Rattle.pc_txn.specs.Standing.{TxnStands}
+use Rattle.pc_wave.proofs.Changed.{found_all}
 use Rattle.pc_wave.proofs.Rounds.{due_round, first_found}
 use Rattle.pc_wave.specs.declared.message.Message.{Message}
 use Rattle.pc_wave.specs.declared.message.Progress.{Progress}
@@ -60,9 +61,10 @@ back_unanswered number reply is m = ap (λ b. has_answer (back_with_by b number 
 -- after a reply by which the call goes on, all is answered only where many may answer
 pub many_heard : (p : Purpose) (number : ℕ) (reply : Reply) (ms : List Message) → GoesOn p reply → wave_awaits number ms ≡ true → step_of (first_changed (awaits_at number) (back_with number reply) ms) ≡ steps.Answered → IsForMany p
 many_heard (purposes.Beat call reading) number reply ms on waits due = absurd on
+many_heard (purposes.Prove call) number reply ms on waits due = tt
 many_heard purposes.Read number reply ms on waits due = tt
 many_heard (purposes.Refresh n) number reply ms on waits due = tt
-many_heard (purposes.Write again) number reply ms on waits due =
+many_heard purposes.Write number reply ms on waits due =
     absurd (not_answered (first_changed (awaits_at number) (back_with number reply) ms) (changed_fails (awaits_at number) has_answer (back_with number reply) (back_unanswered number reply on) ms waits) due)
 many_heard (purposes.Commit n) number reply ms on waits due = absurd on
 many_heard (purposes.Abort why) number reply ms on waits due = absurd on
@@ -130,8 +132,8 @@ one_waits number other ms m one waits = by (awaits_at other m) refl (number == o
     by false is e same = sym (ap (λ b. b && not (number == other)) (other_is ∙ is))
     by true is e same = sym (ap (λ e. wave_awaits other ms && not e) (awaits_both number other m here is) ∙ and_false (wave_awaits other ms) false refl)
 
-pub served_write : (splits : List (List ℕ)) (k : Known) (x : OpenTxn) (p : Purpose) (ms : List Message) (w : InCall splits k x p ms) (again : Bool) → p ≡ purposes.Write again → ServesWrite again k w.s w.t x ms
-served_write splits k x p ms w again e = subst (λ q. Serves splits k w.s w.t x q ms) e w.serves
+pub served_write : (splits : List (List ℕ)) (k : Known) (x : OpenTxn) (p : Purpose) (ms : List Message) (w : InCall splits k x p ms) → p ≡ purposes.Write → ServesWrite k w.s w.t x ms
+served_write splits k x p ms w e = subst (λ q. Serves splits k w.s w.t x q ms) e w.serves
 
 pub served_commit : (splits : List (List ℕ)) (k : Known) (x : OpenTxn) (p : Purpose) (ms : List Message) (w : InCall splits k x p ms) (n : ℕ) → p ≡ purposes.Commit n → ServesCommit n k w.s w.t x ms
 served_commit splits k x p ms w n e = subst (λ q. Serves splits k w.s w.t x q ms) e w.serves
@@ -146,8 +148,8 @@ served_beat splits k x p ms w call reading e = subst (λ q. Serves splits k w.s 
 pub beat_waits : (number other : ℕ) (splits : List (List ℕ)) (k : Known) (x : OpenTxn) (p : Purpose) (ms : List Message) → InCall splits k x p ms → (call : Call) (reading : ℕ) → p ≡ purposes.Beat call reading → wave_awaits number ms ≡ true → false ≡ (wave_awaits other ms && not (number == other))
 beat_waits number other splits k x p ms w call reading e waits = let s = served_beat splits k x p ms w call reading e in one_waits number other ms s.m s.one waits
 
-pub write_waits : (number other : ℕ) (splits : List (List ℕ)) (k : Known) (x : OpenTxn) (p : Purpose) (ms : List Message) → InCall splits k x p ms → (again : Bool) → p ≡ purposes.Write again → wave_awaits number ms ≡ true → false ≡ (wave_awaits other ms && not (number == other))
-write_waits number other splits k x p ms w again e waits = let s = served_write splits k x p ms w again e in one_waits number other ms s.m s.one waits
+pub write_waits : (number other : ℕ) (splits : List (List ℕ)) (k : Known) (x : OpenTxn) (p : Purpose) (ms : List Message) → InCall splits k x p ms → p ≡ purposes.Write → wave_awaits number ms ≡ true → false ≡ (wave_awaits other ms && not (number == other))
+write_waits number other splits k x p ms w e waits = let s = served_write splits k x p ms w e in one_waits number other ms s.m s.one waits
 
 pub commit_waits : (number other : ℕ) (splits : List (List ℕ)) (k : Known) (x : OpenTxn) (p : Purpose) (ms : List Message) → InCall splits k x p ms → (n : ℕ) → p ≡ purposes.Commit n → wave_awaits number ms ≡ true → false ≡ (wave_awaits other ms && not (number == other))
 commit_waits number other splits k x p ms w n e waits = let s = served_commit splits k x p ms w n e in one_waits number other ms s.m s.one waits
@@ -183,13 +185,22 @@ module _ (c : Coordination) (call : OpenCall) (x : OpenTxn) (number : ℕ) (repl
       let s = served_abort c.splits k x call.purpose call.wave is.in_call why e in
       subst (λ r. MayAnswer r reply) (asked_one s.m s.one ∙ s.said) is.heard.kind
 
-  write_said : (again : Bool) (key : List ℕ) (value : Option (List ℕ)) (m : Message) → call.wave ≡ m ∷ [] → LaysNext k is.in_call.s is.in_call.t x key value again m ⊎ LaysLast k is.in_call.s is.in_call.t x key value again m → IsPutReply x.id reply
-  write_said again key value m one (inl l) = subst (λ r. MayAnswer r reply) (asked_one m one ∙ l.said) is.heard.kind
-  write_said again key value m one (inr l) = subst (λ r. MayAnswer r reply) (asked_one m one ∙ l.said) is.heard.kind
+  write_said : (key : List ℕ) (value : Option (List ℕ)) (m : Message) → call.wave ≡ m ∷ [] → LaysNext k is.in_call.s is.in_call.t x key value m ⊎ LaysLast k is.in_call.t x key value m → IsPutReply x.id reply
+  write_said key value m one (inl l) = subst (λ r. MayAnswer r reply) (asked_one m one ∙ l.said) is.heard.kind
+  write_said key value m one (inr l) = subst (λ r. MayAnswer r reply) (asked_one m one ∙ l.said) is.heard.kind
 
   -- and that to a write
-  pub write_kind : (again : Bool) → call.purpose ≡ purposes.Write again → IsPutReply x.id reply
-  write_kind again e = let s = served_write c.splits k x call.purpose call.wave is.in_call again e in write_said again s.key s.value s.m s.one s.lays
+  pub write_kind : call.purpose ≡ purposes.Write → IsPutReply x.id reply
+  write_kind e = let s = served_write c.splits k x call.purpose call.wave is.in_call e in write_said s.key s.value s.m s.one s.lays
+
+  -- to one of an earlier call, too
+  pub proof_kind : (kept : Call) → call.purpose ≡ purposes.Prove kept → IsPutReply x.id reply
+  proof_kind kept e =
+      let w = is.in_call in
+      let r : ServesProve kept k w.s w.t x call.wave = subst (λ q. Serves c.splits k w.s w.t x q call.wave) e w.serves in
+      let f = found c.session is.before c.begun c.splits k x call.purpose call.wave is.counted w number reply h is.waited is.heard in
+      let a : SendsAgain kept k w.t x f.0 = found_all (awaits_at number) (SendsAgain kept k w.t x) call.wave f.0 f.1 r.again in
+      subst (λ r. MayAnswer r reply) (same_request c.session is.before c.begun c.splits k x call.purpose call.wave is.counted w number reply h is.waited is.heard ∙ a.said) is.heard.kind
 
 -- a write is answered that it is written, or by a conflict
 pub met_or_written : (id : TxnId) (reply : Reply) → IsPutReply id reply → ((ts : ℕ) → reply ≡ replies.Written ts → ⊥) → is_conflict reply ≡ true

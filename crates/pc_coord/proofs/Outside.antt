@@ -2,7 +2,7 @@
 use Rattle.std.proofs.Common.{◌≡◌, ℕ, ◌+◌, ◌*◌, ◌/◌, ◌^◌, ◌<◌, ◌≤◌, nat_lt, Bool, true, false, not, cond, ◌&&◌, length, List, [], ◌∷◌, Some, None, refl, sym, ap, ◌∙◌, subst, arith}
 use Rattle.std.specs.Bool.{MatchBool}
 use Rattle.std.proofs.lemmas.Bool.{le-ltb, lt-ltb, ltb-false, ltb-true}
-use Rattle.std.proofs.lemmas.List.Elements.{All-nil}
+use Rattle.std.proofs.lemmas.List.Elements.{All-nil, All-weaker}
 use Rattle.pc_base.specs.Clock.{clock_now}
 use Rattle.pc_base.specs.declared.actor.ActorId.TheVariants as actors
 use Rattle.pc_base.specs.declared.limits.TheConstants.{GREATEST_READING, MOST_CONFLICTS, MOST_REFUSALS}
@@ -23,11 +23,14 @@ use Rattle.pc_proto.specs.declared.answer.Answer.TheVariants as answers
 use Rattle.pc_proto.specs.declared.call.Call.{Call}
 use Rattle.pc_proto.specs.declared.call.Call.TheVariants as calls
 use Rattle.pc_proto.specs.declared.event.Event.TheVariants as events
-use Rattle.pc_txn.specs.Counted.{IsCounted}
+use Rattle.pc_proto.specs.declared.reply.Reply.TheVariants as replies
+use Rattle.pc_proto.specs.declared.request.Request.{Request}
+use Rattle.pc_proto.specs.declared.request.Request.TheVariants as requests
+use Rattle.pc_txn.specs.Counted.{IsCounted, IsOwnHeard, IsQueryOfBegun}
 use Rattle.pc_txn.specs.declared.txn.OpenTxn.{OpenTxn}
 use Rattle.pc_txn.proofs.Restarts.{stands_begun}
 use Rattle.pc_txn.specs.Opened.{just_begun}
-use Rattle.pc_txn.specs.Standing.{TxnStands}
+use Rattle.pc_txn.specs.Standing.{TxnStands, MissedNothing, is_query_of}
 use Rattle.pc_world.specs.Counting.{AtLeast}
 use Rattle.pc_follows.specs.Eighth.{TellsTheEighth}
 use Rattle.pc_follows.specs.FinishingJobs.{left_by}
@@ -41,6 +44,7 @@ use Rattle.pc_world.specs.Known.Statements.{Statement, begun_told, is_open_told}
 use Rattle.pc_world.specs.Known.Transactions.{Txn, begun}
 use Rattle.pc_world.specs.MayTell.{MayTellIn, needs_txn}
 use Rattle.pc_world.specs.Tell.Refusal.{IsConflictOf, WasMoved}
+use Rattle.pc_lists.proofs.Same.{same_txn-is}
 
 pub clock-rises : (reading high : ℕ) → high < clock_now reading high
 clock-rises reading high = by (nat_lt (high / 2 ^ 32) reading) refl
@@ -91,6 +95,15 @@ simple_clock reading = record { written = λ k. tt; aborts = λ k. tt; rolled_ba
 
 simple_begun : (id : TxnId) (ts : ℕ) → IsSimple (answers.Begun id ts)
 simple_begun id ts = record { written = λ k. tt; aborts = λ k. tt; rolled_back = λ k. tt; restarts = λ k. tt; left = λ k. refl; eighth = λ k none s opened. none_heard k (answers.Begun id ts) none s opened }
+
+-- no query asks for a write of a transaction that was not begun
+unasked_yet : (id : TxnId) (session begun : ℕ) (request : Request) → IsQueryOfBegun session begun request → id.session ≡ session → id.number ≡ begun + 1 → is_query_of id request ≡ true → ⊥
+unasked_yet id session begun (requests.Query other epoch seq ts key by) of whose next asks =
+    let same : other ≡ id = same_txn-is other id asks in
+    let low : other.number ≤ begun = of (ap (λ (i : TxnId). i.session) same ∙ whose) in
+    let at : other.number ≡ id.number = ap (λ (i : TxnId). i.number) same in
+    absurd (omega (arith, low, at, next))
+unasked_yet id session begun request of whose next asks = absurd cc
 
 module _ (c : Coordination) (k : Known) (r : StandsReady c k) (closed : k.is_open ≡ false) (unheld : c.txn ≡ None) where
   -- a call is told where no transaction is open
@@ -180,8 +193,14 @@ module _ (c : Coordination) (k : Known) (r : StandsReady c k) (closed : k.is_ope
     stands : TxnStands k3 [] None t x
     stands = stands_begun k k3 c.session (length k.sent) id priority reading ts refl (ap (λ n. n + 1) r.counted.begun) r.counted.sent r.counted.heard refl refl (omega (arith, r.counted.begun)) (omega arith)
 
+    -- no query asked for a write of it
+    unmissed : MissedNothing x.id k3.heard
+    unmissed =
+        All-weaker (IsOwnHeard c.session k.begun (length k.sent)) (λ h. is_query_of x.id h.request ≡ true → h.reply ≡ replies.Missing → ⊥)
+        (λ h own asks missing. unasked_yet id c.session k.begun h.request own.own.query_of refl (ap (λ n. n + 1) r.counted.begun) asks) k.heard r.counted.heard
+
     held : StandsOpen k3 x
-    held = record { t = t; open_in = record { others = k.txns; is_open = refl; first = refl }; stands = stands; cause = refl; low = All-nil (λ ts. ts ≤ k3.top + 1) }
+    held = record { t = t; open_in = record { others = k.txns; is_open = refl; first = refl }; stands = stands; unmissed = unmissed; cause = refl; low = All-nil (λ ts. ts ≤ k3.top + 1) }
 
     -- a begin within it
     pub begins : reading ≤ GREATEST_READING → Knows (beginning priority reading ts (with_clock ts c)) k2

@@ -10,7 +10,7 @@ use Rattle.pc_call.proofs.Lists.{all_unmapped}
 use Rattle.pc_call.specs.declared.purpose.Purpose.{Purpose}
 use Rattle.pc_call.specs.declared.purpose.Purpose.TheVariants as purposes
 use Rattle.pc_call.specs.Learned.{known_asked, known_heard, known_sent, known_told}
-use Rattle.pc_call.specs.Serving.{AreReadsOf, InCall, LaysLast, LaysNext, Serves}
+use Rattle.pc_call.specs.Serving.{AreReadsOf, InCall, LaysLast, LaysNext, SendsAgain, Serves}
 use Rattle.pc_coord.proofs.Counting.{said_own}
 use Rattle.pc_coord.specs.Beside.{IsBeside, IsLaterBeside, is_of_round_or_job}
 use Rattle.pc_coord.specs.Coordination.{Coordination}
@@ -143,9 +143,9 @@ module _ (splits : List (List ℕ)) (k : Known) (x : OpenTxn) (p : Purpose) (ms 
   reads_one (calls.Scan span) rs e = subst (λ rs. All (IsForOne splits) rs) (sym e) (All-map (IsForOne splits) (λ p. own_scan x p.1) (pieces splits span) (pieces_lie span))
   reads_one call rs e = absurd e
 
-  writes_one : (key : List ℕ) (value : Option (List ℕ)) (again : Bool) (m : Message) → LaysNext k w.s w.t x key value again m ⊎ LaysLast k w.s w.t x key value again m → IsForOne splits m.request
-  writes_one key value again m (inl l) = subst (IsForOne splits) (sym l.said) tt
-  writes_one key value again m (inr l) = subst (IsForOne splits) (sym l.said) tt
+  writes_one : (key : List ℕ) (value : Option (List ℕ)) (m : Message) → LaysNext k w.s w.t x key value m ⊎ LaysLast k w.t x key value m → IsForOne splits m.request
+  writes_one key value m (inl l) = subst (IsForOne splits) (sym l.said) tt
+  writes_one key value m (inr l) = subst (IsForOne splits) (sym l.said) tt
 
   own_reads : ReadsInOne splits w.t
   own_reads = All-head (ReadsInOne splits) w.t w.open_in.others (subst (λ ts. All (ReadsInOne splits) ts) w.open_in.first ranged.reads)
@@ -161,8 +161,9 @@ module _ (splits : List (List ℕ)) (k : Known) (x : OpenTxn) (p : Purpose) (ms 
 
   all_one : (p : Purpose) → Serves splits k w.s w.t x p ms → All (λ m. IsForOne splits m.request) ms
   all_one (purposes.Beat call reading) s = one_of s.m s.one (subst (IsForOne splits) (sym s.said) tt)
+  all_one (purposes.Prove call) s = All-weaker (SendsAgain call k w.t x) (λ m. IsForOne splits m.request) (λ m a. subst (IsForOne splits) (sym a.said) tt) ms s.again
   all_one purposes.Read s = all_unmapped (IsForOne splits) (λ m. m.request) ms (reads_one w.s.call _ s.asked)
-  all_one (purposes.Write again) s = one_of s.m s.one (writes_one s.key s.value again s.m s.lays)
+  all_one purposes.Write s = one_of s.m s.one (writes_one s.key s.value s.m s.lays)
   all_one (purposes.Refresh n) s =
       all_unmapped (IsForOne splits) (λ m. m.request) ms
       (subst (λ rs. All (IsForOne splits) rs) (sym s.asked) (All-map (IsForOne splits) (refresh_to x.id x.reads.ts x.write_ts) x.reads.spans spans_one))

@@ -9,7 +9,7 @@ use Rattle.pc_call.specs.Rounding.{IsPushedOnce, MakesRound}
 use Rattle.pc_coord.proofs.Beside.{heard_goes-beside, more-beside, other-beside, sent_goes-beside, unqueried-beside}
 use Rattle.pc_coord.specs.Beside.{IsLaterBeside}
 use Rattle.pc_coord.specs.Coordination.{Coordination}
-use Rattle.pc_coord.specs.Rounds.{IsBehindPush, IsRefusedRound, IsSettledRound}
+use Rattle.pc_coord.specs.Rounds.{AreAskedOnce, IsBehindPush, IsRefusedRound, IsSettledRound}
 use Rattle.pc_lists.proofs.Anywhere.{any_last}
 use Rattle.pc_lists.proofs.Counts.{count-append, count-cons, one_if}
 use Rattle.pc_lists.proofs.Same.{same_txn-is, same_txn-self}

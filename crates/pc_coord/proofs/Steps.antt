@@ -19,7 +19,7 @@ use Rattle.pc_coord.proofs.Learned.{learn_heard, learn_sent}
 use Rattle.pc_coord.proofs.Ranged.{ranged-beside, ranged_heard, ranged_sent, sends_one}
 use Rattle.pc_coord.proofs.Rounds.{makes_round, refused_heard}
 use Rattle.pc_coord.specs.Beside.{IsLaterBeside}
-use Rattle.pc_coord.specs.Coordination.{Coordination, awaits_number, next_at, next_by, next_in, next_of, with_clock}
+use Rattle.pc_coord.specs.Coordination.{Coordination, SendsNoMore, awaits_number, next_at, next_by, next_in, next_of, with_clock}
 use Rattle.pc_coord.specs.declared.due.Due.{Due}
 use Rattle.pc_coord.specs.declared.due.Due.TheVariants as dues
 use Rattle.pc_coord.specs.declared.next.Next.TheVariants as nexts
@@ -212,6 +212,7 @@ module _ (c : Coordination) (k : Known) (x : OpenTxn) (call : OpenCall) (knows :
       counted = now.counted;
       in_call = in_call;
       waited = waits;
+      whole = subst SendsNoMore due is.whole;
       heard = record { numbered = refl; asked = out.1; told = refl; kind = is.kind out.0 out.1; past = is.past out.0 out.1 };
       alive = is.alive out.0 out.1;
       unstaged = is.unstaged out.0 out.1;

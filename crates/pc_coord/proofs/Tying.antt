@@ -1,5 +1,5 @@
 -- What each step of a coordinator comes to, by what it makes of the coordinator.
-use Rattle.std.proofs.Common.{◌≡◌, ℕ, ◌<◌, ◌≤◌, Bool, true, false, ◌||◌, ◌==◌, List, [], ◌∷◌, length, slice_index_or, Option, Some, None, refl, sym, ap, ◌∙◌, subst, arith, OnOk, Result, Ok, Err}
+use Rattle.std.proofs.Common.{◌≡◌, ℕ, Bool, true, false, ◌||◌, ◌==◌, List, [], ◌∷◌, length, Option, Some, None, refl, sym, ap, ◌∙◌, subst, arith, OnOk, Result, Ok, Err}
 use Rattle.std.specs.Option.{option_map}
 use Rattle.std.proofs.lemmas.Bool.{eq-eqb}
 use Rattle.std.proofs.lemmas.Option.{same_Some}
@@ -11,7 +11,7 @@ use Rattle.pc_call.specs.declared.over.Over.{Over}
 use Rattle.pc_call.specs.Finished.{MayTellOver}
 use Rattle.pc_call.specs.Learned.{known_asked, known_sent}
 use Rattle.pc_call.specs.Rounding.{RefusesRound}
-use Rattle.pc_call.specs.Serving.{InCall, write_call}
+use Rattle.pc_call.specs.Serving.{InCall}
 use Rattle.pc_call.specs.Suiting.{SuitsFlight}
 use Rattle.pc_call.specs.Telling.{MayTellOpen, StandsOpen}
 use Rattle.pc_coord.proofs.Awaited.{sends_own}
@@ -302,30 +302,7 @@ reads_alone call is (w ∷ ws) same suits none = absurd (none w ws (subst (λ c.
 pub suits_as : (call is : Call) (f g : List WriteInFlight) → call ≡ is → g ≡ f → SuitsFlight call f → SuitsFlight is g
 suits_as call is f g same flight suits = subst (λ c. SuitsFlight c g) same (subst (SuitsFlight call) (sym flight) suits)
 
--- The write in flight is the only one, and the one of this key and value.
-record IsOnlyWrite (key : List ℕ) (value : Option (List ℕ)) (w : WriteInFlight) (ws : List WriteInFlight) : Type 0 where
-  pub alone : ws ≡ []
-  pub place : w.key ≡ key
-  pub what : w.value ≡ value
-
-flight_is : (key : List ℕ) (value : Option (List ℕ)) (w : WriteInFlight) (ws : List WriteInFlight) → SuitsFlight (write_call key value) (w ∷ ws) → IsOnlyWrite key value w ws
-flight_is key None w [] suits = record { alone = refl; place = suits.0; what = suits.1 }
-flight_is key None w (v ∷ vs) suits = absurd suits
-flight_is key (Some value) w [] suits = record { alone = refl; place = suits.0; what = suits.1 }
-flight_is key (Some value) w (v ∷ vs) suits = absurd suits
-
--- a write that suits those in flight is the only one of them
-pub flight_same : (key : List ℕ) (value : Option (List ℕ)) (f : List WriteInFlight) (w : WriteInFlight) (ws : List WriteInFlight) (call : Call) → call ≡ write_call key value → f ≡ w ∷ ws → SuitsFlight (write_call key value) f → (call ≡ write_call w.key w.value) × (f ≡ w ∷ [])
-flight_same key value f w ws call asked is suits =
-    let one = flight_is key value w ws (subst (SuitsFlight (write_call key value)) is suits) in
-    (asked ∙ ap (λ key. write_call key value) (sym one.place) ∙ ap (write_call w.key) (sym one.what), is ∙ ap (λ ws. w ∷ ws) one.alone)
-
 -- a list of which nothing is in flight
-pub none_in_flight : (ws f : List WriteInFlight) → ws ≡ f → length ws < 1 → f ≡ []
-none_in_flight [] f is low = sym is
-none_in_flight (w ∷ ws) f is low = absurd (omega (arith, low))
-
--- the first write that is in flight
-pub first_in_flight : (ws f : List WriteInFlight) (w : WriteInFlight) → ws ≡ f → 1 ≤ length ws → w ≡ slice_index_or ws 0 w → (later : List WriteInFlight) × (f ≡ w ∷ later)
-first_in_flight [] f w is some at = absurd (omega (arith, some))
-first_in_flight (v ∷ vs) f w is some at = (vs, sym is ∙ ap (λ u. u ∷ vs) (sym at))
+pub none_in_flight : (f : List WriteInFlight) → (length f == 0) ≡ true → f ≡ []
+none_in_flight [] none = refl
+none_in_flight (w ∷ ws) none = absurd cc

@@ -1,7 +1,8 @@
 -- What comes of the messages of an open call: what is due once they stand so.
-use Rattle.std.specs.Prelude.{◌≡◌, ℕ, true, false, ◌⊎◌, Some, List, All, ⊤}
+use Rattle.std.specs.Prelude.{◌≡◌, ℕ, false, ◌⊎◌, Some, List, ⊤}
 use Rattle.std.specs.List.{list_any}
 use Rattle.pc_base.specs.declared.transaction.TxnId.{TxnId}
+use Rattle.pc_call.specs.Outbox.{AreToSendOrOnWay}
 use Rattle.pc_coord.specs.declared.due.Due.{Due}
 use Rattle.pc_coord.specs.declared.due.Due.TheVariants as dues
 use Rattle.pc_coord.specs.declared.round.Round.{Round}
@@ -12,22 +13,18 @@ use Rattle.pc_proto.specs.declared.reply.Reply.{Reply}
 use Rattle.pc_proto.specs.Replies.{holder_in}
 use Rattle.pc_wave.specs.declared.message.Message.{Message}
 use Rattle.pc_wave.specs.declared.step.Step.TheVariants as steps
-use Rattle.pc_wave.specs.Messages.{conflicts_at, first_changed, goes_again, is_in_conflict, is_to_send, step_of}
-
--- The messages are all to be sent.
-abbrev pub AreUnsent : List Message → Type 0
-AreUnsent messages = All (λ m. is_to_send m ≡ true) messages
+use Rattle.pc_wave.specs.Messages.{conflicts_at, first_changed, goes_again, is_in_conflict, step_of}
 
 -- If the answer says that a holder blocks the call, that is what is due of these messages.
 abbrev pub IsBlockOf : List Message → Answer → Type 0
 IsBlockOf messages (answers.Blocked holder) = step_of messages ≡ steps.Blocked holder
 IsBlockOf messages _ = ⊤
 
--- The call goes on by these messages; or by new ones, all to be sent, where no conflict of these waits for its round; or it is to be told its
+-- The call goes on by these messages; or by new ones, to be sent or on their way, where no conflict of these waits for its round; or it is to be told its
 -- answer, and that a holder blocks it only where that is due of these. That nothing is due is said elsewhere.
 abbrev pub ComesOf : List Message → Due → Type 0
 ComesOf messages dues.Nothing = ⊤
-ComesOf messages (dues.Call call) = (call.wave ≡ messages) ⊎ (AreUnsent call.wave × (list_any is_in_conflict messages ≡ false))
+ComesOf messages (dues.Call call) = (call.wave ≡ messages) ⊎ (AreToSendOrOnWay call.wave × (list_any is_in_conflict messages ≡ false))
 ComesOf messages (dues.Tell answer) = IsBlockOf messages answer
 
 -- What comes of the round of this conflict, which the message of this number met: the message is to be sent again; where the push was refused,

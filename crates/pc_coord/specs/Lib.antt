@@ -2,6 +2,7 @@
 pub mod Beside
 pub mod Coming
 pub mod Coordination
+pub mod Ends
 pub mod Events
 pub mod Going
 pub mod Kinds

@@ -1,4 +1,4 @@
-ghost use Rattle.std.specs.Prelude.{◌≡◌, ℕ, false, List, OnOk};
+ghost use Rattle.std.specs.Prelude.{◌≡◌, ℕ, false, List, OnOk, Bool};
 ghost use Rattle.std.specs.List.{list_any};
 ghost use Rattle.pc_call.specs.declared.purpose.Purpose.TheVariants as purposes;
 ghost use Rattle.pc_call.specs.Learned.{known_heard};
@@ -31,7 +31,7 @@ impl<'a> Coordinator<'a> {
         step: u64,
         reply: &Reply,
     ) -> Result<(), NoMemory>
-        ensures knows { (k : Known) (h : Heard) (number reading : ℕ) (kept : Call) → HearsNow self.old call txn number reply.now k h → call.purpose ≡ purposes.Beat kept reading → h.step ≡ step → OnOk result (Knows self.new (known_heard h k)) }
+        ensures knows { (loses : Bool) (k : Known) (h : Heard) (number reading : ℕ) (kept : Call) → HearsNow loses self.old call txn number reply.now k h → call.purpose ≡ purposes.Beat kept reading → h.step ≡ step → OnOk result (Knows loses self.new (known_heard h k)) }
         ensures waits { (other reading : ℕ) (kept : Call) → call.purpose ≡ purposes.Beat kept reading → MayBlock kept → OnOk result (awaits_number other self.new.due ≡ false) }
         ensures comes { (messages : List Message) (reading : ℕ) (kept : Call) → call.purpose ≡ purposes.Beat kept reading → MayBlock kept → list_any is_in_conflict messages ≡ false → OnOk result (ComesOf messages self.new.due) }
         ensures session { self.new.session ≡ self.old.session }
@@ -60,7 +60,7 @@ impl<'a> Coordinator<'a> {
         recorded: Timestamp,
         step: u64,
     ) -> Result<(), NoMemory>
-        ensures knows { (k : Known) (h : Heard) (number epoch reading : ℕ) (kept : Call) → HearsNow self.old call txn number (replies.Status (views.Pending epoch recorded)) k h → call.purpose ≡ purposes.Beat kept reading → h.step ≡ step → OnOk result (Knows self.new (known_heard h k)) }
+        ensures knows { (loses : Bool) (k : Known) (h : Heard) (number epoch reading : ℕ) (kept : Call) → HearsNow loses self.old call txn number (replies.Status (views.Pending epoch recorded)) k h → call.purpose ≡ purposes.Beat kept reading → h.step ≡ step → OnOk result (Knows loses self.new (known_heard h k)) }
         ensures waits { (other reading : ℕ) (kept : Call) → call.purpose ≡ purposes.Beat kept reading → MayBlock kept → OnOk result (awaits_number other self.new.due ≡ false) }
         ensures comes { (messages : List Message) (reading : ℕ) (kept : Call) → call.purpose ≡ purposes.Beat kept reading → MayBlock kept → list_any is_in_conflict messages ≡ false → OnOk result (ComesOf messages self.new.due) }
         ensures session { self.new.session ≡ self.old.session }

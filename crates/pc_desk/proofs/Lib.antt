@@ -1,6 +1,7 @@
 pub mod Counting
 pub mod Entering
 pub mod Making
+pub mod Moving
 pub mod Turns
 pub mod Waves
 pub mod Tracking
@@ -13,3 +14,4 @@ pub mod Refusing
 pub mod Leaving
 pub mod Ending
 pub mod Stopping
+pub mod Strays

@@ -1,5 +1,5 @@
 -- How far a finishing job has come.
-use Rattle.std.specs.Prelude.{◌≡◌, ℕ, cond, List, [], ◌∷◌, ◌++◌, map, drop}
+use Rattle.std.specs.Prelude.{◌≡◌, ℕ, Bool, true, false, cond, List, [], ◌∷◌, ◌++◌, map, drop}
 use Rattle.pc_coord.specs.declared.job.Job.{Job}
 use Rattle.pc_desk.specs.Desk.{DeskMeaning}
 use Rattle.pc_exchange.specs.Aside.{IsLaterAside}
@@ -7,12 +7,20 @@ use Rattle.pc_exchange.specs.Growing.{HasGoneBeside}
 use Rattle.pc_exchange.specs.Jobs.{MayFinishNow}
 use Rattle.pc_history.specs.declared.pair.Pair.{Pair}
 use Rattle.pc_proto.specs.declared.event.Event.{Event}
+use Rattle.pc_proto.specs.declared.reply.Reply.{Reply}
+use Rattle.pc_proto.specs.declared.reply.Reply.TheVariants as replies
 use Rattle.pc_proto.specs.declared.request.Request.{Request}
 use Rattle.pc_proto.specs.declared.request.Request.TheVariants as requests
+use Rattle.pc_proto.specs.declared.view.View.TheVariants as views
 use Rattle.pc_resolve.specs.Resolving.{Resolving}
 use Rattle.pc_resolve.specs.ResolveKnows.{ResolveKnows}
 use Rattle.pc_follows.specs.FinishingJobs.{jobs_of}
 use Rattle.pc_world.specs.Known.{known_of}
+
+-- The reply shows a committed record.
+abbrev pub is_committed_reply : Reply → Bool
+is_committed_reply (replies.Status (views.Committed epoch ts locks)) = true
+is_committed_reply _ = false
 
 -- The messages that the job's machine still has to send.
 abbrev pub messages_due : Resolving → List Request

@@ -1,6 +1,6 @@
 -- A session in one of its calls, and what it does there.
 use Rattle.std.specs.Prelude.{◌≡◌, ℕ, true, false, Option, None, Some, List, [], ◌∷◌, ◌++◌, All}
-use Rattle.pc_coord.specs.Coordination.{awaits_number}
+use Rattle.pc_coord.specs.Coordination.{SendsNoMore, awaits_number}
 use Rattle.pc_coord.specs.Suiting.{SuitsNext}
 use Rattle.pc_desk.specs.Desk.{DeskMeaning, KeepsTrack, is_on_way}
 use Rattle.pc_exchange.specs.Growing.{HasGrownBy}
@@ -10,7 +10,7 @@ use Rattle.pc_proto.specs.declared.call.Call.{Call}
 use Rattle.pc_proto.specs.declared.event.Event.{Event}
 use Rattle.pc_proto.specs.declared.event.Event.TheVariants as events
 use Rattle.pc_proto.specs.declared.request.Request.{Request}
-use Rattle.pc_session.specs.InTurn.{KeepsTurn, SendsNoMore, WaitsForReplies}
+use Rattle.pc_session.specs.InTurn.{KeepsTurn, WaitsForReplies}
 use Rattle.pc_session.specs.Session.{AreOfOneSession, HasLeft, IsAtRest, SessionMeaning, session_knows}
 use Rattle.pc_turns.specs.Order.{IsInBetween, events_of}
 use Rattle.pc_follows.specs.AgainInOneWave.{EndsWithSending}

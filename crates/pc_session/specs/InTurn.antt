@@ -61,8 +61,3 @@ abbrev pub KeepsTurn : Known → Due → Type 0
 KeepsTurn k dues.Nothing = ⊤
 KeepsTurn k (dues.Call call) = HasRoundsInTurn k call.wave
 KeepsTurn k (dues.Tell answer) = TellsFirstBlock k answer
-
--- No message of the call is to be sent.
-abbrev pub SendsNoMore : Due → Type 0
-SendsNoMore (dues.Call call) = All (λ m. is_to_send m ≡ false) call.wave
-SendsNoMore _ = ⊤

@@ -81,7 +81,11 @@ impl<'a, N: Named<CommitWorld>, C: Clock, V: Wire, G: Gate> Office<'a, N, C, V, 
         ensures ended { IfErr result (λ halt. BreaksOff (AreOfBrokenCall call halt) self.old.desk self.new.desk halt) }
         ensures rule { C.rule self.new.desk.log.clock ≡ C.rule self.old.desk.log.clock }
     {
+        let rolls_back = matches!(call, Call::Rollback);
         let reading = self.ask(call)?;
+        if rolls_back {
+            self.desk.deliver_strays(rt)?;
+        }
         for _ in rt.forever() {
             if let Some(answer) = self.go_on(rt, reading)? {
                 return Ok(answer);
@@ -187,13 +191,14 @@ impl<'a, N: Named<CommitWorld>, C: Clock, V: Wire, G: Gate> Office<'a, N, C, V, 
     {
         match self.due(reading)? {
             Next::Send(request) => self.send(reading, request),
+            Next::Later(request) => self.send_later(reading, request),
             Next::Wave => self.wave(rt, reading),
             Next::Conflict {
                 number,
                 conflict,
                 reader,
             } => self.round(rt, reading, number, conflict, reader),
-            Next::Tell(answer) => self.tell(reading, answer),
+            Next::Tell(answer) => self.end(rt, reading, answer),
             Next::Idle => unreachable!(),
         }
     }
@@ -233,6 +238,46 @@ impl<'a, N: Named<CommitWorld>, C: Clock, V: Wire, G: Gate> Office<'a, N, C, V, 
         }
     }
 
+    /// Sends a put that the call is told written at once. It waits in the outbox until a wave waits for it.
+    fn send_later(&mut self, reading: u64, request: Request) -> Result<Option<Answer>, Halt>
+        requires calls { HasOpenCall self.old reading }
+        requires between { IsBetweenWaves self.old.desk }
+        requires due { next_of self.old.coordinator ≡ nexts.Later request }
+        requires may { MayCome self.old.coordinator (session_knows self.old) (nexts.Later request) }
+        ensures ok { IfOk result (GoesOnOrTold self.old self.new reading) }
+        ensures err { IfErr result (HasHalted self.old.desk self.new.desk) }
+        ensures ended { IfErr result (BreaksOff (All IsInBetween) self.old.desk self.new.desk) }
+        ensures clock { self.new.desk.log.clock ≡ self.old.desk.log.clock }
+    {
+        let number = self.desk.send(request)?;
+        self.desk.set_aside(number)?;
+        match self.coordinator.sent(number) {
+            Ok(()) => Ok(None),
+            Err(NoMemory) => Err(self.want_memory()),
+        }
+    }
+
+    /// The puts in the outbox for which the wave waits go with it.
+    fn join_awaited(&mut self, reading: u64) -> Result<(), Halt>
+        requires calls { HasOpenCall self.old reading }
+        requires between { IsBetweenWaves self.old.desk }
+        requires due { next_of self.old.coordinator ≡ nexts.Wave }
+        ensures calls { OnOk result (HasOpenCall self.new reading) }
+        ensures whole { OnOk result (IsWholeOut self.new) }
+        ensures err { IfErr result (HasHalted self.old.desk self.new.desk) }
+        ensures ended { IfErr result (BreaksOff (All IsInBetween) self.old.desk self.new.desk) }
+        ensures clock { self.new.desk.log.clock ≡ self.old.desk.log.clock }
+    {
+        let mut next = self.desk.next_aside(1);
+        while let Some(number) = next {
+            if self.coordinator.waits_for(number) {
+                self.desk.join(number)?;
+            }
+            next = self.desk.next_aside(number + 1);
+        }
+        Ok(())
+    }
+
     /// A wave: the messages that wait are evaluated, and then their replies heard.
     fn wave<R: Wait>(&mut self, rt: &R, reading: u64) -> Result<Option<Answer>, Halt>
         requires calls { HasOpenCall self.old reading }
@@ -243,6 +288,7 @@ impl<'a, N: Named<CommitWorld>, C: Clock, V: Wire, G: Gate> Office<'a, N, C, V, 
         ensures ended { IfErr result (BreaksOff (All IsInBetween) self.old.desk self.new.desk) }
         ensures clock { self.new.desk.log.clock ≡ self.old.desk.log.clock }
     {
+        self.join_awaited(reading)?;
         self.deliver(rt, reading)?;
         loop {
             if !self.hear(reading)? {
@@ -324,6 +370,24 @@ impl<'a, N: Named<CommitWorld>, C: Clock, V: Wire, G: Gate> Office<'a, N, C, V, 
         }
     }
 
+    /// The open call is to be told its answer. Where that ends its transaction's epoch, the puts that still wait in the outbox are evaluated first.
+    fn end<R: Wait>(&mut self, rt: &R, reading: u64, answer: Answer) -> Result<Option<Answer>, Halt>
+        requires calls { HasOpenCall self.old reading }
+        requires between { IsBetweenWaves self.old.desk }
+        requires due { next_of self.old.coordinator ≡ nexts.Tell answer }
+        requires may { MayCome self.old.coordinator (session_knows self.old) (nexts.Tell answer) }
+        ensures ok { IfOk result (GoesOnOrTold self.old self.new reading) }
+        ensures told { IfOk result (λ told. told ≡ Some answer) }
+        ensures err { IfErr result (HasHalted self.old.desk self.new.desk) }
+        ensures ended { IfErr result (EndsOnly (λ made. made ≡ events.Tell answer) self.old.desk self.new.desk) }
+        ensures clock { self.new.desk.log.clock ≡ self.old.desk.log.clock }
+    {
+        if ends_epoch(&answer) {
+            self.desk.deliver_strays(rt)?;
+        }
+        self.tell(reading, answer)
+    }
+
     /// The open call is told its answer; what its transaction left becomes the newest job.
     fn tell(&mut self, reading: u64, answer: Answer) -> Result<Option<Answer>, Halt>
         requires calls { HasOpenCall self.old reading }
@@ -391,4 +455,14 @@ impl<'a, N: Named<CommitWorld>, C: Clock + Drop, V: Wire + Drop, G> Office<'a, N
     {
         self.desk.finish()
     }
+}
+
+/// Whether the answer ends an epoch of its transaction whose puts may still wait in the outbox. (A rollback has had them evaluated already.)
+fn ends_epoch(answer: &Answer) -> bool
+    ensures { result ≡ ends_epoch answer.now }
+{
+    matches!(
+        answer,
+        Answer::Restart { .. } | Answer::Aborted { .. } | Answer::Unknown { .. }
+    )
 }

@@ -72,7 +72,6 @@ impl<'a, N: Named<CommitWorld>, C: Clock, V: Wire, G: Gate> Session<'a, N, C, V,
         requires splits { ranges.now.splits ≡ actor.world.splits }
         requires rising { AreRising actor.world.splits }
         requires few { length actor.world.splits ≤ 31 }
-        requires unpiped { pipelining ≡ false }
         requires quiet { (number : ℕ) → V.rule wire number ≡ verdicts.Deliver }
         ensures made { result.desk ≡ new_desk actor.world actor.part actor.spare clock pipelining false limit stop ranges.now.limit }
         ensures session { result.coordinator.session ≡ number }

@@ -21,19 +21,22 @@ use Rattle.pc_staging.specs.declared.stage_out.StageOut.{StageOut}
 use Rattle.pc_staging.specs.Kept.{Evidence, is_dead_by, is_over, is_passed_by, is_refuted}
 use Rattle.pc_staging.specs.Laws.{LeavesStages, SendsNothingNew}
 use Rattle.pc_staging.specs.Standing.{AreEvidence, StagingStands, WasStagedAt, WasStageSent}
-use Rattle.pc_txn.proofs.Late.{late_on, none_by}
+use Rattle.pc_txn.proofs.Above.{StaysUp, reach_on, staged_or_above}
+use Rattle.pc_txn.proofs.Accounted.{accounted_up}
+use Rattle.pc_txn.proofs.Found.{finds_none, found_same}
+use Rattle.pc_txn.proofs.Late.{late_on, live_on, none_by}
 use Rattle.pc_txn.proofs.Lists.{any_before}
 use Rattle.pc_txn.proofs.Shown.{shown-plain}
 use Rattle.pc_txn.proofs.Written.{writes_on}
 use Rattle.pc_txn.specs.declared.txn.OpenTxn.{OpenTxn}
 use Rattle.pc_txn.specs.Laws.{TxnStandsOn}
-use Rattle.pc_txn.specs.Standing.{AreLateByWrites, AreStagedThere, HasMovedOn, IsProvedAbove, IsUndecidedOf, LeavesAsIs, TxnStands, is_plain, is_query_of}
-use Rattle.pc_txn.specs.Writing.{IsNotWritten, PutsUpTo, WritesStand}
+use Rattle.pc_txn.specs.Standing.{AreLateByWrites, AreLiveHere, AreStagedThere, HasMovedOn, StandsAbove, IsUndecidedOf, LeavesAsIs, TxnStands, is_plain, is_query_of}
+use Rattle.pc_txn.specs.Writing.{IsFoundProved, IsNotWritten, PutsUpTo, WritesStand, finds}
 use Rattle.pc_world.specs.Known.{Known}
 use Rattle.pc_world.specs.Known.Traffic.{Heard, Sent}
 use Rattle.pc_world.specs.Known.Transactions.{Txn, lists_write, txn_sent}
 use Rattle.pc_world.specs.Known.Writes.{last_seq_of}
-use Rattle.pc_world.specs.StageFate.{OnCommit, OnStage, RefutesRecord, RefutesWrite, SentCommit, SentStage, is_write_refuted}
+use Rattle.pc_world.specs.StageFate.{EachStage, OnCommit, OnStage, RefutesRecord, RefutesWrite, SentCommit, SentStage, is_write_refuted}
 use Rattle.pc_world.specs.Tell.End.{shows_staging}
 
 quiet_commit : (id : TxnId) (P : SentCommit → Type 0) (r : Request) → is_plain r ≡ true → OnCommit id P r
@@ -67,6 +70,15 @@ queried s id (requests.Query other epoch seq ts key who) reply whose quiet none 
     missing reply = refl
 queried s id request reply whose quiet none = refl
 
+-- what asks for none of its writes finds none
+not_asked : (id : TxnId) (epoch seq : ℕ) (request : Request) (reply : Reply) → is_query_of id request ≡ false → finds id epoch seq request reply ≡ false
+not_asked id epoch seq (requests.Query other at n ts key who) reply none = by reply
+  where
+    by : (reply : Reply) → finds id epoch seq (requests.Query other at n ts key who) reply ≡ false
+    by replies.Found = ap (λ b. b && (at == epoch && n == seq)) none
+    by reply = refl
+not_asked id epoch seq request reply none = refl
+
 -- the reply to what neither writes, decides nor asks for its writes leaves the transaction as it is, where it is not about its record
 pub quiet_leaves : (t : Txn) (h : Heard) → is_plain h.request ≡ true → is_query_of t.id h.request ≡ false → is_about t.id h.request ≡ false → LeavesAsIs t h
 quiet_leaves t h quiet none other = record {
@@ -74,6 +86,7 @@ quiet_leaves t h quiet none other = record {
   put = λ epoch seq put. absurd (quiet_put t.id epoch seq h.request quiet put);
   unwritten = λ seq put. absurd (quiet_put t.id t.epoch seq h.request quiet put);
   unrefuted = λ s whose. queried s t.id h.request h.reply whose quiet none;
+  unfound = λ epoch seq. not_asked t.id epoch seq h.request h.reply none;
 }
 
 -- what is not about its record shows no stage of it
@@ -88,11 +101,11 @@ pub staged_before : (heard more : List Heard) (t : Txn) (ts : ℕ) → All (λ h
 staged_before heard more t ts none was = any_before (λ h. IsTrue (shows_staging t.id t.epoch ts h)) heard more none was
 
 -- where one more reply was heard, it was heard to stage by that one, or before
-pub staged_split : (heard : List Heard) (h : Heard) (t : Txn) (stages : List SentStage) (ts : ℕ) → AreStagedThere stages heard t → (IsTrue (shows_staging t.id t.epoch ts h) → Any (λ s. s.ts ≡ ts) stages ⊎ Any (IsProvedAbove ts) t.writes)
-    → WasStagedAt (heard ++ h ∷ []) t ts → Any (λ s. s.ts ≡ ts) stages ⊎ Any (IsProvedAbove ts) t.writes
+pub staged_split : (heard : List Heard) (h : Heard) (t : Txn) (stages : List SentStage) (ts : ℕ) → AreStagedThere stages heard t → (IsTrue (shows_staging t.id t.epoch ts h) → Any (λ s. s.ts ≡ ts) stages ⊎ Any (StandsAbove heard t ts) t.writes)
+    → WasStagedAt (heard ++ h ∷ []) t ts → Any (λ s. s.ts ≡ ts) stages ⊎ Any (StandsAbove heard t ts) t.writes
 staged_split heard h t stages ts before now was = by (shows_staging t.id t.epoch ts h) refl
   where
-    by : (b : Bool) → shows_staging t.id t.epoch ts h ≡ b → Any (λ s. s.ts ≡ ts) stages ⊎ Any (IsProvedAbove ts) t.writes
+    by : (b : Bool) → shows_staging t.id t.epoch ts h ≡ b → Any (λ s. s.ts ≡ ts) stages ⊎ Any (StandsAbove heard t ts) t.writes
     by true is = now is
     by false is =
         let P : Heard → Type 0 = λ h. IsTrue (shows_staging t.id t.epoch ts h) in
@@ -131,11 +144,17 @@ module _ (k now : Known) (stages : List SentStage) (commit : Option SentCommit) 
       (λ m is. record { stage = quiet_stage t.id (Contains stages) m.request is; commits = quiet_commit t.id (λ c. commit ≡ Some c) m.request is }) sent_more quiet)
       (All-weaker (LeavesAsIs t) (LeavesStages stages t) leaves_stages heard_more leave)
 
-  staged2 : AreStagedThere stages now.heard t
+  stays_up : StaysUp t t
+  stays_up = record { id = refl; epoch = refl; up = omega arith }
+
+  staged2 : AreStagedThere stages (k.heard ++ heard_more) t
   staged2 ts was =
-      st.staged ts
-      (staged_before k.heard heard_more t ts (All-weaker (LeavesAsIs t) (λ h. IsTrue (shows_staging t.id t.epoch ts h) → ⊥) (λ h l. shows_none t.id t.epoch ts h l.other) heard_more leave)
-      (subst (λ hs. WasStagedAt hs t ts) more.heard was))
+      staged_or_above k.heard heard_more t t stays_up stages ts t.writes
+      (st.staged ts
+      (staged_before k.heard heard_more t ts (All-weaker (LeavesAsIs t) (λ h. IsTrue (shows_staging t.id t.epoch ts h) → ⊥) (λ h l. shows_none t.id t.epoch ts h l.other) heard_more leave) was))
+
+  quiet_stages : (P : SentStage → Type 0) → EachStage t.id sent_more P
+  quiet_stages P = All-weaker (λ m. IsTrue (is_plain m.request)) (λ m. OnStage t.id P m.request) (λ m is. quiet_stage t.id P m.request is) sent_more quiet
 
   pub stands_on : TxnStands now stages commit t x
   stands_on = record {
@@ -144,19 +163,24 @@ module _ (k now : Known) (stages : List SentStage) (commit : Option SentCommit) 
     begun = st.begun;
     behind = st.behind;
     at_begin = st.at_begin;
-    below = omega (arith, st.below, more.high);
+    below = reach_on k now sent_more heard_more more t t refl refl st.below;
     views =
         subst (λ hs. All (IsUndecidedOf t) hs) (sym more.heard)
         (All-append (IsUndecidedOf t) k.heard heard_more st.views
         (All-weaker (LeavesAsIs t) (IsUndecidedOf t) (λ h l about. let none : is_about t.id h.request ≡ false = l.other in absurd cc) heard_more leave));
     shown = st.shown ∙ sym (ap (last_shown t) more.sent ∙ shown-plain t k.sent sent_more quiet);
-    staged = staged2;
+    staged = subst (λ hs. AreStagedThere stages hs t) (sym more.heard) staged2;
+    accounted = accounted_up k now sent_more heard_more more t t refl stages stages stays_up refl refl quiet_stages st.accounted;
     late =
         subst (λ hs. AreLateByWrites stages hs t) (sym more.heard)
-        (late_on k.heard heard_more t stages st.late
+        (late_on k.heard heard_more t t stages stays_up refl st.late
         (λ s there.
         let w : WasStageSent k.sent t.id s = All-contains (WasStageSent k.sent t.id) stages s st.staging.sent there in
         All-weaker (LeavesAsIs t) (λ h. RefutesWrite s h ⊎ RefutesRecord s h → ⊥) (λ h l. none_by t s h w.whose l.other (l.unrefuted s w.whose)) heard_more leave));
+    live =
+        subst (λ hs. AreLiveHere stages hs x.staging.staged t) (sym more.heard)
+        (live_on k.heard heard_more x.staging.staged t t stages refl refl refl
+        (All-weaker (LeavesAsIs t) (λ h. (ts : ℕ) → IsTrue (shows_staging t.id t.epoch ts h) → ⊥) (λ h l ts. shows_none t.id t.epoch ts h l.other) heard_more leave) st.live);
     puts =
         let P : Sent → Type 0 = λ m. PutsUpTo t (last_seq_of t.writes) m.request in
         subst (λ ms. All P ms) (sym more.sent)
@@ -164,6 +188,8 @@ module _ (k now : Known) (stages : List SentStage) (commit : Option SentCommit) 
     put_heard =
         let P : Heard → Type 0 = λ h. PutsUpTo t (last_seq_of t.writes) h.request in
         subst (λ hs. All P hs) (sym more.heard) (All-append P k.heard heard_more st.put_heard (All-weaker (LeavesAsIs t) P (λ h l. l.put) heard_more leave));
+    found = subst (λ hs. All (IsFoundProved t) hs) (sym more.heard)
+        (found_same k.heard heard_more t t refl refl refl st.found (All-weaker (LeavesAsIs t) (IsFoundProved t) (λ h l. finds_none t h l.unfound) heard_more leave));
     writes =
         subst (λ ms. WritesStand ms now.heard t) (sym more.sent)
         (subst (λ hs. WritesStand (k.sent ++ sent_more) hs t) (sym more.heard)

@@ -32,12 +32,10 @@ pub record AreTurnsOf (sessions recoverers : ℕ) (listed : List Turn) : Type 0 
   pub few : length listed ≤ MOST_TURNS
   pub each : All (IsTurnOf sessions recoverers) listed
 
--- The workload runs in stated turns without pipelining, its sessions within their limits, and what it cannot state is at its default.
+-- The workload runs in stated turns, its sessions within their limits, and what it cannot state is at its default.
 pub record IsBuilt (work : Workload) : Type 0 where
   -- The version is the one that is known.
   pub version : work.version ≡ 1
-  -- No put goes on before its range has answered.
-  pub pipelining : work.pipelining ≡ false
   -- The splits rise strictly, in key order.
   pub splits : AreRising work.splits
   -- The splits are no more than their limit.

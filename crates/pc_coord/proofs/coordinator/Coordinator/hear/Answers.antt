@@ -7,11 +7,17 @@ use Rattle.pc_coord.proofs.Coming.{beaten_none, committed_none}
 use Rattle.pc_wave.specs.Messages.{awaits_at, back_with, first_changed}
 use Rattle.pc_coord.proofs.coordinator.Coordinator.hear.Goals as goal
 
+pub returns-in-Prove-clause-knows : goal.returns-in-Prove-clause-knows
+returns-in-Prove-clause-knows c = λ k heard is at. c.proof_heard.ensures.knows k heard c.in-Prove.call is c.in-Prove.is at
+
+pub returns-in-Prove-clause-comes : goal.returns-in-Prove-clause-comes
+returns-in-Prove-clause-comes c = λ k heard is. c.proof_heard.ensures.comes
+
 pub returns-in-Write-clause-knows : goal.returns-in-Write-clause-knows
-returns-in-Write-clause-knows c = λ k heard is at. c.write_heard.ensures.knows k heard c.in-Write.again is c.in-Write.is at
+returns-in-Write-clause-knows c = λ k heard is at. c.write_heard.ensures.knows k heard is c.in-Write.is at
 
 pub returns-in-Write-clause-waits : goal.returns-in-Write-clause-waits
-returns-in-Write-clause-waits c = λ k other w waits. c.write_heard.ensures.waits k other c.in-Write.again w c.in-Write.is waits
+returns-in-Write-clause-waits c = λ k other w waits. c.write_heard.ensures.waits k other w c.in-Write.is waits
 
 pub returns-in-Commit-clause-knows : goal.returns-in-Commit-clause-knows
 returns-in-Commit-clause-knows c = λ k heard is at. c.commit_heard.ensures.knows k heard c.args.number c.in-Commit.refusals is c.in-Commit.is at
@@ -33,7 +39,7 @@ pub returns-in-Read-clause-comes : goal.returns-in-Read-clause-comes
 returns-in-Read-clause-comes c = λ k heard is. c.come_back.ensures.comes
 
 pub returns-in-Write-clause-comes : goal.returns-in-Write-clause-comes
-returns-in-Write-clause-comes c = λ k heard is. c.write_heard.ensures.comes k heard c.in-Write.again is c.in-Write.is
+returns-in-Write-clause-comes c = λ k heard is. c.write_heard.ensures.comes k heard is c.in-Write.is
 
 pub returns-in-Commit-clause-comes : goal.returns-in-Commit-clause-comes
 returns-in-Commit-clause-comes c = λ k heard is.
