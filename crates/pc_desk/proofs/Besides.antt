@@ -2,7 +2,7 @@
 use Rattle.std.proofs.Common.{◌≡◌, ℕ, ◌+◌, ◌<◌, ◌≤◌, ◌⊎◌, ◌==◌, ◌||◌, Bool, true, false, nat_lt, inl, inr, All, Contains, IsTrue, List, [], ◌∷◌, ◌++◌, length, map, Option, Some, Result, Ok, Err, IfErr, refl, sym, ap, subst, ◌∙◌, arith}
 use Rattle.std.proofs.lemmas.Bool.{eq-eqb, eqb-true}
 use Rattle.std.proofs.lemmas.List.{append-nil}
-use Rattle.std.proofs.lemmas.List.Elements.{All-contains, All-cons, All-head, All-nil, All-tail, All-weaker}
+use Rattle.std.proofs.lemmas.List.Elements.{Contains-append_right, All-contains, All-cons, All-head, All-nil, All-tail, All-weaker}
 use Rattle.std.specs.List.{AllZip, list_any}
 use Rattle.pc_base.specs.declared.actor.ActorId.{ActorId}
 use Rattle.pc_base.specs.declared.actor.ActorId.TheVariants as actors
@@ -340,7 +340,7 @@ module _ {C N : Type 0} {G : Ghosts N CommitWorld} (old taken new : DeskMeaning 
     stops-at faults.NoMemory halt there is = subst (λ h. HasHalted old over h × EndsBy (λ made. ⊥) old over h) (sym is) (memory-over, tt)
 
     pub stops_for : (cause : Halt) → IsRefusalIn outcomes cause → HasHalted old new cause × EndsBy (λ made. ⊥) old new cause
-    stops_for cause refusal = subst (λ (d : DeskMeaning C). HasHalted old d cause × EndsBy (λ made. ⊥) old d cause) (sym new-over) (stops-at refusal.fault cause refusal.there refusal.is)
+    stops_for cause refusal = subst (λ (d : DeskMeaning C). HasHalted old d cause × EndsBy (λ made. ⊥) old d cause) (sym new-over) (stops-at refusal.fault cause (subst (λ os. Contains os (Err refusal.fault)) (sym refusal.whole) (Contains-append_right refusal.before (Err refusal.fault ∷ refusal.behind) (Err refusal.fault) (contains_head (Err refusal.fault) refusal.behind))) refusal.is)
 
   -- the list has ended, for want of memory or for a refusal
   pub wave_halted : (cause halt : Halt) → IsRefusalIn outcomes cause → EndsFor taken new outcomes cause halt → HasHalted old new halt

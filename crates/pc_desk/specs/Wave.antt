@@ -112,10 +112,13 @@ abbrev pub IsHaltOf : {N : Type 0} {G : Ghosts N CommitWorld} → ServeFault N G
 IsHaltOf (faults.Full at last message) halt = halt ≡ halts.Full (actors.Range at)
 IsHaltOf faults.NoMemory halt = halt ≡ halts.NoMemory
 
--- Why a wave is not heard: one of these outcomes is a fault at which the list ends so.
+-- Why a wave is not heard: the first of these outcomes that is no reply is a fault at which the list ends so.
 pub record IsRefusalIn {N : Type 0} {G : Ghosts N CommitWorld} (outcomes : List (Result (ReplyMsg N) (ServeFault N G))) (halt : Halt) : Type 0 where
+  pub before : List (Result (ReplyMsg N) (ServeFault N G))
   pub fault : ServeFault N G
-  pub there : Contains outcomes (Err fault)
+  pub behind : List (Result (ReplyMsg N) (ServeFault N G))
+  pub whole : outcomes ≡ before ++ Err fault ∷ behind
+  pub first : All IsReply before
   pub is : IsHaltOf fault halt
 
 -- How a list ended for this cause: all outcomes are known; or memory was wanted.

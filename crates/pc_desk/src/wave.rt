@@ -50,7 +50,7 @@ pub(crate) fn first_refusal<N: Named<CommitWorld>>(outcomes: &[Outcome<N>]) -> O
 }
 
 /// Why a list ends at this fault.
-pub(crate) fn halt_of<N: Named<CommitWorld>>(fault: &ServeFault<N>) -> Halt
+fn halt_of<N: Named<CommitWorld>>(fault: &ServeFault<N>) -> Halt
     ensures { IsHaltOf fault.now result }
 {
     match fault {

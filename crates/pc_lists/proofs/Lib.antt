@@ -3,3 +3,4 @@ pub mod Counts
 pub mod Each
 pub mod Lists
 pub mod Same
+pub mod Zips

@@ -22,6 +22,11 @@ abbrev pub is_put : Request → Bool
 is_put (requests.Put meta seq ts key value) = true
 is_put _ = false
 
+-- The request stages.
+abbrev pub is_stage : Request → Bool
+is_stage (requests.Stage meta ts now writes locks) = true
+is_stage _ = false
+
 -- The request stages or commits.
 abbrev pub is_stage_or_commit : Request → Bool
 is_stage_or_commit (requests.Stage meta ts now writes locks) = true

@@ -28,9 +28,9 @@ use Rattle.pc_proto.specs.RecordRows.Push.{Verdict, There, Refuse, Doubt, Do, is
 use Rattle.pc_proto.specs.RecordRows.Reached.{is_reached, is_staged_at, is_staging}
 use Rattle.pc_proto.specs.RecordRows.Recover.{decided, recover}
 use Rattle.pc_proto.specs.RecordRows.Remove.{remove}
-use Rattle.pc_proto.specs.Requests.{subject}
+use Rattle.pc_proto.specs.Requests.{is_stage, subject}
 use Rattle.pc_proto.specs.Table.{Table, place_of}
-use Rattle.pc_report.specs.Seen.{HasNoStage, SendsNoStage, is_stage, kept_of, of_table, seen, sends_a_stage}
+use Rattle.pc_report.specs.Seen.{HasNoStage, SendsNoStage, kept_of, of_table, seen, sends_a_stage}
 use Rattle.pc_world.specs.Committed.{commit_by}
 use Rattle.pc_world.specs.Evaluation.{state_after}
 use Rattle.pc_world.specs.Named.{request_in}

@@ -9,7 +9,7 @@ use Rattle.pc_proto.specs.declared.event.Event.TheVariants as events
 use Rattle.pc_proto.specs.declared.request.Request.{Request}
 use Rattle.pc_proto.specs.declared.request.Request.TheVariants as requests
 use Rattle.pc_proto.specs.RecordRows.Push.{is_staged}
-use Rattle.pc_proto.specs.Requests.{subject}
+use Rattle.pc_proto.specs.Requests.{is_stage, subject}
 use Rattle.pc_proto.specs.Table.{Table, place_of}
 use Rattle.pc_world.specs.RangeState.{RangeState}
 
@@ -26,11 +26,6 @@ seen false s = of_table s.table
 abbrev pub kept_of : Bool → Option Request → Option Request
 kept_of whole None = None
 kept_of whole (Some request) = if whole || is_some (subject request) then Some request else None
-
--- The request stages.
-abbrev pub is_stage : Request → Bool
-is_stage (requests.Stage meta ts now writes locks) = true
-is_stage _ = false
 
 -- The event sends a stage.
 abbrev pub sends_a_stage : Event → Bool

@@ -3,12 +3,12 @@
 ghost use Rattle.std.specs.Prelude.{◌≡◌, ◌+◌, ◌^◌, ◌<◌, ◌++◌, ◌∷◌, [], false, is_some, IfOk, OnOk, length, slice_get};
 ghost use Rattle.std.specs.List.{list_all, list_any};
 ghost use Rattle.std.specs.Option.{option_copied};
-ghost use Rattle.pc_proto.specs.Requests.{subject};
+ghost use Rattle.pc_proto.specs.Requests.{is_stage, subject};
 ghost use Rattle.pc_proto.specs.Table.{place_of};
 ghost use Rattle.pc_report.specs.Ordering.{rank_in};
 ghost use Rattle.pc_report.specs.ReportOf.{IsRunOver, ending_at, ending_by, rolled_back_in, told_ending};
 ghost use Rattle.pc_report.specs.Replaying.{AreBlank, HasRoomAt, HasRoomFor, IsReplayOf, Notes, after_eval, commit_kept, states_after, asked_in, commit_of_place, committed_one, ending_in, is_present_in, touched, touched_by_send, touched_in};
-ghost use Rattle.pc_report.specs.Seen.{SendsNoStage, kept_of, is_stage, sends_a_stage};
+ghost use Rattle.pc_report.specs.Seen.{SendsNoStage, kept_of, sends_a_stage};
 ghost use Rattle.pc_sent.specs.Sending.{AreSendsOf};
 ghost use Rattle.pc_world.specs.Committed.{commit_by, committed_in, key_sent};
 ghost use Rattle.pc_world.specs.Named.{request_in};

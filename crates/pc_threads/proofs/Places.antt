@@ -4,6 +4,7 @@ use Rattle.std.proofs.lemmas.List.{append-nil, append_assoc}
 use Rattle.std.proofs.lemmas.List.Elements.{Contains-append_right}
 use Rattle.std.specs.List.{AllZip}
 use Rattle.pc_lists.proofs.Lists.{contains_cons, contains_head, contains_nil, contains_tail}
+use Rattle.pc_lists.proofs.Zips.{zip_from}
 
 pub there : {X : Type 0} (xs : List X) (i : ℕ) → i < length xs → (x : X) × (slice_get xs i ≡ Some x)
 there [] i lt = absurd (omega arith)
@@ -82,9 +83,8 @@ module _ {X Y : Type 0} (R : X → Y → Type 0) where
   pub zips_next : (all left : List X) (next : X) (made : List Y) → ZipsBut R all (next ∷ left) made → Contains all next
   zips_next all left next made so_far = subst (λ xs. Contains xs next) (sym so_far.whole) (Contains-append_right so_far.done (next ∷ left) next (contains_head next left))
 
--- lists of which it is known at each place
-pub zip_from : {X : Type 0} (R : X → X → Type 0) (xs ys : List X) → length ys ≡ length xs → ((i : ℕ) (d : X) → i < length xs → R (slice_index_or xs i d) (slice_index_or ys i d)) → AllZip R xs ys
-zip_from R [] [] long each = tt
-zip_from R [] (y ∷ ys) long each = absurd (omega arith)
-zip_from R (x ∷ xs) [] long each = absurd (omega arith)
-zip_from R (x ∷ xs) (y ∷ ys) long each = (each 0 x (omega arith), zip_from R xs ys (omega arith) (λ i d lt. each (suc i) d (omega arith)))
+-- What was run at each place, and then written back over the list that was run.
+pub ran_back : {X : Type 0} (R : X → X → Type 0) (whole gone rest xs : List X) (n : ℕ) → whole ≡ xs → n ≡ length xs → length gone ≡ length whole → ((i : ℕ) (d : X) → i < length whole → R (slice_index_or whole i d) (slice_index_or gone i d)) → AllZip R xs (take n (gone ++ rest))
+ran_back R whole gone rest xs n same count long each =
+    let ran = subst (λ ls. AllZip R ls gone) same (zip_from R whole gone long each) in
+    subst (AllZip R xs) (sym (written_back gone rest n (count ∙ sym (zip_long R xs gone ran)))) ran

@@ -1,5 +1,5 @@
 use Rattle.std.proofs.Common.{◌≡◌, slice_index_or, subst, sym, ◌∙◌}
-use Rattle.pc_serving.proofs.Zips.{zip_at_each}
+use Rattle.pc_lists.proofs.Zips.{zip_at_each}
 use Rattle.pc_serving.specs.Delivery.{Became}
 use Rattle.pc_serving.proofs.beside.serve_beside.Goals as goal
 

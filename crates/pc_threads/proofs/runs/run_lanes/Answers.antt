@@ -1,9 +1,8 @@
 use denote.Exit.{no}
 use denote.Param.Send.{arg_send, param_send}
-use Rattle.std.proofs.Common.{All, slice_index_or, sym, subst, ◌∙◌, rules}
-use Rattle.std.specs.List.{AllZip}
+use Rattle.std.proofs.Common.{All, slice_index_or, sym, subst, rules}
 use Rattle.pc_scripted.specs.Scripted.{IsScripted}
-use Rattle.pc_threads.proofs.Places.{written_back, zip_from, zip_long}
+use Rattle.pc_threads.proofs.Places.{ran_back}
 use Rattle.pc_threads.specs.Lanes.{HasRunLane}
 use Rattle.pc_threads.proofs.runs.run_lanes.Goals as goal
 
@@ -24,9 +23,6 @@ for_each_mut-requires-clause-accepts g c κs within = λ i p lt same.
 pub returns : goal.returns
 returns g c =
     let gone = c.for_each_mut.new.s in
-    let each = zip_from (HasRunLane g.C.Clock.rule) c.as_mut_slice.result.now gone (search rules) (λ i d lt.
+    ran_back (HasRunLane g.C.Clock.rule) c.as_mut_slice.result.now gone _ c.args.lanes.items c.args.lanes.len c.as_mut_slice.ensures.value c.args.lanes.ok.0 (search rules) (λ i d lt.
     let at = (c.for_each_mut.ensures i d lt).1 in
-    subst (λ x. HasRunLane g.C.Clock.rule x (slice_index_or gone i d)) at.argument_is (subst (λ y. HasRunLane g.C.Clock.rule at.argument.now y) at.left at.call)) in
-    let ran = subst (λ ls. AllZip (HasRunLane g.C.Clock.rule) ls gone) c.as_mut_slice.ensures.value each in
-    let back = written_back gone _ c.args.lanes.len (c.args.lanes.ok.0 ∙ sym (zip_long (HasRunLane g.C.Clock.rule) c.args.lanes.items gone ran)) in
-    subst (λ ls. AllZip (HasRunLane g.C.Clock.rule) c.args.lanes.items ls) (sym back) ran
+    subst (λ x. HasRunLane g.C.Clock.rule x (slice_index_or gone i d)) at.argument_is (subst (λ y. HasRunLane g.C.Clock.rule at.argument.now y) at.left at.call))
