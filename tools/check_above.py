@@ -5,7 +5,6 @@ Checks one crate over the contracts of the crates below it, none of which has to
 bodies and their proofs of functions are left out, and definitions and laws stay. It helps whoever changes a crate high in the picture
 on a machine where nothing is proved yet. It is no verdict: only `rt ci` is.
 """
-import os
 import re
 import shutil
 import subprocess
@@ -115,7 +114,7 @@ def main():
         for name in below:
             leave_out_bodies(root / "crates" / name)
         words, folder = command(kit, root, crate, below, listed, flags)
-        sys.exit(subprocess.run(words, cwd=folder, env=dict(os.environ)).returncode)
+        sys.exit(subprocess.run(words, cwd=folder).returncode)
 
 
 if __name__ == "__main__":

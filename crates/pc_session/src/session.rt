@@ -52,7 +52,8 @@ impl<'a, N: Named<CommitWorld>, C: Clock, V: Wire, G> Model for Session<'a, N, C
 
 impl<'a, N: Named<CommitWorld>, C: Clock, V: Wire, G: Gate> Session<'a, N, C, V, G> {
     /// The session of this number, from 1, before its first call. Its list may have at most `limit` entries, and stops at entry number
-    /// `stop`, if one is stated. A request is sent at most `tries` times in all.
+    /// `stop`, if one is stated. A request is sent at most `tries` times in all. Where `beside`, the messages
+    /// of a wave are evaluated beside each other, on threads; else in the order of their numbers.
     pub fn new(
         alloc: Global,
         number: u32,

@@ -83,7 +83,11 @@ fn two_sessions_are_inside_two_ranges_at_once(rt: HostRuntime) -> Result<(), Fai
 #[test]
 fn one_session_is_inside_two_ranges_at_once(rt: HostRuntime) -> Result<(), Fail> {
     let gate = Meeting::new(&rt);
-    let _out = output(&rt, rt.alloc(), ONE, &gate).ok_or("an output")?;
+    let out = output(&rt, rt.alloc(), ONE, &gate).ok_or("an output")?;
     assert!(rt; !gate.was_in_vain());
+    assert!(rt;
+        out.as_slice()
+            .ends_with(b"\nreport\ncommitted 1.1 10.0 -\nend\n")
+    );
     Ok(())
 }
