@@ -16,7 +16,7 @@ use Rattle.pc_proto.specs.declared.call.Call.{Call}
 use Rattle.pc_proto.specs.declared.event.Event.{Event}
 use Rattle.pc_proto.specs.declared.event.Event.TheVariants as events
 use Rattle.pc_proto.specs.declared.request.Request.{Request}
-use Rattle.pc_turns.specs.Order.{AsksAfter, AsksIfNext, AsksPartly, AsksWhole, FinishesAfter, FinishesIfLeft, GoInTurns, GoOnThreads, GoesByItself, IsInBetween, TakesOne, UnlessEnded, entries_by, events_of, is_at_end}
+use Rattle.pc_turns.specs.Order.{AsksIfNext, AsksPartly, AsksWhole, FinishesIfLeft, GoInTurns, GoOnThreads, GoesByItself, IsInBetween, TakesOne, UnlessEnded, entries_by, events_of, is_at_end}
 use Rattle.pc_turns.specs.Order.GoesByItself.{Passed, Ended, Onwards}
 use Rattle.pc_world.proofs.Knowing.{known_push}
 use Rattle.pc_follows.specs.FinishingJobs.{jobs_of}

@@ -1,8 +1,7 @@
 -- What is so of a transaction by what is filed under it is so by all that was sent and heard.
-use Rattle.std.proofs.Common.{◌≡◌, ◌↔◌, ◌⊎◌, ◌&&◌, ◌==◌, ℕ, zero, suc, Bool, true, false, cond, Option, None, Some, All, Any, Contains, IsTrue, List, [], ◌∷◌, filter, refl, sym, ap, subst, ◌∙◌, inl, inr, arith}
+use Rattle.std.proofs.Common.{◌≡◌, ◌↔◌, ◌⊎◌, ◌&&◌, ◌==◌, zero, suc, Bool, true, false, cond, All, Any, IsTrue, List, [], ◌∷◌, filter, refl, sym, subst, ◌∙◌, inl, inr, arith}
 use Rattle.std.proofs.lemmas.List.Elements.{All-cons, All-head, All-nil, All-tail}
 use Rattle.std.proofs.lemmas.Bool.{and_parts}
-use Rattle.std.specs.List.{list_any}
 use Rattle.pc_base.specs.declared.transaction.TxnId.{TxnId}
 use Rattle.pc_base.specs.Transaction.{same_txn}
 use Rattle.pc_files.specs.Filing.{decided_by, deciding_of, is_txn, replies_of, txn_named}

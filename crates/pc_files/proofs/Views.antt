@@ -1,5 +1,5 @@
 -- What is heard of a transaction by what is filed under it is what is heard of it at all.
-use Rattle.std.proofs.Common.{◌≡◌, ◌≢◌, ◌↔◌, ◌⊎◌, ◌&&◌, ◌||◌, ◌==◌, ◌≤◌, ℕ, Bool, true, false, cond, All, Any, Contains, IsTrue, List, [], ◌∷◌, Option, None, Some, filter, find, refl, sym, ap, subst, ◌∙◌, inl, inr}
+use Rattle.std.proofs.Common.{◌≡◌, ◌↔◌, ◌&&◌, ◌||◌, ◌==◌, ℕ, Bool, true, false, cond, Any, IsTrue, List, [], ◌∷◌, Some, filter, find, refl, sym, ap, subst, ◌∙◌}
 use Rattle.std.proofs.lemmas.Bool.{and_parts}
 use Rattle.std.proofs.lemmas.List.Elements.{All-weaker}
 use Rattle.std.specs.List.{list_any}
@@ -8,7 +8,7 @@ use Rattle.pc_base.specs.declared.span.Span.{Span}
 use Rattle.pc_base.specs.declared.transaction.TxnId.{TxnId}
 use Rattle.pc_base.specs.declared.transaction.Who.{Who}
 use Rattle.pc_base.specs.Transaction.{same_txn}
-use Rattle.pc_files.proofs.Narrow.{any_narrow, itself, record_named, same_is}
+use Rattle.pc_files.proofs.Narrow.{any_narrow, itself, record_named}
 use Rattle.pc_files.specs.Filing.{decided_by, deciding_of, is_txn, replies_of, txn_named}
 use Rattle.pc_lists.proofs.Lists.{contains_filter, contains_in_filter}
 use Rattle.pc_proto.specs.declared.fate.Fate.{Fate}
@@ -19,7 +19,7 @@ use Rattle.pc_proto.specs.Requests.{is_about, is_push_of, subject_anchor}
 use Rattle.pc_world.specs.Known.Reads.{IsGoodAt, IsGoodTo, WasRefreshed}
 use Rattle.pc_world.specs.Known.Traffic.{Heard, Sent}
 use Rattle.pc_world.specs.Known.Transactions.{IsGood, Txn, has_staged, is_stage_of}
-use Rattle.pc_world.specs.Send.Recovery.{MetStaging, WasFound, WasMissed}
+use Rattle.pc_world.specs.Send.Recovery.{WasFound, WasMissed}
 use Rattle.pc_world.specs.Send.Settling.{AllResolved, ShowsFate, ShowsFinal, WasResolved}
 use Rattle.pc_world.specs.Tell.End.{shows_staging}
 use Rattle.pc_world.specs.Views.{ShowsAborted, WasAborted, WasCommitted, anchor_heard, shows_committed, shows_view}

@@ -1,6 +1,6 @@
 -- A read is good just as far as the replies take it, round after round.
-use Rattle.std.proofs.Common.{◌≡◌, ◌⊎◌, ◌&&◌, ℕ, ◌+◌, ◌<◌, ◌≤◌, max, nat_le, nat_lt, Bool, true, false, cond, if◌then◌else◌, Contains, List, [], ◌∷◌, Option, None, Some, fold, count_by, refl, sym, ap, subst, ◌∙◌, inl, inr, arith, IsTrue}
-use Rattle.std.proofs.lemmas.Bool.{and_from, and_parts, cases_Bool, cases_lt, le-leb, leb-true, le-ltb, lt-ltb}
+use Rattle.std.proofs.Common.{◌≡◌, ◌⊎◌, ◌&&◌, ℕ, ◌<◌, ◌≤◌, max, nat_le, nat_lt, Bool, true, false, if◌then◌else◌, Contains, List, [], ◌∷◌, Option, None, Some, fold, count_by, refl, sym, ap, subst, ◌∙◌, inl, inr, arith, IsTrue}
+use Rattle.std.proofs.lemmas.Bool.{and_from, and_parts, cases_lt, le-leb, leb-true, le-ltb, lt-ltb}
 use Rattle.pc_base.specs.declared.span.Span.{Span}
 use Rattle.pc_base.specs.declared.transaction.TxnId.{TxnId}
 use Rattle.pc_base.specs.Transaction.{same_txn}
@@ -12,7 +12,7 @@ use Rattle.pc_proto.specs.declared.reply.Reply.{Reply}
 use Rattle.pc_proto.specs.declared.reply.Reply.TheVariants as replies
 use Rattle.pc_proto.specs.declared.request.Request.{Request}
 use Rattle.pc_proto.specs.declared.request.Request.TheVariants as requests
-use Rattle.pc_world.specs.Known.Reads.{AtOnce, Further, IsGoodTo, WasRefreshed, holds_span}
+use Rattle.pc_world.specs.Known.Reads.{AtOnce, Further, IsGoodTo, holds_span}
 use Rattle.pc_world.specs.Known.Traffic.{Heard}
 
 -- Where a way ends.

@@ -1,5 +1,5 @@
 -- How far a reply raises a transaction's write timestamp, by the stages and commits of the transaction that it asks about.
-use Rattle.std.proofs.Common.{◌≡◌, ◌&&◌, ◌==◌, ℕ, max, Bool, true, false, if◌then◌else◌, IsTrue, List, Some, map, refl, ap, subst}
+use Rattle.std.proofs.Common.{◌≡◌, ℕ, max, Bool, true, false, if◌then◌else◌, List, Some, map, refl, ap, subst}
 use Rattle.pc_base.specs.declared.transaction.TxnId.{TxnId}
 use Rattle.pc_base.specs.Transaction.{same_txn}
 use Rattle.pc_files.proofs.Narrow.{same_is}

@@ -1,5 +1,5 @@
 -- A list of writes in flight, one after the other.
-use Rattle.std.proofs.Common.{◌≡◌, ◌↔◌, ◌<◌, ◌≤◌, ◌+◌, ℕ, zero, suc, Bool, true, false, if◌then◌else◌, List, [], ◌∷◌, Option, None, Some, drop, length, slice_index_or, refl, sym, ap, subst, ◌∙◌, add-one, arith, not}
+use Rattle.std.proofs.Common.{◌≡◌, ◌↔◌, ◌<◌, ◌≤◌, ◌+◌, ℕ, zero, suc, Bool, true, false, List, [], ◌∷◌, Option, None, Some, drop, length, slice_index_or, refl, sym, ap, ◌∙◌, add-one, arith}
 use Rattle.pc_may_send.specs.Staging.{listed_first}
 use Rattle.pc_world.specs.Known.Writes.{Write, is_proved, listed_as, unproved}
 

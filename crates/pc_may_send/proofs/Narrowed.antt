@@ -1,5 +1,5 @@
 -- What is so of a transaction by what is filed under it is so by all that was sent and heard.
-use Rattle.std.proofs.Common.{◌≡◌, ◌≢◌, ◌↔◌, ◌⊎◌, ◌<◌, ◌≤◌, ℕ, Bool, true, All, Any, IsTrue, List, Option, refl, sym, subst, inl, inr}
+use Rattle.std.proofs.Common.{◌≡◌, ◌≢◌, ◌↔◌, ◌≤◌, ℕ, true, Any, List, Option, refl, sym, subst, inl, inr}
 use Rattle.std.proofs.lemmas.List.Elements.{All-weaker}
 use Rattle.pc_base.specs.declared.span.Span.{Span}
 use Rattle.pc_base.specs.declared.transaction.TxnId.{TxnId}
@@ -17,9 +17,9 @@ use Rattle.pc_world.specs.Known.Reads.{IsGoodTo, Read}
 use Rattle.pc_world.specs.Known.Traffic.{Heard, Sent}
 use Rattle.pc_world.specs.Known.Transactions.{Txn}
 use Rattle.pc_world.specs.Send.Recovery.{WasFound}
-use Rattle.pc_world.specs.Send.Settling.{AllResolved, ShowsFinal}
+use Rattle.pc_world.specs.Send.Settling.{AllResolved}
 use Rattle.pc_world.specs.Send.Stage.{IsPassed}
-use Rattle.pc_world.specs.StageFate.{EachCommit, EachStage, IsLate, SentCommit, SentStage, WasCommitRefused, stage_request}
+use Rattle.pc_world.specs.StageFate.{EachCommit, EachStage, IsLate, SentStage, WasCommitRefused, stage_request}
 
 module _ (sent : List Sent) (heard : List Heard) (t : Txn) where
   pub ready : (ts : ℕ) → IsReadyToCommit (deciding_of t.id sent) (replies_of t.id heard) ts t ↔ IsReadyToCommit sent heard ts t

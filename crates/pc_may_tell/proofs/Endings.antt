@@ -1,5 +1,5 @@
 -- What an open transaction is told of its end.
-use Rattle.std.proofs.Common.{◌≡◌, ◌↔◌, ◌⊎◌, ℕ, Bool, true, false, None, Some, Any, IsTrue, List, inl, inr, refl, sym, subst, ◌∙◌, not}
+use Rattle.std.proofs.Common.{◌≡◌, ◌↔◌, ◌⊎◌, ℕ, Bool, true, false, Some, Any, IsTrue, List, inl, inr, refl, sym, subst, ◌∙◌, not}
 use Rattle.pc_base.specs.declared.transaction.TxnId.{TxnId}
 use Rattle.pc_may_tell.specs.Ending.{HasCommitted, IsCauseHeard}
 use Rattle.pc_proto.specs.declared.call.Call.TheVariants as calls

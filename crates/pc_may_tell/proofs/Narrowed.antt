@@ -1,7 +1,6 @@
 -- What is so of a transaction by what is filed under it is so by all that was sent and heard.
-use Rattle.std.proofs.Common.{◌≡◌, ◌↔◌, ◌⊎◌, ℕ, Bool, true, false, All, Any, IsTrue, List, None, inl, inr}
+use Rattle.std.proofs.Common.{◌≡◌, ◌↔◌, ◌⊎◌, ℕ, true, List, inl, inr}
 use Rattle.pc_base.specs.declared.transaction.TxnId.{TxnId}
-use Rattle.pc_base.specs.Transaction.{same_txn}
 use Rattle.pc_files.proofs.Narrow.{any_narrow, dead, refused, same_is}
 use Rattle.pc_files.proofs.Views.{committed, reads_good, staged}
 use Rattle.pc_files.specs.Filing.{decided_by, deciding_of, is_txn, replies_of}

@@ -1,7 +1,6 @@
 -- The rows heard to the pieces of a scan, as is kept and as is known.
-use Rattle.std.proofs.Common.{◌≡◌, ◌↔◌, ◌++◌, ℕ, Any, IsTrue, List, [], ◌∷◌, Some, map, refl, sym, ap, subst, ◌∙◌}
+use Rattle.std.proofs.Common.{◌≡◌, ◌↔◌, ℕ, Any, List, [], ◌∷◌, Some, sym, subst, ◌∙◌}
 use Rattle.pc_base.specs.declared.span.Span.{Span}
-use Rattle.pc_known.proofs.Exact.{both}
 use Rattle.pc_known.proofs.Marked.{number_now}
 use Rattle.pc_known.specs.declared.sends.Sends.{Sends}
 use Rattle.pc_known.specs.Sends.{KeepsSends}

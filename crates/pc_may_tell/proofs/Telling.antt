@@ -1,5 +1,5 @@
 -- Rows as they are told, one after the other.
-use Rattle.std.proofs.Common.{◌≡◌, ◌↔◌, ◌<◌, ◌≤◌, ◌+◌, ◌++◌, ℕ, List, [], ◌∷◌, Option, None, Some, drop, length, map, slice_index_or, refl, sym, ap, subst, ◌∙◌}
+use Rattle.std.proofs.Common.{◌≡◌, ◌↔◌, ◌<◌, ◌≤◌, ◌+◌, ◌++◌, ℕ, List, ◌∷◌, Option, None, Some, drop, length, map, slice_index_or, sym, ap, ◌∙◌}
 use Rattle.pc_may_tell.proofs.Counted.{drop_end, drop_next}
 use Rattle.pc_proto.specs.declared.reply.Origin.{Origin}
 use Rattle.pc_world.specs.Tell.Data.{told_row}

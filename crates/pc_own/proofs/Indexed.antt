@@ -6,7 +6,7 @@ use Rattle.pc_base.specs.Span.{same_key}
 use Rattle.pc_own.proofs.ByPlace.{apart_kept, apart_pushed, is_there, last_kept, last_pushed, none_changed, not_there, numbers_equal, one_changed_at, place_kept, place_pushed}
 use Rattle.pc_own.specs.declared.places.Places.{Places}
 use Rattle.pc_own.specs.Places.{HaveOwnSequences, ArePlacesOf, place_by_sequence}
-use Rattle.pc_world.specs.Known.Writes.{Write, asked_again, last_seq_of, proved_at, with_put}
+use Rattle.pc_world.specs.Known.Writes.{Write, asked_again, proved_at, with_put}
 
 pub kept_index : (f : Write → Write) → ((w : Write) → (f w).seq ≡ w.seq) → (ws : List Write) (p : Places) → ArePlacesOf ws p → ArePlacesOf (map f ws) p
 kept_index f same ws p h = record {

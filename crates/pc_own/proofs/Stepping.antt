@@ -1,9 +1,7 @@
 -- One step of a loop over a list.
-use Rattle.std.proofs.Common.{◌≡◌, ℕ, zero, suc, ◌+◌, ◌<◌, List, [], ◌∷◌, ◌++◌, drop, filter, length, map, slice_index_or, slice_set, take, refl, sym, ap, ◌∙◌, add-one, arith}
+use Rattle.std.proofs.Common.{◌≡◌, ℕ, zero, suc, ◌+◌, ◌<◌, List, [], ◌∷◌, ◌++◌, drop, length, map, slice_index_or, slice_set, take, refl, sym, ap, ◌∙◌, add-one, arith}
 use Rattle.std.proofs.lemmas.List.{append_assoc}
 use Rattle.std.proofs.lemmas.List.Elements.{filter-append}
-use Rattle.std.proofs.Math.Seq.{take-suc}
-use Rattle.std.specs.List.{flat_map}
 use Rattle.pc_world.specs.Known.Reads.{Read, read_heard, reads_heard}
 use Rattle.pc_world.specs.Known.Traffic.{Heard, Sent, is_reply_to_one, replies_to}
 

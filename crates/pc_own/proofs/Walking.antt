@@ -1,5 +1,5 @@
 -- A list that is walked beside another one.
-use Rattle.std.proofs.Common.{◌≡◌, List, [], ◌∷◌, ◌++◌, map, refl, sym, ap, ◌∙◌}
+use Rattle.std.proofs.Common.{◌≡◌, List, [], ◌∷◌, ◌++◌, map, refl, ap, ◌∙◌}
 
 pub rests_same : {A : Type 0} (front rest other : List A) → front ++ rest ≡ front ++ other → rest ≡ other
 rests_same [] rest other same = same

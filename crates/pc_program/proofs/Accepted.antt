@@ -1,5 +1,5 @@
 -- What mode run writes is a run with its report.
-use Rattle.std.proofs.Common.{◌≡◌, ℕ, Bool, List, length}
+use Rattle.std.proofs.Common.{ℕ, Bool, List, length}
 use Rattle.pc_base.specs.declared.actor.ActorId.{ActorId}
 use Rattle.pc_program.specs.Output.{IsOutput}
 use Rattle.pc_program.specs.OutputsAreAccepted.{OutputsAreAccepted}

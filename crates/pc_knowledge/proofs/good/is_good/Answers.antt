@@ -1,4 +1,4 @@
-use Rattle.std.proofs.Common.{◌≡◌, ◌↔◌, All, IsTrue, subst, sym, ◌≤◌, ◌∙◌}
+use Rattle.std.proofs.Common.{◌≡◌, ◌↔◌, All, IsTrue, subst, ◌≤◌, ◌∙◌}
 use Rattle.pc_world.specs.Known.Reads.{IsGoodAt}
 use Rattle.pc_knowledge.proofs.good.is_good.Goals as goal
 

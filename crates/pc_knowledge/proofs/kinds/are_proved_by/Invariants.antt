@@ -1,5 +1,5 @@
-use Rattle.std.proofs.Common.{ℕ, ◌≤◌, All, Any, IsTrue, take}
-use Rattle.pc_world.specs.Known.Writes.{IsProvedBy, Write}
+use Rattle.std.proofs.Common.{All, take}
+use Rattle.pc_world.specs.Known.Writes.{IsProvedBy}
 use Rattle.pc_knowledge.proofs.kinds.are_proved_by.Given as goal
 
 abbrev pub invariant-loop-write : goal.invariant-loop-write

@@ -1,4 +1,4 @@
-use Rattle.std.proofs.Common.{◌≡◌, List, None, Some, map, refl, sym, ap, ◌∙◌}
+use Rattle.std.proofs.Common.{List, None, Some, map, refl, sym, ap, ◌∙◌}
 use Rattle.std.proofs.lemmas.Result.{on_ok_weaker}
 use Rattle.pc_knowledge.proofs.Raised.{heard_same}
 use Rattle.pc_own.proofs.ByNumber.{unchanged}

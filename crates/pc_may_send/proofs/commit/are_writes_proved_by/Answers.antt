@@ -1,4 +1,4 @@
-use Rattle.std.proofs.Common.{◌↔◌, ◌≤◌, ℕ, All, IsTrue, subst}
+use Rattle.std.proofs.Common.{◌↔◌, All, IsTrue, subst}
 use Rattle.pc_world.specs.Known.Writes.{IsProvedBy}
 use Rattle.pc_may_send.proofs.commit.are_writes_proved_by.Goals as goal
 

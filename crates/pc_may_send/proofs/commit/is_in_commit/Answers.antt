@@ -1,4 +1,4 @@
-use Rattle.std.proofs.Common.{◌≡◌, ◌↔◌, true, All, Any, IsTrue, subst, ◌∙◌}
+use Rattle.std.proofs.Common.{◌≡◌, true}
 use Rattle.pc_may_send.proofs.commit.is_in_commit.Goals as goal
 
 pub returns-then-is_open : goal.returns-then-is_open

@@ -1,4 +1,4 @@
-use Rattle.std.proofs.Common.{◌≡◌, ◌↔◌, true, All, Any, IsTrue, subst, ◌∙◌}
+use Rattle.std.proofs.Common.{◌≡◌, true}
 use Rattle.pc_may_send.proofs.commit.is_nothing_elsewhere.Goals as goal
 
 pub returns-then-are_late_elsewhere : goal.returns-then-are_late_elsewhere

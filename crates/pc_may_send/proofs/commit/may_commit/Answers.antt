@@ -1,4 +1,4 @@
-use Rattle.std.proofs.Common.{◌≡◌, true, Some, inl, inr, refl, subst, sym}
+use Rattle.std.proofs.Common.{◌≡◌, true, Some, inl, inr, subst, sym}
 use Rattle.pc_proto.specs.declared.call.Call.TheVariants as calls
 use Rattle.pc_may_send.proofs.commit.may_commit.Goals as goal
 use Rattle.pc_world.specs.Known.{call_of, open_txn}

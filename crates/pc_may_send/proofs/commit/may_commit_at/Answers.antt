@@ -1,4 +1,4 @@
-use Rattle.std.proofs.Common.{◌≡◌, true, inl, inr, refl}
+use Rattle.std.proofs.Common.{◌≡◌, true, inl, inr}
 use Rattle.pc_may_send.proofs.commit.may_commit_at.Goals as goal
 
 pub returns-then-may_decide : goal.returns-then-may_decide

@@ -1,4 +1,3 @@
-use Rattle.std.proofs.Common.{false, refl}
 use Rattle.std.specs.Option.{option_copied}
 use Rattle.pc_known.proofs.Exact.{both}
 use Rattle.pc_may_send.proofs.Existing.{put_again, no_put_again}

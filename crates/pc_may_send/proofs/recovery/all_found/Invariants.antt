@@ -1,4 +1,4 @@
-use Rattle.std.proofs.Common.{ℕ, ◌≤◌, All, Any, IsTrue, take}
+use Rattle.std.proofs.Common.{All, Any, take}
 use Rattle.pc_world.specs.Send.Recovery.{WasFound}
 use Rattle.pc_may_send.proofs.recovery.all_found.Given as goal
 

@@ -1,4 +1,4 @@
-use Rattle.std.proofs.Common.{◌≡◌, ◌↔◌, ◌+◌, ◌∷◌, true, drop, refl, inl, inr, sym, subst, ◌∙◌}
+use Rattle.std.proofs.Common.{◌≡◌, ◌↔◌, ◌+◌, ◌∷◌, true, drop, refl, inl, inr, sym, subst}
 use Rattle.pc_known.proofs.Exact.{both}
 use Rattle.pc_may_send.proofs.Listing.{drop_next}
 use Rattle.pc_may_send.proofs.recovery.is_refused_after.Goals as goal

@@ -1,4 +1,4 @@
-use Rattle.std.proofs.Common.{◌≡◌, ◌↔◌, true, All, Any, IsTrue, subst, ◌∙◌}
+use Rattle.std.proofs.Common.{◌≡◌, true}
 use Rattle.pc_may_send.proofs.refresh.is_of_reads.Goals as goal
 
 pub returns-then-holds_some : goal.returns-then-holds_some

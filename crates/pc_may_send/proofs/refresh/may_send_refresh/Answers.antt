@@ -1,4 +1,4 @@
-use Rattle.std.proofs.Common.{◌≡◌, ◌↔◌, IsTrue, Some, ap, sym, subst, ◌∙◌}
+use Rattle.std.proofs.Common.{◌↔◌, IsTrue, ap, sym, subst, ◌∙◌}
 use Rattle.pc_files.specs.Filing.{replies_of}
 use Rattle.pc_may_send.proofs.Narrowed.{refresh}
 use Rattle.pc_may_send.proofs.Existing.{refresh_in}

@@ -1,4 +1,4 @@
-use Rattle.std.proofs.Common.{◌↔◌, ◌≤◌, ℕ, All, IsTrue, subst}
+use Rattle.std.proofs.Common.{◌↔◌, IsTrue, subst}
 use Rattle.pc_world.specs.Send.Settling.{AllResolved}
 use Rattle.pc_may_send.proofs.settling.are_keys_resolved.Goals as goal
 

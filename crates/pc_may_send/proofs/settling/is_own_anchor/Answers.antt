@@ -1,4 +1,4 @@
-use Rattle.std.proofs.Common.{◌≡◌, ◌↔◌, IsTrue, Some, subst, ◌∙◌}
+use Rattle.std.proofs.Common.{◌≡◌, ◌↔◌, IsTrue, Some, subst}
 use Rattle.pc_files.proofs.Views.{anchored}
 use Rattle.pc_may_send.proofs.settling.is_own_anchor.Goals as goal
 use Rattle.pc_world.specs.Views.{anchor_heard}

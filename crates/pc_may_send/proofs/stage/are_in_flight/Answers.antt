@@ -1,7 +1,6 @@
 use Rattle.std.proofs.Common.{refl}
 use Rattle.pc_may_send.proofs.Listing.{next_listed, none_listed}
 use Rattle.pc_may_send.proofs.stage.are_in_flight.Goals as goal
-use Rattle.std.specs.Option.{option_copied}
 
 pub returns-in-None : goal.returns-in-None
 returns-in-None c = (

@@ -1,4 +1,4 @@
-use Rattle.std.proofs.Common.{◌≡◌, ◌≢◌, ◌↔◌, true, All, Any, IsTrue, subst, ◌∙◌}
+use Rattle.std.proofs.Common.{◌≡◌, true}
 use Rattle.pc_may_send.proofs.stage.is_new_stage_in.Goals as goal
 
 pub returns-then-is_commit_at : goal.returns-then-is_commit_at

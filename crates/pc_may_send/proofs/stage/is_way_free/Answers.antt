@@ -1,4 +1,4 @@
-use Rattle.std.proofs.Common.{◌≡◌, ◌≢◌, ◌↔◌, true, All, Any, IsTrue, subst, ◌∙◌}
+use Rattle.std.proofs.Common.{◌≡◌, true}
 use Rattle.pc_may_send.proofs.stage.is_way_free.Goals as goal
 
 pub returns-then-are_stages_passed : goal.returns-then-are_stages_passed

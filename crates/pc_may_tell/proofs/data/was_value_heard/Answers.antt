@@ -1,4 +1,4 @@
-use Rattle.std.proofs.Common.{◌≡◌, ◌↔◌, true, Any, IsTrue, sym, subst, ◌∙◌}
+use Rattle.std.proofs.Common.{◌↔◌, Any, IsTrue, sym, subst, ◌∙◌}
 use Rattle.std.specs.Option.{option_copied}
 use Rattle.pc_known.proofs.Exact.{both}
 use Rattle.pc_known.proofs.Marked.{number_now}

@@ -1,4 +1,4 @@
-use Rattle.std.proofs.Common.{◌≡◌, ◌↔◌, true, inl, inr, All, Any, IsTrue, refl, subst, ◌∙◌}
+use Rattle.std.proofs.Common.{◌≡◌, true, inl, inr}
 use Rattle.pc_may_tell.proofs.end.has_committed.Goals as goal
 
 pub returns-then-is_unwritten : goal.returns-then-is_unwritten

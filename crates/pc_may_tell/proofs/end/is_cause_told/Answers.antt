@@ -1,4 +1,4 @@
-use Rattle.std.proofs.Common.{◌≡◌, ◌↔◌, true, inl, inr, All, Any, IsTrue, refl, subst, ◌∙◌}
+use Rattle.std.proofs.Common.{◌≡◌, true, inl, inr}
 use Rattle.pc_may_tell.proofs.end.is_cause_told.Goals as goal
 
 pub returns-then-was_own_aborted : goal.returns-then-was_own_aborted

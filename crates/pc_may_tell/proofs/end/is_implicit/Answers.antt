@@ -1,4 +1,4 @@
-use Rattle.std.proofs.Common.{◌≡◌, ◌↔◌, true, All, Any, IsTrue, subst, ◌∙◌}
+use Rattle.std.proofs.Common.{◌≡◌, ◌↔◌, true, All, IsTrue, subst}
 use Rattle.pc_world.specs.Known.Writes.{IsProvedBy}
 use Rattle.pc_may_tell.proofs.end.is_implicit.Goals as goal
 

@@ -1,5 +1,4 @@
 use Rattle.std.proofs.Common.{◌≡◌, ◌↔◌, true, IsTrue, subst, sym}
-use Rattle.std.specs.Option.{option_copied}
 use Rattle.pc_may_tell.proofs.end.is_own_cause_told.Goals as goal
 use Rattle.pc_proto.specs.declared.why.Why.{Why}
 use Rattle.pc_world.specs.Send.Abort.{own_cause}

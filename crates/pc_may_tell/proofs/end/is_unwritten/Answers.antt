@@ -1,4 +1,4 @@
-use Rattle.std.proofs.Common.{◌≡◌, ◌↔◌, true, All, Any, IsTrue, subst, ◌∙◌}
+use Rattle.std.proofs.Common.{◌≡◌, true}
 use Rattle.pc_may_tell.proofs.end.is_unwritten.Goals as goal
 
 pub returns-then-is_without_put : goal.returns-then-is_without_put

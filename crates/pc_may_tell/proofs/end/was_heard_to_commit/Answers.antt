@@ -1,4 +1,4 @@
-use Rattle.std.proofs.Common.{◌≡◌, ◌↔◌, true, inl, inr, All, Any, IsTrue, refl, subst, ◌∙◌}
+use Rattle.std.proofs.Common.{◌≡◌, true, inl, inr}
 use Rattle.pc_may_tell.proofs.end.was_heard_to_commit.Goals as goal
 
 pub returns-then-was_own_committed : goal.returns-then-was_own_committed

@@ -1,4 +1,3 @@
-use Rattle.std.proofs.Common.{◌≡◌, Bool, true, false, ◌↔◌, IsTrue, not}
 use Rattle.pc_may_tell.proofs.end.was_not_aborted.Goals as goal
 use Rattle.pc_may_tell.proofs.Endings.{none_aborted}
 

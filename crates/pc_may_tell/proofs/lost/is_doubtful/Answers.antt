@@ -1,4 +1,4 @@
-use Rattle.std.proofs.Common.{◌≡◌, ◌↔◌, true, inl, inr, All, Any, IsTrue, subst, ◌∙◌}
+use Rattle.std.proofs.Common.{◌≡◌, true, inl, inr}
 use Rattle.pc_may_tell.proofs.lost.is_doubtful.Goals as goal
 
 pub returns-then-some_live_stage : goal.returns-then-some_live_stage

@@ -1,4 +1,4 @@
-use Rattle.std.proofs.Common.{◌≡◌, ◌↔◌, true, All, Any, IsTrue, subst, ◌∙◌}
+use Rattle.std.proofs.Common.{◌≡◌, true}
 use Rattle.pc_may_tell.proofs.lost.is_lost_in_doubt.Goals as goal
 
 pub returns-then-was_lost : goal.returns-then-was_lost

@@ -1,4 +1,4 @@
-use Rattle.std.proofs.Common.{◌≡◌, ◌↔◌, true, All, Any, IsTrue, subst, ◌∙◌}
+use Rattle.std.proofs.Common.{◌≡◌, true}
 use Rattle.pc_may_tell.proofs.refusal.is_blocked.Goals as goal
 
 pub returns-then-may_be_blocked : goal.returns-then-may_be_blocked

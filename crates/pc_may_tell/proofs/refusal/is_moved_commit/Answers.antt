@@ -1,4 +1,4 @@
-use Rattle.std.proofs.Common.{◌≡◌, ◌↔◌, true, All, Any, IsTrue, subst, ◌∙◌}
+use Rattle.std.proofs.Common.{◌≡◌, true}
 use Rattle.pc_may_tell.proofs.refusal.is_moved_commit.Goals as goal
 
 pub returns-then-is_commit : goal.returns-then-is_commit

@@ -1,4 +1,4 @@
-use Rattle.std.proofs.Common.{◌≡◌, ◌≤◌, true, All, Any, length, take, refl, sym, subst}
+use Rattle.std.proofs.Common.{◌≡◌, true, All, refl, sym, subst}
 use Rattle.std.proofs.lemmas.List.{take_all}
 use Rattle.std.proofs.lemmas.List.Elements.{All-contains, All-more}
 use Rattle.pc_may_tell.specs.Moving.{MetEightOf}

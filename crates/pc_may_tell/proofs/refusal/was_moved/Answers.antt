@@ -1,4 +1,4 @@
-use Rattle.std.proofs.Common.{◌≡◌, ◌↔◌, true, All, Any, IsTrue, subst, ◌∙◌}
+use Rattle.std.proofs.Common.{◌≡◌, true}
 use Rattle.pc_may_tell.proofs.refusal.was_moved.Goals as goal
 
 pub returns-then-moved_eight : goal.returns-then-moved_eight

@@ -1,5 +1,4 @@
-use Rattle.std.proofs.Common.{◌≡◌, ◌↔◌, ◌++◌, ◌≤◌, ℕ, List, [], drop, length, map, refl, sym, subst}
-use Rattle.pc_known.proofs.Exact.{both}
+use Rattle.std.proofs.Common.{refl}
 use Rattle.pc_may_tell.proofs.Telling.{all_told, next_told, none_told}
 use Rattle.pc_may_tell.proofs.rows.after.Goals as goal
 

@@ -1,4 +1,4 @@
-use Rattle.std.proofs.Common.{◌≡◌, ◌↔◌, Bool, false, IsTrue, sym, ◌∙◌}
+use Rattle.std.proofs.Common.{◌↔◌, Bool, false, IsTrue, sym, ◌∙◌}
 use Rattle.std.proofs.lemmas.Result.{IfOk-weaker}
 use Rattle.pc_known.proofs.Exact.{both, past_gates}
 use Rattle.pc_may_tell.proofs.tell.may_tell_in.Goals as goal

@@ -1,4 +1,4 @@
-use Rattle.std.proofs.Common.{◌≡◌, Some, subst, sym}
+use Rattle.std.proofs.Common.{◌≡◌, subst, sym}
 use Rattle.pc_program.proofs.ExactVerdicts.{malformed_exactly, no_run_exactly, run_exactly}
 use Rattle.pc_program.specs.Limits.{KeepsLimit, input_limit}
 use Rattle.pc_words.specs.declared.Mode.TheVariants as modes

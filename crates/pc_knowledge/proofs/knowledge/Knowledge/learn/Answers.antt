@@ -1,4 +1,4 @@
-use Rattle.std.proofs.Common.{◌≡◌, Option, ap, subst, ◌∙◌}
+use Rattle.std.proofs.Common.{◌≡◌, ap, subst, ◌∙◌}
 use Rattle.std.proofs.lemmas.Result.{on_ok_weaker}
 use Rattle.std.specs.Option.{option_copied}
 use Rattle.pc_files.specs.Filing.{KeepsFiles}

@@ -1,4 +1,4 @@
-use Rattle.std.proofs.Common.{◌≡◌, ◌+◌, arith}
+use Rattle.std.proofs.Common.{arith}
 use Rattle.pc_known.proofs.Marked.{heard_at, none_heard}
 use Rattle.pc_known.proofs.sends.Sends.was_heard.Goals as goal
 

@@ -1,4 +1,4 @@
-use Rattle.std.proofs.Common.{◌≡◌, ◌<◌, List, None, Some, [], length, map, sym, ap, ◌∙◌}
+use Rattle.std.proofs.Common.{◌≡◌, List, None, Some, [], map, sym, ap, ◌∙◌}
 use Rattle.std.proofs.lemmas.Result.{on_ok_weaker}
 use Rattle.pc_own.proofs.ByPlace.{within}
 use Rattle.pc_own.proofs.Indexed.{kept_or_left, proved_nowhere, proved_seq, proved_there}
