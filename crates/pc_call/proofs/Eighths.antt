@@ -11,6 +11,7 @@ use Rattle.pc_proto.specs.declared.request.Request.TheVariants as requests
 use Rattle.pc_wave.proofs.Lists.{at_least-fewer}
 use Rattle.pc_wave.specs.declared.message.Message.{Message}
 use Rattle.pc_wave.specs.Standing.{MessageStands}
+use Rattle.pc_wave.specs.Course.{Course}
 use Rattle.pc_world.specs.Counting.{AtLeast}
 use Rattle.pc_follows.specs.Eighth.{IsBlockedAnswer, IsMovedAnswer, MetEighth, TellsTheEighth, WasMovedEighth}
 use Rattle.pc_world.specs.Known.{Known}
@@ -41,20 +42,20 @@ module _ {X : Type 0} (P Q : X → Type 0) (all : (x : X) → P x → Q x) where
   at_least-weaker (suc n) (x ∷ xs) (inl (p, rest)) = inl (all x p, at_least-weaker n xs rest)
   at_least-weaker (suc n) (x ∷ xs) (inr rest) = inr (at_least-weaker (suc n) xs rest)
 
-module _ (k : Known) (ms : List Message) (fewer : NoOtherMetEighth k.heard_now ms) where
-  none_of : (r : Request) → MetEighth k r → (xs : List Message) → All (MessageStands k) xs → All (λ m. m.conflicts < MOST_CONFLICTS) xs → All (λ m. IsSameRequest m.request r → ⊥) xs
+module _ (c : Course) (k : Known) (waits : Request → Type 0) (ms : List Message) (fewer : NoOtherMetEighth waits k.heard_now ms) where
+  none_of : (r : Request) → MetEighth k r → (xs : List Message) → All (MessageStands c k) xs → All (λ m. m.conflicts < MOST_CONFLICTS) xs → All (λ m. IsSameRequest m.request r → ⊥) xs
   none_of r eight [] stand few = All-nil (λ (m : Message). IsSameRequest m.request r → ⊥)
   none_of r eight (m ∷ xs) stand few =
-      let st = All-head (MessageStands k) m xs stand in
+      let st = All-head (MessageStands c k) m xs stand in
       let low = All-head (λ (m : Message). m.conflicts < MOST_CONFLICTS) m xs few in
       All-cons (λ (m : Message). IsSameRequest m.request r → ⊥) m xs
       (λ same. st.counted.no_more (at_least-fewer (IsConflictOf m.request) (m.conflicts + 1) MOST_CONFLICTS k.heard_now (omega (arith, low))
       (at_least-weaker (IsConflictOf r) (IsConflictOf m.request) (λ h c. record { same = same_trans m.request r h.request same c.same; conflict = c.conflict }) MOST_CONFLICTS k.heard_now eight)))
-      (none_of r eight xs (All-tail (MessageStands k) m xs stand) (All-tail (λ (m : Message). m.conflicts < MOST_CONFLICTS) m xs few))
+      (none_of r eight xs (All-tail (MessageStands c k) m xs stand) (All-tail (λ (m : Message). m.conflicts < MOST_CONFLICTS) m xs few))
 
   -- no request met its eighth where each message met fewer
-  pub none_eighth : All (MessageStands k) ms → All (λ m. m.conflicts < MOST_CONFLICTS) ms → (r : Request) → MetEighth k r → ⊥
-  none_eighth stand few r eight = fewer r (none_of r eight ms stand few) eight
+  pub none_eighth : All (MessageStands c k) ms → All (λ m. m.conflicts < MOST_CONFLICTS) ms → (r : Request) → (waits r → ⊥) → MetEighth k r → ⊥
+  none_eighth stand few r left eight = fewer r left (none_of r eight ms stand few) eight
 
 -- a call that is no commit may be told anything then
 pub no_eighth : (k : Known) (w : Statement) (answer : Answer) → k.statement ≡ Some w → (w.call ≡ calls.Commit → ⊥) → ((r : Request) → MetEighth k r → ⊥) → (s : Statement) → k.statement ≡ Some s → TellsTheEighth k s answer
@@ -72,7 +73,7 @@ no_eighth_move k w answer opened call none s is =
 pub told_moved : (k : Known) (w : Statement) (answer : Answer) → k.statement ≡ Some w → w.call ≡ calls.Commit → IsMovedAnswer answer → (s : Statement) → k.statement ≡ Some s → TellsTheEighth k s answer
 told_moved k w answer opened call moved s is =
     let same : w ≡ s = same_Some w s (sym opened ∙ is) in
-    record { blocked = λ no r eight. absurd (no (sym (ap (λ (s : Statement). s.call) same) ∙ call)); moved = λ asked eight. moved }
+    record { blocked = λ no r eight. absurd (no (sym (ap (λ (s : Statement). s.call) same) ∙ call)); moved = λ asked eight. inl moved }
 
 -- another call that is told that it is blocked
 pub told_blocked : (k : Known) (w : Statement) (answer : Answer) → k.statement ≡ Some w → (w.call ≡ calls.Commit → ⊥) → IsBlockedAnswer answer → (s : Statement) → k.statement ≡ Some s → TellsTheEighth k s answer

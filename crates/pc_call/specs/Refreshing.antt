@@ -1,5 +1,6 @@
 -- What follows the refreshes of a commit.
-use Rattle.std.specs.Prelude.{◌≡◌, ℕ, List, [], ◌∷◌, ⊤}
+use Rattle.std.specs.Prelude.{◌≡◌, ℕ, [], ◌∷◌, ⊤}
+use Rattle.pc_call.specs.Setting.{Setting}
 use Rattle.pc_call.specs.declared.refreshes.Refreshed.{Refreshed}
 use Rattle.pc_call.specs.declared.refreshes.Refreshed.TheVariants as refreshes
 use Rattle.pc_call.specs.Serving.{InCall}
@@ -12,9 +13,9 @@ use Rattle.pc_wave.specs.Messages.{message_to_send}
 use Rattle.pc_world.specs.Known.{Known}
 
 -- The commit goes out; or its call may be told that the transaction restarts, which stands so then.
-abbrev pub IsRefreshed : List (List ℕ) → ℕ → Known → OpenTxn → Refreshed → Type 0
-IsRefreshed splits session k x (refreshes.Commit call) = InCall splits k x call.purpose call.wave
-IsRefreshed splits session k x (refreshes.Restart answer) = MayTellOpen splits session k answer x
+abbrev pub IsRefreshed : Setting → ℕ → Known → OpenTxn → Refreshed → Type 0
+IsRefreshed set session k x (refreshes.Commit call) = InCall set k x call.purpose call.wave
+IsRefreshed set session k x (refreshes.Restart answer) = MayTellOpen set session k answer x
 
 -- The answer says that the transaction restarts.
 abbrev pub IsRestart : Answer → Type 0

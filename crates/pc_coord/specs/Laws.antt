@@ -1,5 +1,5 @@
 -- What a coordinator knows is not lost beside it.
-use Rattle.std.specs.Prelude.{◌≡◌, None}
+use Rattle.std.specs.Prelude.{◌≡◌, Bool, None}
 use Rattle.pc_coord.specs.Beside.{IsLaterBeside}
 use Rattle.pc_coord.specs.Coordination.{Coordination, with_clock}
 use Rattle.pc_coord.specs.declared.due.Due.TheVariants as dues
@@ -10,5 +10,5 @@ use Rattle.pc_world.specs.Known.{Known}
 -- messages beside it, once its clock has heard of it.
 abbrev pub CoordinatingGoesOn : Type 0
 CoordinatingGoesOn =
-    (c : Coordination) (start k : Known) → Knows c start → c.due ≡ dues.Nothing → c.job ≡ None → IsLaterBeside c start k
-    → Knows (with_clock k.high c) k
+    (loses : Bool) (c : Coordination) (start k : Known) → Knows loses c start → c.due ≡ dues.Nothing → c.job ≡ None → IsLaterBeside c start k
+    → Knows loses (with_clock k.high c) k

@@ -5,6 +5,7 @@ mod alive;
 mod asking;
 mod coordinator;
 mod due;
+mod ends;
 mod going;
 mod job;
 mod kinds;
@@ -13,6 +14,7 @@ mod next;
 mod pusher;
 mod round;
 mod serving;
+mod stages;
 
 pub use coordinator::Coordinator;
 pub use job::Job;

@@ -2,7 +2,7 @@
 use Rattle.std.proofs.Common.{◌≡◌, ℕ, ◌+◌, ◌<◌, ◌≤◌, ◌⊎◌, ◌==◌, ◌||◌, Bool, true, false, nat_lt, inl, inr, All, Contains, IsTrue, List, [], ◌∷◌, ◌++◌, length, map, Option, Some, Result, Ok, Err, IfErr, refl, sym, ap, subst, ◌∙◌, arith}
 use Rattle.std.proofs.lemmas.Bool.{eq-eqb, eqb-true}
 use Rattle.std.proofs.lemmas.List.{append-nil}
-use Rattle.std.proofs.lemmas.List.Elements.{Contains-append_right, All-contains, All-cons, All-head, All-nil, All-tail, All-weaker}
+use Rattle.std.proofs.lemmas.List.Elements.{Contains-append_cases, Contains-append_left, Contains-append_right, All-contains, All-cons, All-head, All-nil, All-tail, All-weaker}
 use Rattle.std.specs.List.{AllZip, list_any}
 use Rattle.pc_base.specs.declared.actor.ActorId.{ActorId}
 use Rattle.pc_base.specs.declared.actor.ActorId.TheVariants as actors
@@ -10,12 +10,13 @@ use Rattle.pc_desk.proofs.Counting.{any_counts, counted_once}
 use Rattle.pc_desk.proofs.Ending.{all_wait, ended_memory, not_lost}
 use Rattle.pc_desk.proofs.Halting.{wants_memory}
 use Rattle.pc_desk.proofs.Refusing.{refused_still, was_given_back}
+use Rattle.pc_desk.proofs.Tracking.{stray_on}
 use Rattle.pc_desk.proofs.Waves.{in_wave_now}
 use Rattle.pc_desk.specs.declared.answered.Answered.{Answered}
 use Rattle.pc_desk.specs.declared.halt.Halt.{Halt}
 use Rattle.pc_desk.specs.declared.halt.Halt.TheVariants as halts
-use Rattle.pc_desk.specs.Desk.{AreInTurn, DeskMeaning, HasDelivered, HasHalted, IsAnsweredBy, IsOneSent, KeepsTrack, KnowsFull, Posted, answered_as, as_sent, heard_as_number, is_on_way, posted_as, times_sent}
-use Rattle.pc_desk.specs.Ending.{EndsBy, EndsOnly, HasEnded, IsNotLost, IsSpent, KnowsEvaluation, WaitsUnheard}
+use Rattle.pc_desk.specs.Desk.{AreInTurn, DeskMeaning, HasDelivered, HasHalted, IsAnsweredBy, IsOneSent, IsStray, KeepsTrack, KnowsFull, Posted, answered_as, as_sent, heard_as_number, is_on_way, posted_as, times_sent}
+use Rattle.pc_desk.specs.Ending.{EndsBy, EndsOnly, HasEnded, IsNotLost, IsSpent, KnowsEvaluation, WaitsUnheard, all_waiting}
 use Rattle.pc_desk.specs.OwnLog.{IsOwnLog, LogMeaning}
 use Rattle.pc_desk.specs.Refused.{WasGivenBack}
 use Rattle.pc_desk.specs.Waiting.{EndsUnheard, WentOn}
@@ -176,15 +177,21 @@ module _ {C N : Type 0} {G : Ghosts N CommitWorld} (old taken new : DeskMeaning 
     none-answered : (n : ℕ) → answered_as n old.replies ≡ 0
     none-answered n = ap (answered_as n) none
 
+    knows-on : (k : KnownEntry Event) → Contains old.log.part.known k → Contains now-known k
+    knows-on k there = kept.learnt.more k (subst (λ (t : DeskMeaning C). Contains t.log.part.known k) (sym taken-is) there)
+
     track-then : KeepsTrack then
     track-then = record {
       log = subst (λ (d : DeskMeaning C). IsOwnLog d.log) new-is kept.log;
       counted = track.counted;
       numbers = track.numbers;
       once = track.once;
+      dropped = track.dropped;
+      strays = All-weaker (IsStray old.log) (IsStray then.log) (λ p. stray_on old.log then.log p refl (λ one. one) knows-on) track.dropped track.strays;
       stages = λ n. let s = track.stages n in omega (arith, s, counted n, none-answered n);
       posted = All-nil (Says (known_of old.log.part.own).sent);
       waits = All-nil (IsOneSent (known_of old.log.part.own).sent);
+      aside = track.aside;
       answered = answered-so old.log.part.own old.log.part.id now-known then.log refl refl refl old.posted (answers_in outcomes) pairs track.posted;
       turn = record {
         rising = in-turn old.log.part.own old.log.part.id now-known old.posted (answers_in outcomes) pairs (subst AreRisingMessages (sym wave-is) took.rising);
@@ -213,7 +220,8 @@ module _ {C N : Type 0} {G : Ghosts N CommitWorld} (old taken new : DeskMeaning 
       sends = refl;
       track = track-then;
       way = way-then;
-      more = λ k there. kept.learnt.more k (subst (λ (t : DeskMeaning C). Contains t.log.part.known k) (sym taken-is) there);
+      later = refl;
+      more = knows-on;
       limit = refl;
     }
 
@@ -239,8 +247,8 @@ module _ {C N : Type 0} {G : Ghosts N CommitWorld} (old taken new : DeskMeaning 
 
     waited : (d : Delivery N G) → Contains wave d → WaitsUnheard (known_of old.log.part.own) (posted_of d.message)
     waited d there =
-        All-contains (WaitsUnheard (known_of old.log.part.own)) old.posted (posted_of d.message) (all_wait old track)
-        (subst (λ l. Contains l (posted_of d.message)) (sym wave-is) (contains_map (λ (x : Delivery N G). posted_of x.message) wave d there))
+        All-contains (WaitsUnheard (known_of old.log.part.own)) (all_waiting old) (posted_of d.message) (all_wait old track)
+        (Contains-append_left old.posted old.later (posted_of d.message) (subst (λ l. Contains l (posted_of d.message)) (sym wave-is) (contains_map (λ (x : Delivery N G). posted_of x.message) wave d there)))
 
     spent-by : (d : Delivery N G) (at : ℕ) (last : NoteMeaning Head Event) (message : Message N G) → GoesOut old d → IsFullAt d.message.range old.range_limit d.message (faults.Full at last message) → KnowsOutcome new.log.part (Err (faults.Full at last message))
         → WasGivenBack old.range_limit over.log.part (as_sent (posted_of d.message))
@@ -277,13 +285,16 @@ module _ {C N : Type 0} {G : Ghosts N CommitWorld} (old taken new : DeskMeaning 
 
     others : (x : Sent) → Contains (known_of old.log.part.own).sent x → IsNotLost old x → IsSpent over x ⊎ IsNotLost over x
     others x there (inl heard) = inr (inl heard)
-    others x there (inr (inl waits)) =
-        let w = contains_in_map (λ (d : Delivery N G). posted_of d.message) wave waits.waiting (subst (λ l. Contains l waits.waiting) wave-is waits.there) in
-        let number : w.0.message.number ≡ x.number = ap (λ (p : Posted). p.number) w.2 ∙ waits.is in
-        elim (All-contains Fate wave w.0 all-fates w.1) [
-          | inl spent ↦ inl (subst (IsSpent over) (the-one w.0 w.1 x there number) spent)
-          | inr knows ↦ inr (inr (inr (subst (KnowsEvaluation over.log.part) number knows)))
-        ]
+    others x there (inr (inl waits)) = elim (Contains-append_cases old.posted old.later waits.waiting waits.there) [
+      | inl of_wave ↦
+          let w = contains_in_map (λ (d : Delivery N G). posted_of d.message) wave waits.waiting (subst (λ l. Contains l waits.waiting) wave-is of_wave) in
+          let number : w.0.message.number ≡ x.number = ap (λ (p : Posted). p.number) w.2 ∙ waits.is in
+          elim (All-contains Fate wave w.0 all-fates w.1) [
+            | inl spent ↦ inl (subst (IsSpent over) (the-one w.0 w.1 x there number) spent)
+            | inr knows ↦ inr (inr (inr (subst (KnowsEvaluation over.log.part) number knows)))
+          ]
+      | inr aside ↦ inr (inr (inl (record { waiting = waits.waiting; there = aside; is = waits.is })))
+    ]
     others x there (inr (inr knows)) =
         inr (inr (inr (record { evaluation = knows.evaluation; knows = stopped.learnt.more knows.evaluation (subst (λ (t : DeskMeaning C). Contains t.log.part.known knows.evaluation) (sym taken-is) knows.knows); of_it = knows.of_it })))
 
@@ -321,7 +332,8 @@ module _ {C N : Type 0} {G : Ghosts N CommitWorld} (old taken new : DeskMeaning 
         spent = record { refused = b.back; unheard = (waited b.delivery b.within).unheard };
         others = all_from_contains (λ (x : Sent). IsSpent over x ⊎ IsNotLost over x) (known_of old.log.part.own).sent
             (λ x there. others x there (All-contains (IsNotLost old) (known_of old.log.part.own).sent x (not_lost old track) there));
-        waits = All-nil (WaitsUnheard (known_of old.log.part.own));
+        waits = all_from_contains (WaitsUnheard (known_of old.log.part.own)) old.later
+            (λ p there. All-contains (WaitsUnheard (known_of old.log.part.own)) (all_waiting old) p (all_wait old track) (Contains-append_right old.posted old.later p there));
         later = All-nil (λ (p : Posted). b.delivery.message.number < p.number);
       });
     }

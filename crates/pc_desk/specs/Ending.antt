@@ -27,9 +27,13 @@ pub record KnowsEvaluation (part : Part Event) (number : ℕ) : Type 0 where
   pub knows : Contains part.known evaluation
   pub of_it : Evaluates part.id number evaluation.entry.event
 
+-- The messages that wait to be evaluated, and behind them those that were set aside.
+abbrev pub all_waiting : {C : Type 0} → DeskMeaning C → List Posted
+all_waiting d = d.posted ++ d.later
+
 -- The message was heard, or it waits to be evaluated, or the actor knows an evaluation of it.
 abbrev pub IsNotLost : {C : Type 0} → DeskMeaning C → Sent → Type 0
-IsNotLost d m = IsTrue (is_heard (known_of d.log.part.own).heard m) ⊎ WaitsStill d.posted m.number ⊎ KnowsEvaluation d.log.part m.number
+IsNotLost d m = IsTrue (is_heard (known_of d.log.part.own).heard m) ⊎ WaitsStill (all_waiting d) m.number ⊎ KnowsEvaluation d.log.part m.number
 
 -- What waits was sent, and no reply to it was heard.
 pub record WaitsUnheard (k : Known) (m : Posted) : Type 0 where
@@ -40,13 +44,13 @@ pub record WaitsUnheard (k : Known) (m : Posted) : Type 0 where
 pub record IsAtOwnEnd {C : Type 0} (d : DeskMeaning C) : Type 0 where
   pub long : length d.log.part.own ≡ d.log.limit
   pub each : All (IsNotLost d) (known_of d.log.part.own).sent
-  pub waits : All (WaitsUnheard (known_of d.log.part.own)) d.posted
+  pub waits : All (WaitsUnheard (known_of d.log.part.own)) (all_waiting d)
 
 -- The list has just as many entries as are stated for its stop, and no message was lost: those that were not evaluated wait.
 pub record IsAtStop {C : Type 0} (d : DeskMeaning C) : Type 0 where
   pub long : d.log.stop ≡ Some (length d.log.part.own)
   pub each : All (IsNotLost d) (known_of d.log.part.own).sent
-  pub waits : All (WaitsUnheard (known_of d.log.part.own)) d.posted
+  pub waits : All (WaitsUnheard (known_of d.log.part.own)) (all_waiting d)
 
 -- The message is spent: its range, which is full, refused it, so it is never evaluated, and no reply to it was heard.
 pub record IsSpent {C : Type 0} (d : DeskMeaning C) (m : Sent) : Type 0 where
@@ -54,13 +58,13 @@ pub record IsSpent {C : Type 0} (d : DeskMeaning C) (m : Sent) : Type 0 where
   pub unheard : is_heard (known_of d.log.part.own).heard m ≡ false
 
 -- A range has as many entries as it may have, and refused this message. No message was lost but those that are spent so, and those that wait
--- to be evaluated were sent later.
+-- to be evaluated, and were not set aside, were sent later.
 pub record IsAtFullRange {C : Type 0} (d : DeskMeaning C) : Type 0 where
   pub message : Sent
   pub sent : Contains (known_of d.log.part.own).sent message
   pub spent : IsSpent d message
   pub others : All (λ m. IsSpent d m ⊎ IsNotLost d m) (known_of d.log.part.own).sent
-  pub waits : All (WaitsUnheard (known_of d.log.part.own)) d.posted
+  pub waits : All (WaitsUnheard (known_of d.log.part.own)) (all_waiting d)
   pub later : All (λ p. message.number < p.number) d.posted
 
 -- The list has ended before its work: at the limit of its entries, at a range that is full, or at its stop.

@@ -3,7 +3,7 @@ use Rattle.std.specs.Prelude.{◌≡◌, ℕ, ◌+◌, ◌≤◌, false, Option,
 use Rattle.pc_base.specs.declared.actor.ActorId.TheVariants as actors
 use Rattle.pc_base.specs.declared.transaction.TxnId.{TxnId}
 use Rattle.pc_coord.specs.declared.pusher.Pusher.{Pusher}
-use Rattle.pc_coord.specs.Rounds.{AreAskedOnce, IsBehindPush, IsRefusedRound, IsSettledRound}
+use Rattle.pc_coord.specs.Rounds.{AreAskedOnce, IsBehindPush, IsRefusedRound, IsSettledRound, LeavesRoundOn}
 use Rattle.pc_desk.specs.Desk.{DeskMeaning}
 use Rattle.pc_exchange.specs.Aside.{IsLaterAside}
 use Rattle.pc_exchange.specs.Growing.{HasGoneBeside}
@@ -48,6 +48,7 @@ pub record LeavesFateSince (id : TxnId) (goal : Goal) (fate : Fate) (start k : K
   pub left : LeavesFate id goal reply later fate
   pub recovered : All (λ h. (shown : View) → RecoveredTo id shown h.request h.reply → final_fate shown ≡ Some fate) later
   pub unsettled : All (λ h. is_resolve_of id h.request ≡ false) later
+  pub on : All (λ h. LeavesRoundOn h.request h.reply) later
 
 -- The push was unsure of this record, and nothing was heard behind it yet.
 pub record IsUnsureSince (id : TxnId) (goal : Goal) (view : View) (start k : Known) : Type 0 where

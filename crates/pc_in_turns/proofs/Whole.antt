@@ -25,7 +25,7 @@ use Rattle.pc_scripted.specs.Scripted.{ScriptedMeaning, own_list}
 use Rattle.pc_scripted.specs.Taking.{IsRunOut}
 use Rattle.pc_turns.specs.Order.{GoesByItself, MakeRoundsLeft, is_at_end, recoverer_turns}
 use Rattle.pc_turns.specs.Shares.{AreShares, IsClientOf}
-use Rattle.pc_work.specs.Built.{IsTurnOf}
+use Rattle.pc_work.specs.Named.{IsTurnOf}
 use Rattle.pc_work.specs.declared.session.SessionWork.{SessionWork}
 use Rattle.pc_work.specs.declared.turn.Turn.{Turn}
 use Rattle.pc_work.specs.declared.turn.Turn.TheVariants as turns

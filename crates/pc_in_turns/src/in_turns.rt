@@ -13,7 +13,7 @@ ghost use Rattle.pc_scripted.specs.Learning.{learnt_ahead};
 ghost use Rattle.pc_scripted.specs.Scripted.{own_list};
 ghost use Rattle.pc_scripted.specs.Taking.{AsksInTurn, FinishesInTurn, GoesUntil, IsRunOut, TakesNextAlone, are_items_over, is_script_over};
 ghost use Rattle.pc_turns.specs.Order.{recoverer_turns};
-ghost use Rattle.pc_work.specs.Built.{IsTurnOf};
+ghost use Rattle.pc_work.specs.Named.{IsTurnOf};
 ghost use Rattle.pc_work.specs.declared.turn.Turn.TheVariants as turns;
 
 use crate::task::Task;

@@ -4,7 +4,7 @@ use Rattle.std.proofs.lemmas.Bool.{eq-eqb}
 use Rattle.std.proofs.lemmas.List.{same_from_push}
 use Rattle.std.specs.List.{list_any}
 use Rattle.pc_call.proofs.SentPast.{sent_past}
-use Rattle.pc_coord.specs.Coordination.{Coordination, awaits_number}
+use Rattle.pc_coord.specs.Coordination.{Coordination, SendsNoMore, awaits_number}
 use Rattle.pc_coord.specs.declared.due.Due.{Due}
 use Rattle.pc_coord.specs.declared.due.Due.TheVariants as dues
 use Rattle.pc_coord.specs.Knows.{KnowsAt}
@@ -15,7 +15,7 @@ use Rattle.pc_history.specs.declared.pair.Pair.{Pair}
 use Rattle.pc_proto.specs.declared.event.Event.{Event}
 use Rattle.pc_session.proofs.Due.{none_awaits}
 use Rattle.pc_session.specs.InCall.{HasOpenCall}
-use Rattle.pc_session.specs.InTurn.{SendsNoMore, WaitsForReplies}
+use Rattle.pc_session.specs.InTurn.{WaitsForReplies}
 use Rattle.pc_session.specs.Session.{SessionMeaning, session_knows}
 use Rattle.pc_wave.proofs.Changed.{any_none}
 use Rattle.pc_wave.specs.declared.message.Message.{Message}

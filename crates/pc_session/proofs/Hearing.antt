@@ -246,9 +246,10 @@ module _ {C : Type 0} (old : SessionMeaning C) (reading : ℕ) (calls : HasOpenC
         (answered_unstaged d.log heard.entered.log h there k
         (λ t opened. (txn_heard k.sent (Some h) t, ap open_txn known_is ∙ first_mapped (txn_heard k.sent (Some h)) k.is_open k.txns t opened, refl)))
 
-    hears-awaited : HearsAwaited old.coordinator a.number a.step a.reply k p
-    hears-awaited = record {
+    hears-awaited : IsWholeOut old → HearsAwaited old.coordinator a.number a.step a.reply k p
+    hears-awaited whole = record {
       waited = waited;
+      whole = whole.silent a.number on-way;
       event = refl;
       evaluation = evaluation a.step heard.range old.desk.log.part.id a.number a.reply;
       actor = old.desk.log.part.id;
@@ -304,7 +305,7 @@ module _ {C : Type 0} (old : SessionMeaning C) (reading : ℕ) (calls : HasOpenC
         → c.session ≡ old.coordinator.session → c.splits ≡ old.coordinator.splits → IsWholeOut old → Comes → HasOpenCall heard_then reading
     heard_open learns waits session splits whole comes = record {
       track = heard.track;
-      one = one_on old.desk d old.coordinator c (p ∷ []) grown_heard calls.one session splits (subst (Knows c) (sym learnt) (learns k p calls.one.knows hears-awaited));
+      one = one_on old.desk d old.coordinator c (p ∷ []) grown_heard calls.one session splits (subst (Knows c) (sym learnt) (learns k p calls.one.knows (hears-awaited whole)));
       way = λ n. waits k n calls.one.knows waited ∙ (ap (λ b. b && not (a.number == n)) (calls.way n) ∙ sym (heard.way n));
       call = calls.call;
       opened = ap (λ (k : Known). k.statement) known_is ∙ calls.opened;
@@ -315,7 +316,7 @@ module _ {C : Type 0} (old : SessionMeaning C) (reading : ℕ) (calls : HasOpenC
       waiting = left_on;
       goes_out = λ ends. absurd (ends_otherwise old.desk.log.part.own d.log.part.own p grown_heard.own (λ sends. sends) ends);
       turn =
-          heard_turn old.coordinator c k (known_of d.log.part.own) h calls.one.knows calls.turn waited heard_to more plain (whole.silent a.number on-way) least once (λ o opened. comes k p o calls.one.knows hears-awaited opened) (ap (λ (x : Known). x.sent_now) known_is);
+          heard_turn old.coordinator c k (known_of d.log.part.own) h calls.one.knows calls.turn waited heard_to more plain (whole.silent a.number on-way) least once (λ o opened. comes k p o calls.one.knows (hears-awaited whole) opened) (ap (λ (x : Known). x.sent_now) known_is);
     }
 
     -- the wave stays whole
@@ -323,7 +324,7 @@ module _ {C : Type 0} (old : SessionMeaning C) (reading : ℕ) (calls : HasOpenC
     heard_whole waits comes whole =
         whole_heard old heard_then h (ap (λ (l : LogMeaning C). l.head.splits) heard.entered.stored) known_is (λ n on. and_left (is_on_way n old.desk) (not (a.number == n)) (sym (heard.way n) ∙ on))
         (λ n on.
-        heard_silent old.coordinator c k (known_of d.log.part.own) h calls.one.knows calls.turn waited heard_to more plain (whole.silent a.number on-way) least once (λ o opened. comes k p o calls.one.knows hears-awaited opened) (ap (λ (x : Known). x.sent_now) known_is) n
+        heard_silent old.coordinator c k (known_of d.log.part.own) h calls.one.knows calls.turn waited heard_to more plain (whole.silent a.number on-way) least once (λ o opened. comes k p o calls.one.knows (hears-awaited whole) opened) (ap (λ (x : Known). x.sent_now) known_is) n
         (waits k n calls.one.knows waited ∙ (ap (λ b. b && not (a.number == n)) (calls.way n) ∙ (sym (heard.way n) ∙ on)))) whole
 
     pub heard_goes : c.session ≡ old.coordinator.session → HasGoneInside old heard_then

@@ -14,7 +14,7 @@ use Rattle.pc_world.specs.Known.{Known}
 use Rattle.pc_world.specs.Known.Statements.{Statement}
 use Rattle.pc_world.specs.Known.Traffic.{Heard, Sent}
 use Rattle.pc_world.specs.MayTell.{MayTell}
-use Rattle.pc_world.specs.Tell.Refusal.{AreLastLost, MayTellUnavailable, WasLost, is_heard}
+use Rattle.pc_world.specs.Tell.Refusal.{AreLastLost, MayTellUnavailable, MayTellUnknown, WasLost, is_heard}
 
 -- an answer that is neither of the two that come first is told by its row
 pub row_by : (needs past : Bool) (none clock row : Type 0) → (none → ⊥) → (clock → ⊥) → MatchBool needs none (MatchBool past clock row) → row
@@ -46,4 +46,7 @@ tells_eighth splits session k (answers.Unavailable faults) may ever s after =
     let row : MayTellUnavailable k may.s faults =
     row_by _ _ (answers.Unavailable faults ≡ answers.NoTxn) (answers.Unavailable faults ≡ answers.Clock may.s.reading) (MayTellUnavailable k may.s faults) (λ e. absurd cc) (λ e. absurd cc) may.told in
     absurd (none-lost k faults ever row.lost)
+tells_eighth splits session k (answers.Unknown id) may ever s after =
+    let row : MayTellUnknown k may.s id = row_by _ _ (answers.Unknown id ≡ answers.NoTxn) (answers.Unknown id ≡ answers.Clock may.s.reading) (MayTellUnknown k may.s id) (λ e. absurd cc) (λ e. absurd cc) may.told in
+    absurd (none-lost k row.faults ever row.lost)
 tells_eighth splits session k answer may ever s after = after

@@ -1,10 +1,9 @@
 -- A session in its call once the round of a conflict was made beside its coordinator.
-use Rattle.std.proofs.Common.{◌≡◌, ℕ, ◌+◌, ◌≤◌, max, true, false, Bool, ◌==◌, inl, inr, All, Contains, List, [], ◌∷◌, ◌++◌, cond, count_by, find, Option, Some, None, refl, sym, ap, subst, ◌∙◌, arith}
+use Rattle.std.proofs.Common.{◌≡◌, ℕ, ◌+◌, ◌≤◌, max, true, false, ◌==◌, All, Contains, ◌++◌, count_by, Option, Some, None, refl, sym, ap, subst, ◌∙◌, arith}
 use Rattle.std.proofs.lemmas.Bool.{eq-eqb}
 use Rattle.std.proofs.lemmas.List.{append_assoc}
 use Rattle.std.proofs.lemmas.List.Elements.{All-append, All-weaker, Contains-append_right}
 use Rattle.std.specs.List.{list_any}
-use Rattle.std.specs.Option.{option_map}
 use Rattle.pc_base.specs.declared.actor.ActorId.TheVariants as actors
 use Rattle.pc_call.specs.Sending.{IsConflictNow}
 use Rattle.pc_coord.specs.Beside.{IsLaterBeside}
@@ -17,15 +16,14 @@ use Rattle.pc_coord.specs.declared.round.Round.{Round}
 use Rattle.pc_coord.specs.Knows.{Knows}
 use Rattle.pc_coord.specs.Pusher.{IsPusherOf}
 use Rattle.pc_coord.specs.Rounds.{EndsRound}
-use Rattle.pc_desk.proofs.Counting.{counts_any, none_counted, said_more}
+use Rattle.pc_desk.proofs.Counting.{counts_any, none_counted, said_more, said_once}
 use Rattle.pc_desk.specs.Desk.{DeskMeaning, KeepsTrack, is_on_way, times_sent}
 use Rattle.pc_exchange.specs.Aside.{IsLaterAside}
 use Rattle.pc_exchange.specs.Jobs.{IsFinishable}
 use Rattle.pc_exchange.specs.Rounds.{HasMadeRoundOf, MayMakeRound}
-use Rattle.pc_lists.proofs.Counts.{count-append, count-cons, one_if}
-use Rattle.pc_lists.proofs.Lists.{all_from_contains, contains_cons, contains_nil}
+use Rattle.pc_lists.proofs.Counts.{count-append}
+use Rattle.pc_lists.proofs.Lists.{all_from_contains}
 use Rattle.pc_proto.specs.declared.reply.Reply.{Reply}
-use Rattle.pc_proto.specs.declared.request.Request.{Request}
 use Rattle.pc_session.proofs.Again.{quiet_goes}
 use Rattle.pc_session.proofs.Away.{any_there, front_none, none_answered, none_away, none_posted}
 use Rattle.pc_session.proofs.Due.{quiet_met}
@@ -40,32 +38,6 @@ use Rattle.pc_world.specs.Known.{Known, known_of, reading_in}
 use Rattle.pc_world.specs.Known.Traffic.{Heard, Sent, request_sent}
 use Rattle.pc_world.specs.Known.Transactions.{Txn}
 use Rattle.pc_world.specs.Tell.Refusal.{is_heard}
-
--- what stands under a number that one message has
-said_once : (xs : List Sent) (m : Sent) → Contains xs m → count_by (λ (x : Sent). x.number == m.number) xs ≤ 1 → request_sent m.number xs ≡ Some m.request
-said_once [] m there once = absurd (contains_nil m there)
-said_once (x ∷ xs) m there once = by (x.number == m.number) refl (said_once xs m)
-  where
-    F : Bool → Option Request
-    F b = option_map (λ (x : Sent). x.request) (cond b (Some x) (find (λ (x : Sent). x.number == m.number) xs))
-
-    c : count_by (λ (x : Sent). x.number == m.number) (x ∷ xs) ≡ one_if (x.number == m.number) + count_by (λ (x : Sent). x.number == m.number) xs
-    c = count-cons (λ (x : Sent). x.number == m.number) x xs
-
-    by : (b : Bool) → (x.number == m.number) ≡ b → (Contains xs m → count_by (λ (x : Sent). x.number == m.number) xs ≤ 1 → request_sent m.number xs ≡ Some m.request) → F (x.number == m.number) ≡ Some m.request
-    by true is on =
-        ap F is ∙ elim (contains_cons x xs m there) [
-          | inl here ↦ ap (λ (x : Sent). Some x.request) here
-          | inr later ↦
-              let more = counts_any (λ (x : Sent). x.number == m.number) xs (any_there (λ (x : Sent). x.number == m.number) xs m (eq-eqb m.number m.number refl) later) in
-              let o = ap one_if is in
-              let d = c in
-              absurd (omega arith)
-        ]
-    by false is on = ap F is ∙ elim (contains_cons x xs m there) [
-      | inl here ↦ absurd (let e : true ≡ false = sym (eq-eqb x.number m.number (ap (λ (x : Sent). x.number) here)) ∙ is in cc e)
-      | inr later ↦ on later (let o = ap one_if is in let d = c in omega arith)
-    ]
 
 module _ {C : Type 0} (old d : DeskMeaning C) (track : KeepsTrack old) (after : KeepsTrack d) (session ts : ℕ) (aside : IsLaterAside session (known_of old.log.part.own) (known_of d.log.part.own) ts) where
   abbrev k : Known

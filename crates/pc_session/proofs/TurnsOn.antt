@@ -10,7 +10,7 @@ use Rattle.pc_coord.proofs.Rounds.{makes_round, refused_heard}
 use Rattle.pc_coord.proofs.Steps.{round_step, sends_step}
 use Rattle.pc_coord.specs.Beside.{IsLaterBeside}
 use Rattle.pc_coord.specs.Coming.{ComesOf, ComesOfRound}
-use Rattle.pc_coord.specs.Coordination.{Coordination, awaits_number, next_at, next_of, opened_by}
+use Rattle.pc_coord.specs.Coordination.{Coordination, SendsNoMore, awaits_number, next_at, next_of, opened_by}
 use Rattle.pc_coord.specs.declared.due.Due.{Due}
 use Rattle.pc_coord.specs.declared.due.Due.TheVariants as dues
 use Rattle.pc_coord.specs.declared.due.Opened.{Opened}
@@ -30,7 +30,7 @@ use Rattle.pc_proto.specs.Requests.{goal_in}
 use Rattle.pc_session.proofs.Away.{any_there}
 use Rattle.pc_session.proofs.InTurn.{AreHeardOnce, WaitsFirst, asked_block, conflicts_over, same_heard, turn_again, turn_asked, turn_comes, turn_heard, turn_sent, waits_first}
 use Rattle.pc_session.proofs.WaveTurns.{IsBelowNumber, IsFromNumber, sends_no_more, sends_none, sent_none}
-use Rattle.pc_session.specs.InTurn.{HasRoundsInTurn, KeepsTurn, SendsNoMore, WaitsForReplies}
+use Rattle.pc_session.specs.InTurn.{HasRoundsInTurn, KeepsTurn, WaitsForReplies}
 use Rattle.pc_wave.proofs.Hearing.{wave_heard}
 use Rattle.pc_wave.proofs.Rounds.{due_round, first_found, wave_again}
 use Rattle.pc_wave.specs.declared.message.Message.{Message}

@@ -11,7 +11,7 @@ use Rattle.pc_call.specs.declared.purpose.Purpose.{Purpose}
 use Rattle.pc_call.specs.declared.purpose.Purpose.TheVariants as purposes
 use Rattle.pc_call.specs.Opening.{reader_of}
 use Rattle.pc_call.specs.Serving.{AreReadsOf, Serves, ServesBeat, write_call}
-use Rattle.pc_coord.specs.Coordination.{Coordination, awaits_number, next_at, next_by, next_in, next_of}
+use Rattle.pc_coord.specs.Coordination.{Coordination, SendsNoMore, awaits_number, next_at, next_by, next_in, next_of}
 use Rattle.pc_coord.specs.declared.due.Due.{Due}
 use Rattle.pc_coord.specs.declared.due.Due.TheVariants as dues
 use Rattle.pc_coord.specs.declared.next.Next.TheVariants as nexts
@@ -27,7 +27,6 @@ use Rattle.pc_proto.specs.declared.request.Request.TheVariants as requests
 use Rattle.pc_proto.specs.Replies.{holder_in}
 use Rattle.pc_session.proofs.Knowing.{with_heard}
 use Rattle.pc_session.specs.InCall.{HasOpenCall, IsWholeOut}
-use Rattle.pc_session.specs.InTurn.{SendsNoMore}
 use Rattle.pc_session.specs.Session.{SessionMeaning, session_knows}
 use Rattle.pc_txn.specs.declared.txn.OpenTxn.{OpenTxn}
 use Rattle.pc_txn.specs.Opened.{own_scan}
@@ -122,8 +121,9 @@ not_beating splits k s t x p ms serves request among plain = refl
 pub scan-serves : (splits : List (List ℕ)) (k : Known) (s : Statement) (t : Txn) (x : OpenTxn) (p : Purpose) (ms : List Message) (span : Span) → is_beating p ≡ false → s.call ≡ calls.Scan span → Serves splits k s t x p ms
     → map (λ m. m.request) ms ≡ map (λ p. own_scan x p.1) (pieces splits span)
 scan-serves splits k s t x (purposes.Beat call reading) ms span other is r = absurd cc
+scan-serves splits k s t x (purposes.Prove kept) ms span other is r = absurd (scans-none r.key r.value span (sym is ∙ (r.asked ∙ r.writes)))
 scan-serves splits k s t x purposes.Read ms span other is r = subst (λ call. AreReadsOf splits x call (map (λ (m : Message). m.request) ms)) is r.asked
-scan-serves splits k s t x (purposes.Write again) ms span other is r = absurd (scans-none r.key r.value span (sym is ∙ r.call))
+scan-serves splits k s t x purposes.Write ms span other is r = absurd (scans-none r.key r.value span (sym is ∙ r.call))
 scan-serves splits k s t x (purposes.Refresh refusals) ms span other is r = let both = sym is ∙ r.commits.call in absurd cc
 scan-serves splits k s t x (purposes.Commit refusals) ms span other is r = let both = sym is ∙ r.commits.call in absurd cc
 scan-serves splits k s t x (purposes.Abort why) ms span other is r = let both = sym is ∙ r.call in absurd cc

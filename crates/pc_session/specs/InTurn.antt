@@ -1,5 +1,5 @@
 -- The conflicts of an open call have their rounds in the order in which they were heard, which is that of the call's messages.
-use Rattle.std.specs.Prelude.{◌≡◌, ℕ, ◌<◌, true, false, List, [], ◌∷◌, ◌++◌, length, map, All, ⊤}
+use Rattle.std.specs.Prelude.{◌≡◌, ℕ, ◌<◌, Bool, None, true, false, List, [], ◌∷◌, ◌++◌, length, map, All, ⊤}
 use Rattle.std.specs.List.{flat_map, list_any}
 use Rattle.pc_coord.specs.declared.due.Due.{Due}
 use Rattle.pc_coord.specs.declared.due.Due.TheVariants as dues
@@ -11,6 +11,7 @@ use Rattle.pc_wave.specs.Messages.{is_in_conflict, is_out, is_to_send}
 use Rattle.pc_wave.specs.Standing.{Pairwise}
 use Rattle.pc_follows.specs.FirstBlock.{TellsFirstBlock}
 use Rattle.pc_follows.specs.Rounds.{AreRoundsOver, conflicts_now, rounds_begun}
+use Rattle.pc_follows.specs.RoundsMade.{rounds_made}
 use Rattle.pc_world.specs.Known.{Known}
 use Rattle.pc_world.specs.Known.Traffic.{Heard}
 
@@ -51,18 +52,21 @@ pub record HasRoundsInTurn (k : Known) (messages : List Message) : Type 0 where
   pub order : Pairwise GoesBefore messages
   pub apart : AreApart messages
 
+-- Where writes are pipelined: of the conflicts that wait for their rounds none was pushed, and they are the ones that the call's messages have met, in
+-- the order of the messages.
+pub record HasRoundsWaiting (k : Known) (messages : List Message) : Type 0 where
+  pub unpushed : (rounds_made k).push ≡ None
+  pub numbers : map (λ h. h.number) (rounds_made k).waiting ≡ numbers_met messages
+  pub apart : AreApart messages
+
 -- Where a reply to a message of the call is waited for, none of its conflicts waits for its round.
 abbrev pub WaitsForReplies : Due → Type 0
 WaitsForReplies (dues.Call call) = list_any is_out call.wave ≡ true → list_any is_in_conflict call.wave ≡ false
 WaitsForReplies _ = ⊤
 
 -- The open call keeps that; or the answer that is due names the holder that blocks it first.
-abbrev pub KeepsTurn : Known → Due → Type 0
-KeepsTurn k dues.Nothing = ⊤
-KeepsTurn k (dues.Call call) = HasRoundsInTurn k call.wave
-KeepsTurn k (dues.Tell answer) = TellsFirstBlock k answer
-
--- No message of the call is to be sent.
-abbrev pub SendsNoMore : Due → Type 0
-SendsNoMore (dues.Call call) = All (λ m. is_to_send m ≡ false) call.wave
-SendsNoMore _ = ⊤
+abbrev pub KeepsTurn : Bool → Known → Due → Type 0
+KeepsTurn pipelining k dues.Nothing = ⊤
+KeepsTurn false k (dues.Call call) = HasRoundsInTurn k call.wave
+KeepsTurn true k (dues.Call call) = HasRoundsWaiting k call.wave
+KeepsTurn pipelining k (dues.Tell answer) = TellsFirstBlock pipelining k answer

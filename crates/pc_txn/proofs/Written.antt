@@ -93,36 +93,36 @@ module _ (sent : List Sent) (heard : List Heard) (t : Txn) (key : List ℕ) (val
     unanchored = λ none. absurd cc;
   }
 
--- The transaction once a write of its was sent again.
-abbrev pub laid_again : ℕ → Txn → Txn
-laid_again seq t = record t { writes = map (asked_again seq t.write_ts) t.writes }
+-- The transaction once a write of its was sent again, at this timestamp.
+abbrev pub laid_again : ℕ → ℕ → Txn → Txn
+laid_again seq ts t = record t { writes = map (asked_again seq ts) t.writes }
 
-module _ (sent : List Sent) (heard : List Heard) (t : Txn) (seq : ℕ) (m : Sent) (w : WritesStand sent heard t) where
+module _ (sent : List Sent) (heard : List Heard) (t : Txn) (seq ts : ℕ) (m : Sent) (w : WritesStand sent heard t) where
   abbrev again : Write → Write
-  again = asked_again seq t.write_ts
+  again = asked_again seq ts
 
   sent_one : (v : Write) → WasWriteSent t sent v → WasWriteSent t (sent ++ m ∷ []) (again v)
   sent_one v went =
-      subst (λ n. Any (λ m. IsTrue (is_put_of t.id t.epoch n m.request)) (sent ++ m ∷ [])) (sym (asked-seq seq t.write_ts v))
+      subst (λ n. Any (λ m. IsTrue (is_put_of t.id t.epoch n m.request)) (sent ++ m ∷ [])) (sym (asked-seq seq ts v))
       (any_kept (λ m. IsTrue (is_put_of t.id t.epoch v.seq m.request)) sent (m ∷ []) went)
 
   unwritten_one : (v : Write) → IsUnwrittenWhereUnproved t heard v → IsUnwrittenWhereUnproved t heard (again v)
   unwritten_one v u unproved =
-      subst (λ n. All (IsNotWritten t n) heard) (sym (asked-seq seq t.write_ts v))
-      (u (sym (ap (λ ps. not (list_any (λ ts. true) ps)) (asked-proofs seq t.write_ts v)) ∙ unproved))
+      subst (λ n. All (IsNotWritten t n) heard) (sym (asked-seq seq ts v))
+      (u (sym (ap (λ ps. not (list_any (λ n. true) ps)) (asked-proofs seq ts v)) ∙ unproved))
 
   none_again : (ws : List Write) → ws ≡ [] → map again ws ≡ []
   none_again ws e = ap (map again) e
 
   -- a write was sent again
-  pub writes_resent : WritesStand (sent ++ m ∷ []) heard (laid_again seq t)
+  pub writes_resent : WritesStand (sent ++ m ∷ []) heard (laid_again seq ts t)
   writes_resent = record {
-    by_sequence = earlier-map again (asked-seq seq t.write_ts) t.writes w.by_sequence;
+    by_sequence = earlier-map again (asked-seq seq ts) t.writes w.by_sequence;
     each_sent = All-map (WasWriteSent t (sent ++ m ∷ [])) again t.writes (All-weaker (WasWriteSent t sent) (λ v. WasWriteSent t (sent ++ m ∷ []) (again v)) sent_one t.writes w.each_sent);
     unwritten = All-map (IsUnwrittenWhereUnproved t heard) again t.writes (All-weaker (IsUnwrittenWhereUnproved t heard) (λ v. IsUnwrittenWhereUnproved t heard (again v)) unwritten_one t.writes w.unwritten);
     locked =
         All-map (IsKeyLocked t.locks) again t.writes
-        (All-weaker (IsKeyLocked t.locks) (λ v. IsKeyLocked t.locks (again v)) (λ v is. subst (λ key. with_lock key t.locks ≡ t.locks) (sym (asked-key seq t.write_ts v)) is) t.writes w.locked);
+        (All-weaker (IsKeyLocked t.locks) (λ v. IsKeyLocked t.locks (again v)) (λ v is. subst (λ key. with_lock key t.locks ≡ t.locks) (sym (asked-key seq ts v)) is) t.writes w.locked);
     unanchored = λ none. none_again t.writes (w.unanchored none);
   }
 

@@ -1,6 +1,7 @@
 use Rattle.std.proofs.Common.{map, refl, ap}
 use Rattle.std.proofs.lemmas.Result.{on_ok_weaker}
 use Rattle.pc_desk.proofs.Desking.{desk_first, desk_rest, has_delivered, kept_as_told, newest_kept}
+use Rattle.pc_desk.proofs.Ending.{taken_of_first}
 use Rattle.pc_desk.proofs.Leaving.{taken_first}
 use Rattle.pc_desk.proofs.Refusing.{sent_back}
 use Rattle.pc_desk.specs.Desk.{posting}
@@ -18,10 +19,10 @@ pub serve-requires-clause-below : goal.serve-requires-clause-below
 serve-requires-clause-below g c = (desk_first _ _ _ _ _ _ c.in-Some.ensures.taken.whole c.self.invariant.0).below
 
 pub invariant_of-self : goal.invariant_of-self
-invariant_of-self g c = (desk_rest _ _ _ _ _ _ c.in-Some.ensures.taken.whole c.self.invariant.0, c.self.invariant.1)
+invariant_of-self g c = (desk_rest _ _ _ _ _ _ c.in-Some.ensures.taken.whole c.self.invariant.0, c.self.invariant.1, c.self.invariant.2)
 
 pub invariant_of-self-in-Err : goal.invariant_of-self-in-Err
-invariant_of-self-in-Err g c = (desk_rest _ _ _ _ _ _ c.in-Some.ensures.taken.whole c.self.invariant.0, c.self.invariant.1)
+invariant_of-self-in-Err g c = (desk_rest _ _ _ _ _ _ c.in-Some.ensures.taken.whole c.self.invariant.0, c.self.invariant.1, c.self.invariant.2)
 
 pub returns-in-Ok-clause-ok : goal.returns-in-Ok-clause-ok
 returns-in-Ok-clause-ok g c =
@@ -53,5 +54,6 @@ returns-in-Err-clause-ended g c =
     let taken = c.in-Some.ensures.taken in
     let m = c.in-Some.message in
     let ready = desk_first _ _ _ _ _ _ taken.whole c.self.invariant.0 in
-    c.refused.ensures.ended c.args.self.now (posting m.number m.range m.request (uses_left m.note.known)) c.requires.track (taken_first _ c.args.self.now _ _ _ _ _ c.self.view_is refl taken.whole c.self.invariant.0 taken.rises) ready.use_left
+    c.refused.ensures.ended c.args.self.now (posting m.number m.range m.request (uses_left m.note.known)) c.requires.track
+    (taken_of_first c.args.self.now _ _ (taken_first _ c.args.self.now _ _ _ _ _ c.self.view_is refl taken.whole c.self.invariant.0 taken.rises)) ready.use_left
     (sent_back _ _ m c.in-Err.fault ready.whose c.in-Err.ensures.full)

@@ -1,0 +1,1 @@
+use Rattle.pc_coord.proofs.coordinator.Coordinator.leave_open.Goals as goal
