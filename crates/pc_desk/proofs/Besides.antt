@@ -339,8 +339,15 @@ module _ {C N : Type 0} {G : Ghosts N CommitWorld} (old taken new : DeskMeaning 
         subst (λ h. HasHalted old over h × EndsBy (λ made. ⊥) old over h) (sym is) (halted-over at b, ended-over at b)
     stops-at faults.NoMemory halt there is = subst (λ h. HasHalted old over h × EndsBy (λ made. ⊥) old over h) (sym is) (memory-over, tt)
 
+    -- the refusal is one of the outcomes
+    is-among : (cause : Halt) (refusal : IsRefusalIn outcomes cause) → Contains outcomes (Err refusal.fault)
+    is-among cause refusal =
+        let rest = Err refusal.fault ∷ refusal.behind in
+        subst (λ os. Contains os (Err refusal.fault)) (sym refusal.whole)
+        (Contains-append_right refusal.before rest (Err refusal.fault) (contains_head (Err refusal.fault) refusal.behind))
+
     pub stops_for : (cause : Halt) → IsRefusalIn outcomes cause → HasHalted old new cause × EndsBy (λ made. ⊥) old new cause
-    stops_for cause refusal = subst (λ (d : DeskMeaning C). HasHalted old d cause × EndsBy (λ made. ⊥) old d cause) (sym new-over) (stops-at refusal.fault cause (subst (λ os. Contains os (Err refusal.fault)) (sym refusal.whole) (Contains-append_right refusal.before (Err refusal.fault ∷ refusal.behind) (Err refusal.fault) (contains_head (Err refusal.fault) refusal.behind))) refusal.is)
+    stops_for cause refusal = subst (λ (d : DeskMeaning C). HasHalted old d cause × EndsBy (λ made. ⊥) old d cause) (sym new-over) (stops-at refusal.fault cause (is-among cause refusal) refusal.is)
 
   -- the list has ended, for want of memory or for a refusal
   pub wave_halted : (cause halt : Halt) → IsRefusalIn outcomes cause → EndsFor taken new outcomes cause halt → HasHalted old new halt

@@ -1,5 +1,5 @@
 -- What each entry of an actor's own list keeps, whatever its script says: each call is asked at the next reading of the actor's clock, and
--- what a session sends, hears and is told in its calls is as its workload has it.
+-- what a session sends, hears and is told in its calls is as its workload has it. Own profile, as workloads are.
 use Rattle.std.specs.Prelude.{ℕ, Bool, Option, List, [], ◌∷◌, ◌++◌, ⊤}
 use Rattle.pc_base.specs.declared.actor.ActorId.{ActorId}
 use Rattle.pc_base.specs.declared.actor.ActorId.TheVariants as actors

@@ -35,6 +35,7 @@ settling t (Some fate) (Some anchor) = finishing_messages t.id fate anchor t.loc
 abbrev pub left_of : Known → Txn → List Request
 left_of k t = settling t (fate_heard t.id k.heard) t.anchor
 
+-- The same of the open transaction; where none is open, nothing is left.
 abbrev pub left_if : Known → Option Txn → List Request
 left_if k None = []
 left_if k (Some t) = left_of k t
@@ -90,6 +91,7 @@ pub record Duty : Type 0 where
   pub known : Known
   pub jobs : List (List Request)
 
+-- What it knows and which jobs wait after one more of its entries.
 abbrev pub duty_after : Duty → Pair Event → Duty
 duty_after d p = record { known = learn p d.known; jobs = jobs_after p.entry.event d.known d.jobs }
 

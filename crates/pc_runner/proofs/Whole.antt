@@ -24,7 +24,7 @@ use Rattle.pc_threads.proofs.OnThreads.{threads_are_as_stated}
 use Rattle.pc_threads.specs.OnThreads.{HaveGoneOnThreads}
 use Rattle.pc_turns.specs.Clients.{client_pairs}
 use Rattle.pc_work.specs.Accepted.{IsAccepted}
-use Rattle.pc_work.specs.Built.{AreTurnsOf}
+use Rattle.pc_work.specs.Named.{AreTurnsOf}
 use Rattle.pc_work.specs.declared.turn.Turn.{Turn}
 use Rattle.pc_work.specs.declared.workload.Workload.{Workload}
 

@@ -2,7 +2,7 @@
 use Rattle.std.specs.Prelude.{◌≡◌, ◌≤◌, ℕ, false, length, sum_by, IfSome, None, All, ⊤}
 use Rattle.pc_base.specs.declared.limits.TheConstants.{DEFAULT_TRIES, LEAST_ENTRIES, MOST_ENTRIES, MOST_RECOVERERS, MOST_RERUNS, MOST_SESSIONS, MOST_SPLITS, MOST_STATEMENTS}
 use Rattle.pc_base.specs.Rising.{AreRising}
-use Rattle.pc_work.specs.Built.{AreTurnsOf, IsItemOf}
+use Rattle.pc_work.specs.Named.{AreTurnsOf, IsItemOf}
 use Rattle.pc_work.specs.Count.{session_count}
 use Rattle.pc_work.specs.Recoverer.{IsRecovererWithin}
 use Rattle.pc_work.specs.Stop.{IsStop}

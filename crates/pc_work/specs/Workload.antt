@@ -101,22 +101,6 @@ pub record IsJson (bytes : List ℕ) : Type 0 where
 abbrev pub accepted_in : List ℕ → Option Workload
 accepted_in bytes = option_and_then workload_of (read bytes)
 
--- The session states its clock.
-abbrev pub states_clock : SessionWork → Bool
-states_clock session = is_some session.clock
-
--- Turns and all clocks are stated, and the limit of entries is the default one: such a workload is run so far.
-abbrev pub has_built_form : Workload → Bool
-has_built_form work = work.limit == DEFAULT_ENTRIES && is_some work.turns && list_all states_clock work.sessions
-
--- The workload, where it is one that is run so far.
-abbrev pub when_built : Workload → Option Workload
-when_built work = if has_built_form work then Some work else None
-
--- The workload that a JSON text states, where it is one that is run so far.
-abbrev pub workload_in : List ℕ → Option Workload
-workload_in bytes = option_and_then when_built (accepted_in bytes)
-
 -- The fact holds, unless memory ran out.
 abbrev pub UnlessMemory : {X : Type 0} → Result X WorkFault → Type 0 → Type 0
 UnlessMemory (Ok x) fact = fact

@@ -1,15 +1,14 @@
-ghost use Rattle.std.specs.Prelude.{[], ◌≡◌, ◌↔◌, ◌⊎◌, ℕ, IsOk, IsSome, IsTrue, IfOk, IsErrOf, Some, length};
+ghost use Rattle.std.specs.Prelude.{[], ◌≡◌, ◌↔◌, ◌⊎◌, ℕ, IsOk, IsSome, IfOk, IsErrOf, Some, length};
 ghost use Rattle.std.specs.List.{list_all};
 ghost use Rattle.serde_json.specs.View.{view};
 ghost use Rattle.pc_base.specs.declared.limits.TheConstants.{MOST_RERUNS};
 ghost use Rattle.pc_work.specs.Reading.{Gives};
 ghost use Rattle.pc_work.specs.Accepted.{IsAccepted};
-ghost use Rattle.pc_work.specs.Built.{IsBuilt};
 ghost use Rattle.pc_work.specs.Lists.{list_by};
 ghost use Rattle.pc_work.specs.Members.{has_only, member_if, member_or, whole_between, whole_of, whole_up_to};
 ghost use Rattle.pc_work.specs.Recoverer.{recoverer_of};
 ghost use Rattle.pc_work.specs.Turn.{is_turn_there, turn_of};
-ghost use Rattle.pc_work.specs.Workload.{are_others_within, are_stated_turns, are_turns_within, is_script_there, is_within_limits, workload_names, first_items, are_sessions, workload_of, IsJson, workload_in, UnlessMemory, accepted_in, has_built_form, states_clock};
+ghost use Rattle.pc_work.specs.Workload.{are_others_within, are_stated_turns, are_turns_within, is_script_there, is_within_limits, workload_names, first_items, are_sessions, workload_of, IsJson, UnlessMemory, accepted_in};
 
 use crate::count::Counted;
 use crate::fault::{Misfit, WorkFault};
@@ -55,24 +54,8 @@ pub struct Workload {
 }
 
 impl Workload {
-    /// Reads a workload of the form that is run so far. One of another form has the number of a value that is none.
-    pub fn read(alloc: Global, bytes: &[u8]) -> Result<Workload, WorkFault>
-        ensures accepted { UnlessMemory result (IsOk result ↔ (IsJson bytes.now × IsSome (workload_in bytes.now))) }
-        ensures value { IfOk result (λ work. workload_in bytes.now ≡ Some work) }
-        ensures built { IfOk result IsBuilt }
-        ensures no_json { UnlessMemory result (IsErrOf result (WorkFault.Refused 1) ↔ ¬ (IsJson bytes.now)) }
-        ensures other_form { UnlessMemory result (IsErrOf result (WorkFault.Refused 10) ↔ (IsJson bytes.now × (workload_in bytes.now ≡ None))) }
-        ensures numbers { (number : ℕ) → result ≡ Err (WorkFault.Refused number) → (number ≡ 1) ⊎ (number ≡ 10) }
-    {
-        let work = Workload::read_accepted(alloc, bytes)?;
-        if !work.has_built_form() {
-            return Err(WorkFault::Refused { number: OTHER_FORM });
-        }
-        Ok(work)
-    }
-
     /// Reads a workload from JSON. Want of memory may come at any point, and says nothing of the bytes.
-    pub fn read_accepted(alloc: Global, bytes: &[u8]) -> Result<Workload, WorkFault>
+    pub fn read(alloc: Global, bytes: &[u8]) -> Result<Workload, WorkFault>
         // What is accepted, and its value.
         ensures accepted { UnlessMemory result (IsOk result ↔ (IsJson bytes.now × IsSome (accepted_in bytes.now))) }
         ensures value { IfOk result (λ work. accepted_in bytes.now ≡ Some work) }
@@ -94,23 +77,6 @@ impl Workload {
             Err(Misfit::NoMemory) => Err(WorkFault::NoMemory),
         }
     }
-
-    /// Whether it is of the form that is run so far: turns and all clocks are stated, and the limit of entries is the default one.
-    #[tactic(auto, using(crate::proofs::Built::passes))]
-    pub fn has_built_form(&self) -> bool
-        ensures value { result ≡ has_built_form self.now }
-        ensures form { IsAccepted self.now → IsTrue result → IsBuilt self.now }
-    {
-        self.limit == DEFAULT_ENTRIES
-            && self.turns.is_some()
-            && all_state_clocks(self.sessions.as_slice())
-    }
-}
-
-fn all_state_clocks(sessions: &[SessionWork]) -> bool
-    ensures { result ≡ list_all states_clock sessions.now }
-{
-    sessions.iter().all(|session| session.clock.is_some())
 }
 
 /// The workload that a value states.

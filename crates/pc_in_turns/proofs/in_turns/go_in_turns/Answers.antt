@@ -1,6 +1,6 @@
 use Rattle.std.proofs.Common.{All, length, refl, subst, sym}
 use Rattle.pc_in_turns.proofs.Whole.{begins, clients_in_turns, clocks_in_turns, ends_in_turns, order_in_turns}
-use Rattle.pc_work.specs.Built.{IsTurnOf}
+use Rattle.pc_work.specs.Named.{IsTurnOf}
 use Rattle.pc_work.specs.declared.workload.Workload.{Workload}
 use Rattle.pc_in_turns.proofs.in_turns.go_in_turns.Goals as goal
 

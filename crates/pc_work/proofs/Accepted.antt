@@ -1,8 +1,8 @@
--- A workload that is read is of the form that is accepted, and is run where it passes the test.
-use Rattle.std.proofs.Common.{◌≡◌, ℕ, ◌≤◌, ◌==◌, ◌&&◌, not, is_some, nat_le, IfSome, IsSomeAnd, Bool, true, false, cond, All, List, [], ◌∷◌, length, sum_by, Option, Some, None, codes, refl, subst, arith}
+-- A workload that is read is of the form that is accepted.
+use Rattle.std.proofs.Common.{◌≡◌, ℕ, ◌≤◌, ◌==◌, ◌&&◌, not, is_some, nat_le, IfSome, Bool, true, false, cond, All, List, [], ◌∷◌, length, sum_by, Option, Some, None, codes, refl, subst, arith}
 use Rattle.std.specs.List.{list_all, AllByRecursion}
 use Rattle.std.proofs.lemmas.Bool.{and_parts, leb-true, false≢true}
-use Rattle.std.proofs.lemmas.List.Elements.{All-cons, All-from_recursion, All-head, All-nil, All-tail}
+use Rattle.std.proofs.lemmas.List.Elements.{All-cons, All-from_recursion, All-nil}
 use Rattle.std.proofs.lemmas.Option.{none-some}
 use Rattle.serde_json.specs.Data.{Data, null, boolean, number, string, array, object, Items, no_items, item}
 use Rattle.serde_json.specs.Find.{get, as_bool}
@@ -23,9 +23,9 @@ use Rattle.pc_work.specs.Session.{session_names, session_of}
 use Rattle.pc_work.specs.Stop.{IsStop, stop_of}
 use Rattle.pc_work.specs.Splits.{splits_of}
 use Rattle.pc_work.specs.Turn.{is_turn_there, turn_of}
-use Rattle.pc_work.specs.Workload.{are_others_within, are_stated_turns, are_turns_within, is_item_there, is_script_there, is_within_limits, first_items, are_sessions, workload_names, workload_of, has_built_form, states_clock}
+use Rattle.pc_work.specs.Workload.{are_others_within, are_stated_turns, are_turns_within, is_item_there, is_script_there, is_within_limits, first_items, are_sessions, workload_names, workload_of}
 use Rattle.pc_work.specs.Accepted.{HasItemsOf, HasTransactions, IsAccepted, IsTransaction, StopsWithin}
-use Rattle.pc_work.specs.Built.{IsItemOf, IsBuiltSession, IsTurnOf, AreTurnsOf, IsBuilt}
+use Rattle.pc_work.specs.Named.{IsItemOf, IsTurnOf, AreTurnsOf}
 use Rattle.pc_work.specs.declared.item.Item.{Item}
 use Rattle.pc_work.specs.declared.item.Item.TheVariants.{Learn, Txn}
 use Rattle.pc_work.specs.declared.session.SessionWork.{SessionWork}
@@ -260,38 +260,3 @@ only_accepted value =
 -- The workload that a JSON value states is of the form that is accepted.
 pub value_is_accepted : (value : Data) (work : Workload) → workload_of value ≡ Some work → IsAccepted work
 value_is_accepted value work e = (only_accepted value).each work e
-
-some_turns : (sessions recoverers : ℕ) (turns : Option (List Turn)) → is_some turns ≡ true → IfSome turns (AreTurnsOf sessions recoverers) → IsSomeAnd turns (AreTurnsOf sessions recoverers)
-some_turns sessions recoverers None e each = absurd (false≢true e)
-some_turns sessions recoverers (Some turns) e each = each
-
-with_clocks : (count : ℕ) (sessions : List SessionWork) → list_all states_clock sessions ≡ true → All (HasItemsOf count) sessions → All (IsBuiltSession count) sessions
-with_clocks count [] e each = All-nil (IsBuiltSession count)
-with_clocks count (session ∷ sessions) e each =
-    let both = and_parts (states_clock session) (list_all states_clock sessions) e in
-    let first : IsBuiltSession count session = record { clock = both.0; items = All-head (HasItemsOf count) session sessions each } in
-    All-cons (IsBuiltSession count) session sessions first (with_clocks count sessions both.1 (All-tail (HasItemsOf count) session sessions each))
-
-same_number : (n m : ℕ) → (n == m) ≡ true → n ≡ m
-same_number n m e = grind arith
-
--- A workload of the accepted form that passes the test is of the form that is run so far.
-pub passes : (work : Workload) → IsAccepted work → has_built_form work ≡ true → IsBuilt work
-passes work accepted e =
-    let both = and_parts (work.limit == 1000000 && is_some work.turns) (list_all states_clock work.sessions) e in
-    let first = and_parts (work.limit == 1000000) (is_some work.turns) both.0 in
-    record {
-      version = accepted.version;
-      pipelining = accepted.pipelining;
-      splits = accepted.splits;
-      few_splits = accepted.few_splits;
-      limit = same_number work.limit 1000000 first.0;
-      tries = accepted.tries;
-      reruns = accepted.reruns;
-      opening = accepted.opening;
-      some_session = accepted.some_session;
-      few_sessions = accepted.few_sessions;
-      sessions = with_clocks (length work.sessions) work.sessions both.1 accepted.sessions;
-      few_statements = accepted.few_statements;
-      turns = some_turns (length work.sessions) (length work.recoverers) work.turns first.1 accepted.turns;
-    }
