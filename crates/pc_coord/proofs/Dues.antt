@@ -68,7 +68,7 @@ or_parts : (a b : Bool) → (a || b) ≡ false → (a ≡ false) × (b ≡ false
 or_parts true b e = absurd cc
 or_parts false b e = (refl, e)
 
-none_awaited : (n : ℕ) (ms : List Message) → list_any is_out ms ≡ false → wave_awaits n ms ≡ false
+pub none_awaited : (n : ℕ) (ms : List Message) → list_any is_out ms ≡ false → wave_awaits n ms ≡ false
 none_awaited n [] e = refl
 none_awaited n (m ∷ ms) e =
     let parts = or_parts (is_out m) (list_any is_out ms) e in

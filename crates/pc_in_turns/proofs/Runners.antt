@@ -26,6 +26,7 @@ module _ {C : Type 0} (work : Workload) (index : ℕ) (s now : ScriptedMeaning C
         script = runner.script ∙ sym same.script;
         reruns = runner.reruns ∙ sym same.reruns;
         head = same.head ∙ runner.head;
+        piped = same.piped ∙ runner.piped;
         beside = same.beside ∙ runner.beside;
         limit = same.limit ∙ runner.limit;
         stop = same.stop ∙ runner.stop;
@@ -42,6 +43,7 @@ runner_told work index s note runner scripted = record {
   script = runner.script;
   reruns = runner.reruns;
   head = runner.head;
+  piped = runner.piped;
   beside = runner.beside;
   limit = runner.limit;
   stop = runner.stop;

@@ -50,7 +50,6 @@ pub record GoesOnInScript {C : Type 0} (s : ScriptedMeaning C) : Type 0 where
 pub record IsScripted {C : Type 0} (s : ScriptedMeaning C) : Type 0 where
   pub id : s.session.desk.log.part.id ≡ actors.Session (own_number s)
   pub whose : All (λ p. p.entry.actor ≡ actors.Session (own_number s)) (own_list s)
-  pub unpiped : s.session.desk.log.pipelining ≡ false
   pub within : length (own_list s) ≤ s.session.desk.log.limit
   pub given : GivesOnce s.session.desk.log.part
   pub asks : AskInOrder s.at.reruns s.script (own_list s)

@@ -1,5 +1,5 @@
 -- A workload that is read is of the form that is accepted.
-use Rattle.std.proofs.Common.{◌≡◌, ℕ, ◌≤◌, ◌==◌, ◌&&◌, not, is_some, nat_le, IfSome, Bool, true, false, cond, All, List, [], ◌∷◌, length, sum_by, Option, Some, None, codes, refl, subst, arith}
+use Rattle.std.proofs.Common.{◌≡◌, ℕ, ◌≤◌, ◌==◌, ◌&&◌, is_some, nat_le, IfSome, Bool, true, false, cond, All, List, [], ◌∷◌, length, sum_by, Option, Some, None, codes, refl, subst, arith}
 use Rattle.std.specs.List.{list_all, AllByRecursion}
 use Rattle.std.proofs.lemmas.Bool.{and_parts, leb-true, false≢true}
 use Rattle.std.proofs.lemmas.List.Elements.{All-cons, All-from_recursion, All-nil}
@@ -202,22 +202,21 @@ recoverer_only value =
     only_known IsStop IsRecovererWithin (member_if stop_of (codes "stop") value) _ stated (λ stop within.
     only_some IsRecovererWithin (record { level = level; rounds = rounds; clock = clock; stop = stop }) (record { rounds = few; stop = within }))))))
 
-abbrev made : List (List ℕ) → ℕ → ℕ → ℕ → Option (List Turn) → List RecovererWork → List SessionWork → Workload
-made splits limit reruns opening turns recoverers sessions = record { version = 1; pipelining = false; splits = splits; limit = limit; tries = 4; reruns = reruns; opening = opening; sessions = sessions; recoverers = recoverers; turns = turns }
+abbrev made : Bool → List (List ℕ) → ℕ → ℕ → ℕ → Option (List Turn) → List RecovererWork → List SessionWork → Workload
+made pipelining splits limit reruns opening turns recoverers sessions = record { version = 1; pipelining = pipelining; splits = splits; limit = limit; tries = 4; reruns = reruns; opening = opening; sessions = sessions; recoverers = recoverers; turns = turns }
 
-made_is_accepted : (version : ℕ) (pipelining : Bool) (splits : List (List ℕ)) (limit reruns opening : ℕ) (turns : Option (List Turn)) (recoverers : List RecovererWork) (sessions : List SessionWork) → is_within_limits version pipelining opening sessions recoverers turns ≡ true
-    → AreSplits splits → IsBetween LEAST_ENTRIES MOST_ENTRIES limit → reruns ≤ MOST_RERUNS → All StopsWithin sessions → All IsRecovererWithin recoverers → IsAccepted (made splits limit reruns opening turns recoverers sessions)
+made_is_accepted : (version : ℕ) (pipelining : Bool) (splits : List (List ℕ)) (limit reruns opening : ℕ) (turns : Option (List Turn)) (recoverers : List RecovererWork) (sessions : List SessionWork) → is_within_limits version opening sessions recoverers turns ≡ true
+    → AreSplits splits → IsBetween LEAST_ENTRIES MOST_ENTRIES limit → reruns ≤ MOST_RERUNS → All StopsWithin sessions → All IsRecovererWithin recoverers → IsAccepted (made pipelining splits limit reruns opening turns recoverers sessions)
 made_is_accepted version pipelining splits limit reruns opening turns recoverers sessions e cut bounds few stops recover =
-    let all_but_opening = and_parts (version == 1 && not pipelining && are_sessions sessions && are_others_within sessions recoverers turns && list_all (is_script_there (length sessions) turns) sessions) (nat_le opening (first_items sessions)) e in
-    let all_but_learns = and_parts (version == 1 && not pipelining && are_sessions sessions && are_others_within sessions recoverers turns) (list_all (is_script_there (length sessions) turns) sessions) all_but_opening.0 in
-    let all_but_turns = and_parts (version == 1 && not pipelining && are_sessions sessions) (are_others_within sessions recoverers turns) all_but_learns.0 in
+    let all_but_opening = and_parts (version == 1 && are_sessions sessions && are_others_within sessions recoverers turns && list_all (is_script_there (length sessions) turns) sessions) (nat_le opening (first_items sessions)) e in
+    let all_but_learns = and_parts (version == 1 && are_sessions sessions && are_others_within sessions recoverers turns) (list_all (is_script_there (length sessions) turns) sessions) all_but_opening.0 in
+    let all_but_turns = and_parts (version == 1 && are_sessions sessions) (are_others_within sessions recoverers turns) all_but_learns.0 in
     let others = and_parts (nat_le (length recoverers) MOST_RECOVERERS) (are_turns_within sessions recoverers turns) all_but_turns.1 in
-    let all_but_sessions = and_parts (version == 1 && not pipelining) (are_sessions sessions) all_but_turns.0 in
+    let all_but_sessions = and_parts (version == 1) (are_sessions sessions) all_but_turns.0 in
     let counted = and_parts (nat_le 1 (length sessions) && nat_le (length sessions) MOST_SESSIONS) (nat_le (sum_by session_count sessions) MOST_STATEMENTS) all_but_sessions.1 in
     let bounded = and_parts (nat_le 1 (length sessions)) (nat_le (length sessions) MOST_SESSIONS) counted.0 in
     record {
       version = refl;
-      pipelining = refl;
       splits = cut.rising;
       few_splits = cut.few;
       limit = bounds;
@@ -244,8 +243,7 @@ only_accepted value =
     let recover = only_read (All IsRecovererWithin) [] (list_by recoverer_of) (All-nil IsRecovererWithin) (list_only IsRecovererWithin recoverer_of recoverer_only) (get (codes "recoverers") value) in
     only_when IsAccepted (has_only workload_names value) _ (λ named.
     only_behind IsAccepted (whole_in (codes "version") value) _ (λ version.
-    only_behind IsAccepted (get (codes "pipelining") value) _ (λ stated.
-    only_behind IsAccepted (as_bool stated) _ (λ pipelining.
+    only_behind IsAccepted (member_or true as_bool (codes "pipelining") value) _ (λ pipelining.
     only_known AreSplits IsAccepted (member_or [] splits_of (codes "splits") value) _ cut (λ splits rising.
     only_known (IsBetween LEAST_ENTRIES MOST_ENTRIES) IsAccepted (member_or 1000000 (whole_between LEAST_ENTRIES MOST_ENTRIES) (codes "limit") value) _ bounds (λ limit between.
     only_known (λ n. n ≤ MOST_RERUNS) IsAccepted (member_or 8 (whole_up_to MOST_RERUNS) (codes "reruns") value) _ asked (λ reruns few.
@@ -254,8 +252,8 @@ only_accepted value =
     only_known (All IsRecovererWithin) IsAccepted (member_or [] (list_by recoverer_of) (codes "recoverers") value) _ recover (λ recoverers within_rounds.
     only_behind IsAccepted (get (codes "sessions") value) _ (λ found.
     only_known (All StopsWithin) IsAccepted (list_by session_of found) _ (list_only StopsWithin session_of session_only found) (λ sessions stops.
-    only_when IsAccepted (is_within_limits version pipelining opening sessions recoverers turns) _ (λ within.
-    only_some IsAccepted (made splits limit reruns opening turns recoverers sessions) (made_is_accepted version pipelining splits limit reruns opening turns recoverers sessions within rising between few stops within_rounds))))))))))))))
+    only_when IsAccepted (is_within_limits version opening sessions recoverers turns) _ (λ within.
+    only_some IsAccepted (made pipelining splits limit reruns opening turns recoverers sessions) (made_is_accepted version pipelining splits limit reruns opening turns recoverers sessions within rising between few stops within_rounds)))))))))))))
 
 -- The workload that a JSON value states is of the form that is accepted.
 pub value_is_accepted : (value : Data) (work : Workload) → workload_of value ≡ Some work → IsAccepted work

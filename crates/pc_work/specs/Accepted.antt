@@ -29,13 +29,11 @@ IsTransaction (Txn priority statements commits) = ⊤
 abbrev pub HasTransactions : SessionWork → Type 0
 HasTransactions session = All IsTransaction session.script
 
--- A workload that is read is without pipelining, its numbers, sessions, recoverers and turns are within their limits, and what it cannot state is at its
+-- Of a workload that is read the numbers, sessions, recoverers and turns are within their limits, and what it cannot state is at its
 -- default.
 pub record IsAccepted (work : Workload) : Type 0 where
   -- The version is the one that is known.
   pub version : work.version ≡ 1
-  -- No put goes on before its range has answered.
-  pub pipelining : work.pipelining ≡ false
   -- The splits rise strictly, in key order.
   pub splits : AreRising work.splits
   -- The splits are no more than their limit.

@@ -1,4 +1,4 @@
--- What bytes are as a workload, and where they are none. A workload is without pipelining; where it states no turns, its sessions and
+-- What bytes are as a workload, and where they are none. Where a workload states no turns, its sessions and
 -- recoverers run on threads, which learn nothing, and one of them that states no clock reads the one that is handed in.
 use Rattle.std.specs.Prelude.{ℕ, ◌==◌, Bool, true, false, ◌&&◌, not, List, [], ◌∷◌, length, sum_by, nat_le, Option, Some, None, is_some, IsSome, Result, Ok, Err, codes, option_and_then, IsUtf8, if◌then◌else◌}
 use Rattle.std.specs.List.{list_all}
@@ -59,18 +59,17 @@ is_item_there sessions turns (Txn priority statements commits) = true
 abbrev pub is_script_there : ℕ → Option (List Turn) → SessionWork → Bool
 is_script_there sessions turns session = list_all (is_item_there sessions turns) session.script
 
--- Version 1 without pipelining; sessions, recoverers, turns and an opening within their limits; and learns only where they may stand.
-abbrev pub is_within_limits : ℕ → Bool → ℕ → List SessionWork → List RecovererWork → Option (List Turn) → Bool
-is_within_limits version pipelining opening sessions recoverers turns =
-    version == 1 && not pipelining && are_sessions sessions && are_others_within sessions recoverers turns
+-- Version 1; sessions, recoverers, turns and an opening within their limits; and learns only where they may stand.
+abbrev pub is_within_limits : ℕ → ℕ → List SessionWork → List RecovererWork → Option (List Turn) → Bool
+is_within_limits version opening sessions recoverers turns =
+    version == 1 && are_sessions sessions && are_others_within sessions recoverers turns
     && list_all (is_script_there (length sessions) turns) sessions && nat_le opening (first_items sessions)
 
 -- The workload that a JSON value states: what is absent is at its default.
 unfoldable pub workload_of : Data → Option Workload
 workload_of value = if has_only workload_names value then (do
   version ← whole_in (codes "version") value
-  asked ← get (codes "pipelining") value
-  pipelining ← as_bool asked
+  pipelining ← member_or true as_bool (codes "pipelining") value
   splits ← member_or [] splits_of (codes "splits") value
   limit ← member_or DEFAULT_ENTRIES (whole_between LEAST_ENTRIES MOST_ENTRIES) (codes "limit") value
   reruns ← member_or DEFAULT_RERUNS (whole_up_to MOST_RERUNS) (codes "reruns") value
@@ -79,9 +78,9 @@ workload_of value = if has_only workload_names value then (do
   recoverers ← member_or [] (list_by recoverer_of) (codes "recoverers") value
   found ← get (codes "sessions") value
   sessions ← list_by session_of found
-  if is_within_limits version pipelining opening sessions recoverers turns then Some (record {
+  if is_within_limits version opening sessions recoverers turns then Some (record {
     version = 1;
-    pipelining = false;
+    pipelining = pipelining;
     splits = splits;
     limit = limit;
     tries = DEFAULT_TRIES;

@@ -1,5 +1,6 @@
-ghost use Rattle.std.specs.Prelude.{[], ◌≡◌, ◌↔◌, ◌⊎◌, ℕ, IsOk, IsSome, IfOk, IsErrOf, Some, length};
+ghost use Rattle.std.specs.Prelude.{[], true, ◌≡◌, ◌↔◌, ◌⊎◌, ℕ, IsOk, IsSome, IfOk, IsErrOf, Some, length};
 ghost use Rattle.std.specs.List.{list_all};
+ghost use Rattle.serde_json.specs.Find.{as_bool};
 ghost use Rattle.serde_json.specs.View.{view};
 ghost use Rattle.pc_base.specs.declared.limits.TheConstants.{MOST_RERUNS};
 ghost use Rattle.pc_work.specs.Reading.{Gives};
@@ -88,7 +89,7 @@ fn workload_of(alloc: Global, json: &Json) -> Result<Workload, Misfit>
         return Err(Misfit::OtherForm);
     }
     let version = whole_member(json, "version")?;
-    let pipelining = flag(member(json, "pipelining")?)?;
+    let pipelining = pipelining_or_default(json, "pipelining")?;
     let splits = splits_or_none(alloc, json, "splits")?;
     let limit = limit_or_default(json, "limit")?;
     let reruns = reruns_or_default(json, "reruns")?;
@@ -96,12 +97,12 @@ fn workload_of(alloc: Global, json: &Json) -> Result<Workload, Misfit>
     let turns = turns_if(alloc, json, "turns")?;
     let recoverers = recoverers_or_none(alloc, json, "recoverers")?;
     let sessions: Sessions = list(alloc, member(json, "sessions")?)?;
-    if !is_within(version, pipelining, opening, &sessions, &recoverers, &turns) {
+    if !is_within(version, opening, &sessions, &recoverers, &turns) {
         return Err(Misfit::OtherForm);
     }
     Ok(Workload {
         version: 1,
-        pipelining: false,
+        pipelining,
         splits,
         limit,
         tries: DEFAULT_TRIES,
@@ -131,6 +132,16 @@ fn has_known_members(json: &Json) -> bool
             "sessions",
         ],
     )
+}
+
+/// Whether writes are pipelined, as they are by default.
+fn pipelining_or_default(json: &Json, name: &str) -> Result<bool, Misfit>
+    ensures { Gives result (member_or true as_bool name.now (view json.now)) }
+{
+    match json.get(name) {
+        Some(stated) => flag(stated),
+        None => Ok(true),
+    }
 }
 
 /// The most entries of one actor, by default as the limits say.
@@ -183,19 +194,17 @@ fn opening_or_default(json: &Json, name: &str) -> Result<u64, Misfit>
     }
 }
 
-/// Version 1 without pipelining; sessions, recoverers, turns and an opening within their limits; and learns only where they may stand.
+/// Version 1; sessions, recoverers, turns and an opening within their limits; and learns only where they may stand.
 fn is_within(
     version: u64,
-    pipelining: bool,
     opening: u64,
     sessions: &Sessions,
     recoverers: &Recoverers,
     turns: &Option<Turns>,
 ) -> bool
-    ensures { result ≡ is_within_limits version pipelining opening sessions.now recoverers.now turns.now }
+    ensures { result ≡ is_within_limits version opening sessions.now recoverers.now turns.now }
 {
     version == 1
-        && !pipelining
         && are_sessions(sessions)
         && are_others_within(sessions, recoverers, turns)
         && are_scripts_there(sessions, turns)
