@@ -76,7 +76,7 @@ def leave_out_bodies(folder):
     for source in folder.glob("src/**/*.rt"):
         source.write_text(without_bodies(source.read_text()))
     for proof in folder.glob("proofs/**/*.antt"):
-        if proof.name in PROOFS_OF_FUNCTIONS:
+        if proof.name in PROOFS_OF_FUNCTIONS and proof.parent != folder / "proofs":
             proof.unlink()
 
 

@@ -1,7 +1,7 @@
 import re,sys
 from pathlib import Path
 TOP=Path(__import__("os").environ.get("TOP","crates"))
-KIT=Path('/opt/rattle/rattle')
+KIT=Path(__import__('shutil').which('rt')).resolve().parent.parent/'rattle'
 crate=sys.argv[1]
 W=r"[A-Za-z_][A-Za-z0-9_\-'≢≡]*"
 pub=set()

@@ -12,7 +12,7 @@ use Rattle.pc_call.specs.Beaten.{HasBeatenIn}
 use Rattle.pc_call.specs.Setting.{Setting}
 use Rattle.pc_base.specs.declared.limits.TheConstants.{MOST_CONFLICTS, MOST_IN_FLIGHT}
 use Rattle.pc_call.proofs.Beating.{IsSilentHeard, IsSilentSent, beaten_beside, not_nil, first_beside}
-use Rattle.pc_call.proofs.Facts.{before_is, open_by, open_is}
+use Rattle.pc_call.proofs.Facts.{before_is, open_by, open_is, unsent_goes}
 use Rattle.pc_call.proofs.StillReplies.{refresh_kind}
 use Rattle.pc_call.proofs.Holders.{holders_again}
 use Rattle.pc_call.proofs.Lists.{all_changed, all_unmapped, kept_by, only_found}
@@ -316,7 +316,7 @@ module _ (set : Setting) (start k : Known) (x : OpenTxn) (p : Purpose) (ms : Lis
     module _ (call : Call) (all : Bool) where
       -- what was sent went out at its timestamp
       goes_then : (y : Message) (a : SendsAgain call all start w.t x y) → is_to_send y ≡ false → WasAskedAt w.t a.w.seq a.ts
-      goes_then y a out = elim a.goes_at [ inl now ↦ let f : false ≡ true = sym out ∙ now.0 in absurd cc | inr was ↦ was.0 ]
+      goes_then y a out = elim a.goes_at [ inl now ↦ let f : false ≡ true = sym out ∙ unsent_goes y now.0 in absurd cc | inr was ↦ was.0 ]
 
       again_still : (y : Message) → SendsAgain call all start w.t x y → SendsAgain call all k w.t x y
       again_still y a = record {

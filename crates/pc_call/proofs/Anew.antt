@@ -60,6 +60,7 @@ use Rattle.pc_world.specs.RangeOf.{pieces}
 use Rattle.pc_world.specs.SameRequest.{IsSameRequest}
 use Rattle.pc_world.specs.StageFate.{IsLate}
 use Rattle.pc_world.specs.Tell.Refusal.{IsConflictOf}
+use Rattle.pc_call.proofs.Facts.{unsent_goes}
 
 -- The message whose reply is waited for is neither to be sent nor answered, and met no intent.
 pub record IsOutNow (p : Progress) : Type 0 where
@@ -82,7 +83,7 @@ module _ {X : Type 0} (test : X → Bool) where
   nowhere [] a = grind arith
   nowhere (x ∷ xs) a = let fails = All-head (λ x. test x ≡ false) x xs a in grind (arith, common_steps, fails, nowhere xs (All-tail (λ x. test x ≡ false) x xs a))
 
-  not_there : (xs : List X) → All (λ x. test x ≡ false) xs → position test xs ≡ None
+  pub not_there : (xs : List X) → All (λ x. test x ≡ false) xs → position test xs ≡ None
   not_there xs a = let past = nowhere xs a in grind (arith, common_steps, past)
 
   within : (xs : List X) (x : X) → test x ≡ true → position_or_len test (xs ++ x ∷ []) < length (xs ++ x ∷ [])
@@ -221,7 +222,7 @@ module _ (x : OpenTxn) (number tries : ℕ) (some : 1 ≤ tries) where
         ts = own.ts;
         said = own.said;
         low = own.low;
-        goes_at = elim own.goes_at [ inl next ↦ (let f : true ≡ false = sym next.0 ∙ out.to_send in absurd cc) | inr asked ↦ inr (asked.0, λ to_send none. let low = one_more y.lost in absurd (omega (arith, low, none))) ];
+        goes_at = elim own.goes_at [ inl next ↦ (let f : true ≡ false = sym (unsent_goes y next.0) ∙ out.to_send in absurd cc) | inr asked ↦ inr (asked.0, λ to_send none. let low = one_more y.lost in absurd (omega (arith, low, none))) ];
         there = λ none. own.there out.answered;
       }
 

@@ -1,5 +1,5 @@
 -- A call of the open transaction begins with messages that are all to be sent.
-use Rattle.std.proofs.Common.{◌≡◌, ℕ, ◌+◌, ◌<◌, ◌≤◌, nat_le, Bool, true, false, cond, ◌||◌, ◌⊎◌, inl, inr, List, [], ◌∷◌, ◌++◌, length, map, Option, Some, None, refl, sym, ap, ◌∙◌, subst, arith, All, Any, IsTrue, count_by, lit<, zero, suc, unwrap_or}
+use Rattle.std.proofs.Common.{◌≡◌, ℕ, ◌+◌, ◌<◌, ◌≤◌, nat_le, Bool, true, false, cond, ◌||◌, ◌⊎◌, inl, inr, List, [], ◌∷◌, ◌++◌, length, map, Option, Some, None, refl, sym, ap, ◌∙◌, subst, arith, All, Any, IsTrue, count_by, lit<, zero, suc, unwrap_or, ◌&&◌, not}
 use Rattle.std.specs.List.{list_any}
 use Rattle.std.proofs.lemmas.Bool.{leb-false}
 use Rattle.std.proofs.lemmas.List.{map-append}
@@ -154,10 +154,10 @@ pub undecided_plain : (reply : Reply) → is_undecided_status reply ≡ true →
 undecided_plain (replies.Conflict holder ts key) is = absurd cc
 undecided_plain reply is = refl
 
--- Nothing of the request may be heard in the call; where it is a put, nothing was.
+-- Nothing of the request was sent in the call, or is among what needs a reason to go out again; where it is a put, nothing of it was heard.
 pub record IsNewFor (c : Course) (k : Known) (r : Request) : Type 0 where
   pub unsent : IsUnsentIn k.sent_now r
-  pub unheard : All (λ m. IsSameRequest r m.request → ⊥) (messages_of c.pipelines k)
+  pub unheard : All (λ m. IsSameRequest r m.request → ⊥) (messages_of (not c.loses && c.pipelines) k r)
   pub untold : is_put r ≡ true → All (λ h. IsSameRequest r h.request → ⊥) k.heard_now
 
 -- so it is of what is no put
@@ -179,8 +179,8 @@ new_goes c k r new = record {
   again = λ quiet some. absurd (never some);
 }
   where
-    never : WentOutBefore c.pipelines k r → ⊥
-    never (inl sent) = let f = any_of (λ m. IsSameRequest r m.request → ⊥) (λ m. IsSameRequest r m.request) (messages_of c.pipelines k) new.unheard sent in f.1 f.2
+    never : WentOutBefore c k r → ⊥
+    never (inl sent) = let f = any_of (λ m. IsSameRequest r m.request → ⊥) (λ m. IsSameRequest r m.request) (messages_of (not c.loses && c.pipelines) k r) new.unheard sent in f.1 f.2
     never (inr told) = let f = any_of (λ h. IsSameRequest r h.request → ⊥) (λ h. IsSameRequest r h.request) k.heard_now (new.untold told.0) told.1 in f.1 f.2
 
 -- a message that may go out and met no intent stands
@@ -278,7 +278,7 @@ beats_unasked sent beats = All-weaker (λ m. is_heartbeat m.request ≡ true) (�
 -- the next put of the transaction is new
 module _ (k : Known) (stages : List SentStage) (commit : Option SentCommit) (t : Txn) (x : OpenTxn) (st : TxnStands k stages commit t x) (split : IsSplit k) (key : List ℕ) (value : Option (List ℕ)) where
   -- no put up to the last is of one request with it
-  past_last : (q : Request) → PutsUpTo t (last_seq_of t.writes) q → IsSameRequest (next_put x key value) q → ⊥
+  pub past_last : (q : Request) → PutsUpTo t (last_seq_of t.writes) q → IsSameRequest (next_put x key value) q → ⊥
   past_last q up same =
       let put : is_put_of x.id x.epoch (x.seq + 1) q ≡ true = same_put (meta_now x (unwrap_or x.anchor key)) (x.seq + 1) x.write_ts key value q same in
       let own : is_put_of t.id t.epoch (x.seq + 1) q ≡ true =
@@ -302,7 +302,7 @@ module _ (k : Known) (stages : List SentStage) (commit : Option SentCommit) (t :
       record {
         unsent = now;
         unheard =
-            all_messages k split c.pipelines P now
+            all_messages k split (not c.loses && c.pipelines) P now
             (All-weaker P (λ m. is_heard (heard_before k) m ≡ false → P m) (λ m p none. p) (sent_before k) (subst (λ ms. All P ms) (sym (before_is k split)) (all_front P split.sent_first k.sent_now parts)));
         untold = λ put. untold_next;
       }
@@ -421,10 +421,10 @@ module _ (set : Setting) (k : Known) (x : OpenTxn) (s : Statement) (why : Why) (
           let few : length x.in_flight < MOST_IN_FLIGHT = room_for key value x.in_flight waits in
           absurd (omega (arith, many, few))
 
-  module _ (later : List LaterPut) (o : HasOutbox k x later) where
+  module _ (later : List LaterPut) (o : HasOutbox set.course.loses k x later) where
     -- what is no put is new
     plain_new : (r : Request) → goes_beside r ≡ false → is_put r ≡ false → is_heartbeat r ≡ false → IsNewFor set.course k r
-    plain_new r own none silent = record { unsent = fresh_unsent r silent; unheard = unsent_plain k f.split x later [] o set.course.pipelines r own none (fresh_unsent r silent); untold = none_told k r none }
+    plain_new r own none silent = record { unsent = fresh_unsent r silent; unheard = unsent_plain (not set.course.loses && set.course.pipelines) k r none (fresh_unsent r silent); untold = none_told k r none }
 
     all_new : (rs : List Request) → All (λ r. goes_beside r ≡ false) rs → All (λ r. (is_put r ≡ false) × (is_heartbeat r ≡ false)) rs → All (IsNewFor set.course k) rs
     all_new [] own plain = All-nil (IsNewFor set.course k)

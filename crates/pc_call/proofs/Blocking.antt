@@ -85,7 +85,7 @@ module _ (set : Setting) (session : ℕ) (k : Known) (t : Txn) (x : OpenTxn) (s 
     may = record {
       may = may_tell set session k s (answers.Blocked holder) opened open_in.is_open b.within (record { asked = b.may; why = why; uncommitted = uncommitted k s.call b.other });
       written = tt;
-      aborts = tt;
+      aborts = λ quiet. tt;
       rolled_back = tt;
       restarts = tt;
       eighth = any_eighth set.course.loses k (answers.Blocked holder) (told_blocked k s (answers.Blocked holder) opened b.other (holder, refl));

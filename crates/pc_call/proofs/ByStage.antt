@@ -77,7 +77,7 @@ module _ (set : Setting) (session : ℕ) (k : Known) (stages : List SentStage) (
       why = inr (inr implicit);
     });
     written = tt;
-    aborts = tt;
+    aborts = λ quiet. tt;
     rolled_back = tt;
     restarts = tt;
     eighth =

@@ -1,5 +1,5 @@
 -- A commit's refreshes, and the commit itself, are to be sent.
-use Rattle.std.proofs.Common.{◌≡◌, ℕ, ◌≤◌, ◌<◌, nat_lt, Bool, ◌&&◌, true, false, ◌⊎◌, inl, inr, List, [], ◌∷◌, map, None, Some, refl, sym, ap, ◌∙◌, subst, arith, All, Any, IsTrue, lit<}
+use Rattle.std.proofs.Common.{◌≡◌, ℕ, ◌≤◌, ◌<◌, nat_lt, Bool, ◌&&◌, true, false, ◌⊎◌, inl, inr, List, [], ◌∷◌, map, None, Some, refl, sym, ap, ◌∙◌, subst, arith, All, Any, IsTrue, lit<, not}
 use Rattle.std.proofs.lemmas.Bool.{and_parts, ltb-true}
 use Rattle.std.proofs.lemmas.Option.{same_Some}
 use Rattle.std.proofs.lemmas.List.Elements.{All-cons, All-map, All-nil, All-weaker}
@@ -104,7 +104,7 @@ same_refresh : (x : OpenTxn) (span : Span) (other : Request) → IsSameRequest (
 same_refresh x span other (inl e) = sym e
 same_refresh x span other (inr put) = absurd put
 
-module _ (set : Setting) (n : ℕ) (k : Known) (x : OpenTxn) (s : Statement) (c : CommitsNow set.course.loses n k x s) (later : List LaterPut) (o : HasOutbox k x later) where
+module _ (set : Setting) (n : ℕ) (k : Known) (x : OpenTxn) (s : Statement) (c : CommitsNow set.course.loses n k x s) (later : List LaterPut) (o : HasOutbox set.course.loses k x later) where
   abbrev said : Request
   said = own_commit x c.on.commits.anchor
 
@@ -125,7 +125,7 @@ module _ (set : Setting) (n : ℕ) (k : Known) (x : OpenTxn) (s : Statement) (c 
   pub commit_begins : x.in_flight ≡ [] → InCall set k x (purposes.Commit n) (message_to_send said ∷ [])
   commit_begins none =
       goes_on set c.t.write_ts n k c.t x s c.on (purposes.Commit n) (said ∷ []) (All-cons (λ r. goes_beside r ≡ false) said [] refl (All-nil (λ r. goes_beside r ≡ false)))
-      (All-cons (IsNewFor set.course k) said [] (record { unsent = unsent_now; unheard = unsent_plain k c.on.split x later [] o set.course.pipelines said refl refl unsent_now; untold = none_told k said refl }) (All-nil (IsNewFor set.course k)))
+      (All-cons (IsNewFor set.course k) said [] (record { unsent = unsent_now; unheard = unsent_plain (not set.course.loses && set.course.pipelines) k said refl unsent_now; untold = none_told k said refl }) (All-nil (IsNewFor set.course k)))
       (All-cons (λ r. is_put r ≡ false) said [] refl (All-nil (λ r. is_put r ≡ false))) (All-nil (AreTwo said), tt) refl c.on.late c.on.beaten
       (λ r of. elim of [ inl flies ↦ (let some = subst (λ fs. Any (λ w. IsTrue (is_put_of c.t.id c.t.epoch w.seq r)) fs) none flies in absurd (omega (arith, some.2))) | inr proved ↦ proved ])
       (subst (λ fs. SuitsFlightIn set.course.pipelines s.call fs) (sym none) (suits set.course.pipelines))
@@ -152,7 +152,7 @@ pub refresh-more : (low high : ℕ) (r : Request) → low ≤ high → IsRefresh
 refresh-more low high (requests.Refresh id from to span) h up = omega arith
 refresh-more low high r h up = tt
 
-module _ (set : Setting) (n : ℕ) (k : Known) (t : Txn) (x : OpenTxn) (s : Statement) (puts : List Message) (c : CommitsOnFrom set.course.loses t.read_ts n k t x s puts) (behind : x.reads.ts < x.write_ts) (later : List LaterPut) (o : HasOutbox k x later) where
+module _ (set : Setting) (n : ℕ) (k : Known) (t : Txn) (x : OpenTxn) (s : Statement) (puts : List Message) (c : CommitsOnFrom set.course.loses t.read_ts n k t x s puts) (behind : x.reads.ts < x.write_ts) (later : List LaterPut) (o : HasOutbox set.course.loses k x later) where
   abbrev asks : Span → Request
   asks span = refresh_to x.id x.reads.ts x.write_ts span
 
@@ -169,7 +169,7 @@ module _ (set : Setting) (n : ℕ) (k : Known) (t : Txn) (x : OpenTxn) (s : Stat
       (λ m up same. let low : x.write_ts ≤ t.read_ts = subst (IsRefreshUpTo t.read_ts) (same_refresh x span m.request same) up in omega (arith, low, reads_at, behind)) k.sent_now c.on.refreshes
 
   refresh_new : (span : Span) → IsNewFor set.course k (asks span)
-  refresh_new span = record { unsent = unsent span; unheard = unsent_plain k c.on.split x later [] o set.course.pipelines (asks span) refl refl (unsent span); untold = none_told k (asks span) refl }
+  refresh_new span = record { unsent = unsent span; unheard = unsent_plain (not set.course.loses && set.course.pipelines) k (asks span) refl (unsent span); untold = none_told k (asks span) refl }
 
   all_asked : (P : Request → Type 0) → ((span : Span) → P (asks span)) → (spans : List Span) → All P (map asks spans)
   all_asked P all [] = All-nil P

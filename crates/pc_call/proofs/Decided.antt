@@ -154,7 +154,7 @@ module _ (session clock count : ℕ) (set : Setting) (k : Known) (x : OpenTxn) (
             why = inr (inl (any_last (λ h. IsTrue (shows_committed w.t.id ts h)) k.heard h shown));
           });
           written = tt;
-          aborts = tt;
+          aborts = λ quiet. tt;
           rolled_back = tt;
           restarts = tt;
           eighth = any_eighth set.course.loses k2 answer (decided_eighth decided answer);
@@ -179,7 +179,7 @@ module _ (session clock count : ℕ) (set : Setting) (k : Known) (x : OpenTxn) (
             heard = any_last (ShowsAborted w.t.id why) k.heard h (record { about = over.about; view = view; told = ap view_in is.told; cause = subst (AbortsWith why) (sym v) refl });
           });
           written = tt;
-          aborts = tt;
+          aborts = λ quiet. tt;
           rolled_back = λ is. let e : Some calls.Commit ≡ Some calls.Rollback = sym (ap call_in w.opened ∙ ap Some commits.commits.call) ∙ is in absurd cc;
           restarts = tt;
           eighth = any_eighth set.course.loses k2 answer (decided_eighth decided answer);

@@ -1,11 +1,11 @@
 -- What is known inside an open call.
-use Rattle.std.proofs.Common.{◌≡◌, ℕ, ◌+◌, ◌-◌, ◌≤◌, take, length-append, true, cond, List, ◌∷◌, Option, Some, None, refl, ap, ◌∙◌, arith, length, false, sym, All, []}
+use Rattle.std.proofs.Common.{◌≡◌, ℕ, ◌+◌, ◌-◌, ◌≤◌, take, length-append, true, cond, List, ◌∷◌, Option, Some, None, refl, ap, ◌∙◌, arith, length, false, sym, All, [], Bool, ◌&&◌, ◌==◌}
 use Rattle.std.proofs.Math.Seq.{take-append_seam}
-use Rattle.std.proofs.lemmas.Bool.{and_parts}
+use Rattle.std.proofs.lemmas.Bool.{and_parts, eqb-true}
 use Rattle.std.proofs.lemmas.List.Elements.{All-weaker}
 use Rattle.std.proofs.lemmas.Option.{same_Some}
 use Rattle.pc_base.specs.declared.limits.TheConstants.{MOST_REFUSALS}
-use Rattle.pc_call.specs.Serving.{IsOpenIn, IsSplit, write_call}
+use Rattle.pc_call.specs.Serving.{IsOpenIn, IsSplit, write_call, IsOutOrLost, is_unsent}
 use Rattle.pc_proto.specs.declared.request.Request.TheVariants as requests
 use Rattle.pc_proto.specs.declared.meta.TxnMeta.{TxnMeta}
 use Rattle.pc_refusals.specs.Moves.{CountsMoves, IsNoMove}
@@ -22,6 +22,8 @@ use Rattle.pc_world.specs.Tell.Refusal.{WasMoved, is_moved}
 use Rattle.pc_proto.specs.declared.request.Request.{Request}
 use Rattle.pc_proto.specs.declared.reply.Reply.{Reply}
 use Rattle.pc_follows.specs.Heartbeats.{is_heartbeat}
+use Rattle.pc_wave.specs.declared.message.Message.{Message}
+use Rattle.pc_wave.specs.Messages.{is_to_send}
 
 -- the first transaction is the open one
 pub open_is : (k : Known) (t : Txn) → IsOpenIn k t → open_txn k ≡ Some t
@@ -73,3 +75,23 @@ unmoved_now k none eight =
 pub beat_moves : (r : Request) (reply : Reply) → is_heartbeat r ≡ true → is_moved r reply ≡ false
 beat_moves (requests.Beat meta ts now) reply beat = refl
 beat_moves r reply beat = absurd cc
+
+-- what did not go out yet is to be sent
+pub unsent_goes : (m : Message) → is_unsent m ≡ true → is_to_send m ≡ true
+unsent_goes m unsent = by (is_to_send m) (m.lost == 0) unsent
+  where
+    by : (a b : Bool) → (a && b) ≡ true → a ≡ true
+    by true b e = refl
+    by false b e = absurd cc
+
+-- nor was it lost
+pub unsent_unlost : (m : Message) → is_unsent m ≡ true → m.lost ≡ 0
+unsent_unlost m unsent = eqb-true m.lost 0 (by (is_to_send m) (m.lost == 0) unsent)
+  where
+    by : (a b : Bool) → (a && b) ≡ true → b ≡ true
+    by true b e = e
+    by false b e = absurd cc
+
+-- where nothing is to be sent, each message went out
+pub all_out : (ms : List Message) → All (λ m. is_to_send m ≡ false) ms → All IsOutOrLost ms
+all_out ms out = All-weaker (λ m. is_to_send m ≡ false) IsOutOrLost (λ m none to_send. let f : false ≡ true = sym none ∙ to_send in absurd cc) ms out

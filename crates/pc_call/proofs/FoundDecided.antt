@@ -151,6 +151,7 @@ module _ (set : Setting) (session : ℕ) (k : Known) (x : OpenTxn) (p : Purpose)
     named = anchor-last w.t k.heard h w.stands.views sees (own.named ∙ sym own.anchored) ∙ own.anchored
 
     first : MayBeCommittedFirst k4 ts left
+    unfolding over ends
     first = record {
       commit = record {
         t = t4;
@@ -182,7 +183,7 @@ module _ (set : Setting) (session : ℕ) (k : Known) (x : OpenTxn) (p : Purpose)
           why = inr (inl (any_last (λ h. IsTrue (shows_committed w.t.id ts h)) k.heard h shown));
         });
         written = tt;
-        aborts = tt;
+        aborts = λ quiet. tt;
         rolled_back = tt;
         restarts = tt;
         eighth = any_eighth set.course.loses k2 (answers.Committed x.id ts) (ends_eighth (answers.Committed x.id ts) tt);
@@ -212,7 +213,7 @@ module _ (set : Setting) (session : ℕ) (k : Known) (x : OpenTxn) (p : Purpose)
           heard = any_last (ShowsAborted w.t.id why) k.heard h (record { about = own.about; view = view; told = ap view_in told; cause = subst (AbortsWith why) (sym v) refl });
         });
         written = tt;
-        aborts = tt;
+        aborts = λ quiet. tt;
         rolled_back = λ is. let e : Some calls.Commit ≡ Some calls.Rollback = sym (ap call_in w.opened ∙ ap Some own.call) ∙ is in absurd cc;
         restarts = tt;
         eighth = any_eighth set.course.loses k2 (answers.Aborted why) (ends_eighth (answers.Aborted why) tt);

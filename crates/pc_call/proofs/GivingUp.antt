@@ -51,7 +51,7 @@ module _ (set : Setting) (session : ℕ) (k : Known) (x : OpenTxn) (answer : Ans
         uncommitted = subst (IsUncommittedIn k) (sym g.gives_up.call) (g.t, open_is k g.t g.open_in, none_committed);
       });
       written = tt;
-      aborts = tt;
+      aborts = λ quiet. tt;
       rolled_back = tt;
       restarts = tt;
       eighth = any_eighth set.course.loses k (answers.Blocked holder) (no_eighth_move k g.s (answers.Blocked holder) g.opened g.gives_up.call w.fewer);
@@ -75,7 +75,7 @@ module _ (set : Setting) (session : ℕ) (k : Known) (x : OpenTxn) (answer : Ans
         uncommitted = none_committed;
       });
       written = tt;
-      aborts = tt;
+      aborts = λ quiet. tt;
       rolled_back = tt;
       restarts = tt;
       eighth = any_eighth set.course.loses k (answers.Moved ts) (told_moved k g.s (answers.Moved ts) g.opened g.gives_up.call (ts, refl));
@@ -105,7 +105,7 @@ module _ (set : Setting) (session : ℕ) (k : Known) (x : OpenTxn) (answer : Ans
           uncommitted = none_committed;
         });
         written = tt;
-        aborts = tt;
+        aborts = λ quiet. tt;
         rolled_back = tt;
         restarts = w.first;
         eighth = any_eighth set.course.loses k (answers.Restart key ts) (no_eighth_move k g.s (answers.Restart key ts) g.opened g.gives_up.call w.fewer);

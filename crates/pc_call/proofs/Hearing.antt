@@ -17,7 +17,7 @@ use Rattle.pc_call.proofs.Behind.{not_behind}
 use Rattle.pc_call.proofs.Beating.{beaten_heard}
 use Rattle.pc_call.proofs.Beside.{IsAskedOrBeside, asked-kept, waits_as}
 use Rattle.pc_call.proofs.Eighths.{same_sym}
-use Rattle.pc_call.proofs.Facts.{are_numbered, open_is}
+use Rattle.pc_call.proofs.Facts.{are_numbered, open_is, unsent_goes, unsent_unlost}
 use Rattle.pc_call.proofs.Full.{full_stays, full_back, full_from}
 use Rattle.pc_call.proofs.Holders.{holders_heard}
 use Rattle.pc_call.proofs.Intents.{put_again_on}
@@ -34,7 +34,7 @@ use Rattle.pc_call.specs.Ended.{landed_awaited, landed_by, landed_with}
 use Rattle.pc_call.specs.Learned.{known_heard}
 use Rattle.pc_call.specs.Missing.{IsAboveMisses}
 use Rattle.pc_call.specs.Paced.{IsPaced, was_met, was_pushed}
-use Rattle.pc_call.specs.Serving.{AreReadsOf, HasBeatenBy, InCall, IsAnswerTo, IsMetUpTo, IsOpenFor, IsOpenIn, IsReadFor, IsRefreshGoneOut, IsRefusedBy, IsSplit, KeepsStages, LaysLast, LaysNext, MayBePutAgain, MeetsByPut, MetNoOtherWrite, NoOtherMetEighth, NoneMetEighth, ReadsNothing, SendsAgain, Serves, ServesProve, ServesRead, ServesRefresh, ServesWrite, WaitsMeanwhile, WasRefusedIfCommit, conflicts_before, holders_met, out_of}
+use Rattle.pc_call.specs.Serving.{AreReadsOf, HasBeatenBy, InCall, IsAnswerTo, IsMetUpTo, IsOpenFor, IsOpenIn, IsReadFor, IsRefreshGoneOut, IsRefusedBy, IsSplit, KeepsStages, LaysLast, LaysNext, MayBePutAgain, MeetsByPut, MetNoOtherWrite, NoOtherMetEighth, NoneMetEighth, ReadsNothing, SendsAgain, Serves, ServesProve, ServesRead, ServesRefresh, ServesWrite, WaitsMeanwhile, WasRefusedIfCommit, conflicts_before, holders_met, out_of, IsOutOrLost}
 use Rattle.pc_call.specs.Suiting.{SuitsFlightIn}
 use Rattle.pc_call.specs.Waiting.{waits_on}
 use Rattle.pc_follows.specs.Heartbeats.{HasBeaten}
@@ -435,7 +435,7 @@ module _ (session clock count : ℕ) (set : Setting) (k : Known) (x : OpenTxn) (
     own_spared = ap (λ q. refuses_stage q h.reply) own_said
 
     own_asked : WasAskedAt w.t own.w.seq own.ts
-    own_asked = elim own.goes_at [ inl now ↦ let f : false ≡ true = sym (ap progress_to_send own_sent) ∙ now.0 in absurd cc | inr was ↦ was.0 ]
+    own_asked = elim own.goes_at [ inl now ↦ let f : false ≡ true = sym (ap progress_to_send own_sent) ∙ unsent_goes found.0 now.0 in absurd cc | inr was ↦ was.0 ]
 
     module _ (stages : List SentStage) (commit : Option SentCommit) (st : TxnStands k stages commit w.t x) (conflict : is_conflict reply ≡ true) where
       pub met_same : t2 ≡ w.t
@@ -546,7 +546,7 @@ module _ (session clock count : ℕ) (set : Setting) (k : Known) (x : OpenTxn) (
       abbrev pub test : WriteInFlight → Bool
       test f = is_another own.w.key own.w.seq f
 
-      other_then : (y : Message) → AreOfTwo y found.0 ⊎ AreOfTwo found.0 y → (SendsAgain call all k w.t x y) × (is_to_send y ≡ false) → SendsAgain call all k2 t2 x2 y
+      other_then : (y : Message) → AreOfTwo y found.0 ⊎ AreOfTwo found.0 y → (SendsAgain call all k w.t x y) × IsOutOrLost y → SendsAgain call all k2 t2 x2 y
       other_then y apart both =
           let a : SendsAgain call all k w.t x y = both.0 in
           let another : test a.w ≡ true = ap (λ b. not (b && same_key a.w.key own.w.key)) (ne_eqb a.w.seq own.w.seq (apart_seq y apart a)) in
@@ -559,15 +559,18 @@ module _ (session clock count : ℕ) (set : Setting) (k : Known) (x : OpenTxn) (
             ts = a.ts;
             said = a.said;
             low = omega (arith, a.low, risen);
-            goes_at = elim a.goes_at [ inl now ↦ let f : false ≡ true = sym both.1 ∙ now.0 in absurd cc | inr was ↦ inr (asked_heard a.w.seq a.ts w.t k.sent h was.0, λ to_send none. let f : false ≡ true = sym both.1 ∙ to_send in absurd cc) ];
+            goes_at = elim a.goes_at [
+              | inl now ↦ (let lost = (both.1 (unsent_goes y now.0)).0 in absurd (omega (arith, lost, unsent_unlost y now.0)))
+              | inr was ↦ inr (asked_heard a.w.seq a.ts w.t k.sent h was.0, λ to_send none. let lost = (both.1 to_send).0 in absurd (omega (arith, lost, none)))
+            ];
             there = λ none. contains_in_filter test x.in_flight a.w (a.there none) another;
           }
 
-      -- the messages prove their writes on, where all went out
-      pub landed_again : (ys : List Message) → find (awaits_at number) ys ≡ Some found.0 → Pairwise AreOfTwo ys → All (λ m. is_to_send m ≡ false) ys → All (SendsAgain call all k w.t x) ys → All (SendsAgain call all k2 t2 x2) (first_changed (awaits_at number) (back_with number reply) ys)
+      -- the messages prove their writes on, where all went out; those that were lost since are to be sent again
+      pub landed_again : (ys : List Message) → find (awaits_at number) ys ≡ Some found.0 → Pairwise AreOfTwo ys → All IsOutOrLost ys → All (SendsAgain call all k w.t x) ys → All (SendsAgain call all k2 t2 x2) (first_changed (awaits_at number) (back_with number reply) ys)
       landed_again ys there differ whole again =
-          all_changed AreOfTwo (awaits_at number) (back_with number reply) (λ y. SendsAgain call all k w.t x y × (is_to_send y ≡ false)) (SendsAgain call all k2 t2 x2) found.0 (λ both. own_then) other_then ys there differ
-          (all_with (SendsAgain call all k w.t x) (λ y. is_to_send y ≡ false) ys again whole)
+          all_changed AreOfTwo (awaits_at number) (back_with number reply) (λ y. SendsAgain call all k w.t x y × IsOutOrLost y) (SendsAgain call all k2 t2 x2) found.0 (λ both. own_then) other_then ys there differ
+          (all_with (SendsAgain call all k w.t x) IsOutOrLost ys again whole)
 
       not_open : (f : WriteInFlight) → test f ≡ true → IsOpenFor f found.0 → ⊥
       not_open f another goes =
@@ -628,7 +631,7 @@ module _ (session clock count : ℕ) (set : Setting) (k : Known) (x : OpenTxn) (
           unmoved = unmoved_on;
         }))
 
-    module _ (at : ℕ) (written : reply ≡ replies.Written at) (above : IsAboveMisses k.heard h.request h.reply) (whole : All (λ m. is_to_send m ≡ false) ms) where
+    module _ (at : ℕ) (written : reply ≡ replies.Written at) (above : IsAboveMisses k.heard h.request h.reply) (whole : All IsOutOrLost ms) where
       abbrev x4 : OpenTxn
       x4 = landed_at it.w.key it.w.seq at h.step x
 
@@ -689,7 +692,7 @@ module _ (session clock count : ℕ) (set : Setting) (k : Known) (x : OpenTxn) (
       gone_on (still_refuses h.request h.reply still) (still_same still) (still_leaves still) (ap (λ q. out_of q ms2) e ∙ sym (ap (λ q. out_of q ms) e)) (subst (λ q. Serves set k2 w.s w.t x w.stages q ms2) (sym e) (refresh_serves n puts still r))
 
   -- a write that it proves was written
-  pub call_proved : (call : Call) (all : Bool) (at : ℕ) → p ≡ purposes.Prove call all → reply ≡ replies.Written at → IsAboveMisses k.heard h.request h.reply → All (λ m. is_to_send m ≡ false) ms → InCall set k2 (landed_awaited number ms at h.step x) p ms2
+  pub call_proved : (call : Call) (all : Bool) (at : ℕ) → p ≡ purposes.Prove call all → reply ≡ replies.Written at → IsAboveMisses k.heard h.request h.reply → All IsOutOrLost ms → InCall set k2 (landed_awaited number ms at h.step x) p ms2
   call_proved call all at e written above whole =
       let r : ServesProve call all k w.s w.t x ms = subst (λ q. Serves set k w.s w.t x w.stages q ms) e w.serves in
       let none : w.stages ≡ [] = subst (λ q. KeepsStages q k w.stages) e w.kept in

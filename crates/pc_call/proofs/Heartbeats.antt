@@ -1,5 +1,5 @@
 -- A call shows first that its transaction is alive: its heartbeat is to be sent, and is heard.
-use Rattle.std.proofs.Common.{◌≡◌, ◌≢◌, ℕ, zero, suc, ◌+◌, ◌≤◌, nat_le, max, Bool, true, false, ◌&&◌, ◌==◌, inl, is_some, List, drop, [], ◌∷◌, ◌++◌, map, Some, None, refl, sym, ap, ◌∙◌, subst, arith, All, Any, Contains, IsTrue, ◌⊎◌}
+use Rattle.std.proofs.Common.{◌≡◌, ◌≢◌, ℕ, zero, suc, ◌+◌, ◌≤◌, nat_le, max, Bool, true, false, ◌&&◌, ◌==◌, inl, is_some, List, drop, [], ◌∷◌, ◌++◌, map, Some, None, refl, sym, ap, ◌∙◌, subst, arith, All, Any, Contains, IsTrue, ◌⊎◌, not}
 use Rattle.std.proofs.lemmas.Bool.{and_parts, eq-eqb, le-leb, leb-true}
 use Rattle.std.proofs.lemmas.List.Elements.{All-cons, All-head, All-nil, All-tail, All-weaker}
 use Rattle.std.proofs.lemmas.List.{append-nil}
@@ -150,14 +150,14 @@ module _ (k : Known) (x : OpenTxn) (call : Call) (reading : ℕ) (why : Why) (f 
       fresh_so loses (λ d. aside (subst MayBlock (sym (ap (λ (s : Statement). s.call) (same_Some (record { call = call; reading = reading }) d.s (sym f.opened ∙ d.opened)))) d.asks))
 
   -- else its heartbeat is to be sent
-  pub beat_begins : (set : Setting) (anchor : List ℕ) (later : List LaterPut) → HasOutbox k x later → MayBlock call → SuitsFlightIn set.course.pipelines call x.in_flight → is_silent reading x ≡ true → x.anchor ≡ Some anchor → InCall set k x (purposes.Beat call reading) (message_to_send (own_beat x reading anchor) ∷ [])
+  pub beat_begins : (set : Setting) (anchor : List ℕ) (later : List LaterPut) → HasOutbox set.course.loses k x later → MayBlock call → SuitsFlightIn set.course.pipelines call x.in_flight → is_silent reading x ≡ true → x.anchor ≡ Some anchor → InCall set k x (purposes.Beat call reading) (message_to_send (own_beat x reading anchor) ∷ [])
   beat_begins set anchor later o asks suits silent anchored =
       let beat = own_beat x reading anchor in
       let own : f.t.anchor ≡ Some anchor = sym (ap (λ x. x.anchor) f.stands.same) ∙ anchored in
       begins_so k f.t x (record { call = call; reading = reading }) f.open_in f.stands f.client f.opened split_asked (nothing_heard ShowsAlive) set (nothing_sent (λ m. is_query m.request ≡ false)) (purposes.Beat call reading) (beat ∷ [])
       (All-cons (λ r. goes_beside r ≡ false) beat [] refl (All-nil (λ r. goes_beside r ≡ false)))
       (All-cons (IsNewFor set.course k) beat []
-      (record { unsent = nothing_sent (λ m. IsSameRequest beat m.request → ⊥); unheard = unsent_plain k split_asked x later [] o set.course.pipelines beat refl refl (nothing_sent (λ m. IsSameRequest beat m.request → ⊥)); untold = none_told k beat refl })
+      (record { unsent = nothing_sent (λ m. IsSameRequest beat m.request → ⊥); unheard = unsent_plain (not set.course.loses && set.course.pipelines) k beat refl (nothing_sent (λ m. IsSameRequest beat m.request → ⊥)); untold = none_told k beat refl })
       (All-nil (IsNewFor set.course k))) (All-nil (AreTwo beat), tt) refl (λ quiet. none_behind) suits
       (record {
         asked = refl;
@@ -359,7 +359,7 @@ module _ (session clock count : ℕ) (set : Setting) (k : Known) (x : OpenTxn) (
               heard = any_last (ShowsAborted w.t.id why) k.heard h (record { about = over.about; view = view; told = ap view_in is.told; cause = subst (AbortsWith why) (sym v) refl });
             });
             written = tt;
-            aborts = tt;
+            aborts = λ quiet. tt;
             rolled_back = λ asked. no_rollback call b.asks (same_Some call calls.Rollback (sym (ap call_in (w.opened ∙ ap (λ s. Some s) b.asked)) ∙ asked));
             restarts = tt;
             eighth = any_eighth set.course.loses k2 answer (λ s opened. record { blocked = λ no r eight. absurd (unmet r eight); moved = λ asked eight. absurd (unmoved eight) });

@@ -15,7 +15,7 @@ use Rattle.pc_call.specs.Learned.{known_heard, known_sent}
 use Rattle.pc_call.specs.Missing.{IsAboveMisses}
 use Rattle.pc_call.specs.Opening.{GoesOn, after_send}
 use Rattle.pc_call.specs.Rounding.{MakesRound}
-use Rattle.pc_call.specs.Serving.{InCall, KeepsStages, Serves, out_of}
+use Rattle.pc_call.specs.Serving.{InCall, KeepsStages, Serves, out_of, IsOutOrLost}
 use Rattle.pc_call.specs.Setting.{Setting}
 use Rattle.pc_call.specs.Stages.{MayProve}
 use Rattle.pc_proto.specs.declared.reply.Reply.{Reply}
@@ -96,7 +96,7 @@ module _ (session clock count : ℕ) (set : Setting) (k : Known) (x : OpenTxn) (
 
   module _ (number : ℕ) (reply : Reply) (h : Heard) (waited : wave_awaits number ms ≡ true) (is : IsHeardTo k number reply h) where
     -- a reply by which the call goes on
-    pub call_heard : GoesOn p reply → All (λ m. is_to_send m ≡ false) ms → InCall set (known_heard h k) x p (first_changed (awaits_at number) (back_with number reply) ms)
+    pub call_heard : GoesOn p reply → All IsOutOrLost ms → InCall set (known_heard h k) x p (first_changed (awaits_at number) (back_with number reply) ms)
     call_heard on sent = by p refl on
       where
         by : (q : Purpose) → p ≡ q → GoesOn q reply → InCall set (known_heard h k) x p (first_changed (awaits_at number) (back_with number reply) ms)
@@ -109,7 +109,7 @@ module _ (session clock count : ℕ) (set : Setting) (k : Known) (x : OpenTxn) (
         by q e on = absurd on
 
     -- a write of an earlier call that was written
-    pub write_proved : (at : ℕ) → MayProve p → reply ≡ replies.Written at → IsAboveMisses k.heard h.request h.reply → All (λ m. is_to_send m ≡ false) ms
+    pub write_proved : (at : ℕ) → MayProve p → reply ≡ replies.Written at → IsAboveMisses k.heard h.request h.reply → All IsOutOrLost ms
         → InCall set (known_heard h k) (landed_awaited number ms at h.step x) p (first_changed (awaits_at number) (back_with number reply) ms)
     write_proved at may written above whole = by p refl may
       where

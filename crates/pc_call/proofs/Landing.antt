@@ -50,7 +50,7 @@ use Rattle.pc_txn.specs.Standing.{TxnStands}
 use Rattle.pc_wave.proofs.Lists.{at_least-before}
 use Rattle.pc_wave.specs.declared.message.Message.{Message}
 use Rattle.pc_wave.specs.Messages.{awaits_at, progress_awaits, wave_awaits}
-use Rattle.pc_wave.specs.Standing.{IsHeardTo, IsMessageAt, messages_of}
+use Rattle.pc_wave.specs.Standing.{IsHeardTo, IsMessageAt}
 use Rattle.pc_world.specs.Known.{Known, open_txn}
 use Rattle.pc_world.specs.Known.Statements.{Statement}
 use Rattle.pc_world.specs.Known.Traffic.{Heard, Sent}
@@ -59,6 +59,7 @@ use Rattle.pc_world.specs.MayTell.{is_past_range}
 use Rattle.pc_world.specs.Send.Put.{AsksFor}
 use Rattle.pc_world.specs.Tell.Data.{IsFirstPut, IsPutFor, MayTellWritten, sent_before}
 use Rattle.pc_world.specs.Tell.Refusal.{IsConflictOf}
+use Rattle.pc_call.proofs.Unsent.{unpiped_sent}
 
 write_no_commit : (key : List ℕ) (value : Option (List ℕ)) → write_call key value ≡ calls.Commit → ⊥
 write_no_commit key None e = cc
@@ -121,7 +122,7 @@ module _ (set : Setting) (session : ℕ) (k : Known) (x : OpenTxn) (l : HasWritt
     may = record {
       may = may_tell set session k l.s answers.Written l.opened l.open_in.is_open within l.told;
       written = heard_own;
-      aborts = tt;
+      aborts = λ quiet. tt;
       rolled_back = tt;
       restarts = tt;
       eighth = any_eighth set.course.loses k answers.Written (no_eighth k l.s answers.Written l.opened other l.unmet);
@@ -203,7 +204,7 @@ module _ (session clock count : ℕ) (set : Setting) (k : Known) (x : OpenTxn) (
       subst (TxnStands k2 [] None t2) (sym made)
       (put_landed k [] None w.t x st f l.there k2 h meta x.write_ts at f.value own_id own_epoch said is.told (above_put k w.t x own_id own_epoch l.anchor f x.write_ts at h said is.told above) (gone session clock count set k x p ms counted w number reply h waited is) low) in
       let opened2 : IsOpenIn k2 t2 = open2 session clock count set k x p ms counted w number reply h waited is in
-      let out : Any (IsMessageAt number it.0.request) k.sent_now = subst (λ b. Any (IsMessageAt number it.0.request) (messages_of b k)) alone (far session clock count set k x p ms counted w number reply h waited is).0.out.now in
+      let out : Any (IsMessageAt number it.0.request) k.sent_now = subst (λ ms. Any (IsMessageAt number it.0.request) ms) (unpiped_sent set.course.pipelines k it.0.request alone) (far session clock count set k x p ms counted w number reply h waited is).0.out.now in
       let first : IsFirstPut k2 w.s t2 out.1 = record {
         seq = f.seq;
         key = r.key;

@@ -35,13 +35,13 @@ module _ {X : Type 0} (test : X → Bool) where
   abbrev left : List X → List X
   left xs = before_first test xs ++ after_first test xs
 
-  left_passed : (x : X) (xs : List X) → test x ≡ true → left (x ∷ xs) ≡ xs
+  pub left_passed : (x : X) (xs : List X) → test x ≡ true → left (x ∷ xs) ≡ xs
   left_passed x xs is = grind (arith, common_steps, is)
 
-  left_kept : (x : X) (xs : List X) → test x ≡ false → left (x ∷ xs) ≡ x ∷ left xs
+  pub left_kept : (x : X) (xs : List X) → test x ≡ false → left (x ∷ xs) ≡ x ∷ left xs
   left_kept x xs is = grind (arith, common_steps, is)
 
-  all_left : (P : X → Type 0) (xs : List X) → All P xs → All P (left xs)
+  pub all_left : (P : X → Type 0) (xs : List X) → All P xs → All P (left xs)
   all_left P [] a = a
   all_left P (x ∷ xs) a = by (all_left P xs (All-tail P x xs a)) (test x) refl
     where
@@ -176,7 +176,7 @@ IsJoined put m = m ≡ message_on_way put.number put.request
 abbrev pub PutsOneOf : List WriteInFlight → Message → Type 0
 PutsOneOf ws m = ((w : WriteInFlight) × Contains ws w × (has_put w.seq m.request ≡ true)) ⊎ (is_put m.request ≡ false)
 
-module _ (k : Known) (x : OpenTxn) (later : List LaterPut) (o : HasOutbox k x later) (ws : List WriteInFlight) (ms : List Message) (joined : (w : WriteInFlight) → Contains ws w → (put : LaterPut) → waiting_put w.seq later ≡ Some put → Any (IsJoined put) ms)
+module _ {loses : Bool} (k : Known) (x : OpenTxn) (later : List LaterPut) (o : HasOutbox loses k x later) (ws : List WriteInFlight) (ms : List Message) (joined : (w : WriteInFlight) → Contains ws w → (put : LaterPut) → waiting_put w.seq later ≡ Some put → Any (IsJoined put) ms)
     (says : All (PutsOneOf ws) ms) where
   abbrev later2 : List LaterPut
   later2 = without_puts ws later
@@ -218,30 +218,30 @@ module _ (k : Known) (x : OpenTxn) (later : List LaterPut) (o : HasOutbox k x la
       by (inr (inr heard)) = inr (inr heard)
 
   -- the others wait beside the wave
-  pub keeps_outbox : KeepsOutbox k x later2 ms
+  pub keeps_outbox : KeepsOutbox loses k x later2 ms
   keeps_outbox = record {
     has = record {
       t = o.t;
       opened = o.opened;
       stands = stands_without_all k o.t x ws later o.stands;
-      left = All-weaker (IsHeardOrLeft (heard_before k) k.heard_now o.t later []) (IsHeardOrLeft (heard_before k) k.heard_now o.t later2 ms) still (sent_before k) o.left;
+      left = λ quiet. All-weaker (IsHeardOrLeft (heard_before k) k.heard_now o.t later []) (IsHeardOrLeft (heard_before k) k.heard_now o.t later2 ms) still (sent_before k) (o.left quiet);
     };
     apart = all_from_contains (IsApartFrom ms) later2 apart;
   }
 
 -- a wave without puts leaves the outbox as it is
-pub keeps_beside : (k : Known) (x : OpenTxn) (later : List LaterPut) → HasOutbox k x later → (ms : List Message) → All (λ m. is_put m.request ≡ false) ms → KeepsOutbox k x later ms
+pub keeps_beside : {loses : Bool} (k : Known) (x : OpenTxn) (later : List LaterPut) → HasOutbox loses k x later → (ms : List Message) → All (λ m. is_put m.request ≡ false) ms → KeepsOutbox loses k x later ms
 keeps_beside k x later o ms none = keeps_outbox k x later o [] ms (λ w there. absurd (contains_nil w there)) (All-weaker (λ m. is_put m.request ≡ false) (PutsOneOf []) (λ m is. inr is) ms none)
 
 -- so do the refreshes of a commit, and the commit itself
-pub refreshes_keep : (k : Known) (x : OpenTxn) (later : List LaterPut) → HasOutbox k x later → KeepsOutbox k x later (map message_to_send (map (refresh_to x.id x.reads.ts x.write_ts) x.reads.spans))
+pub refreshes_keep : {loses : Bool} (k : Known) (x : OpenTxn) (later : List LaterPut) → HasOutbox loses k x later → KeepsOutbox loses k x later (map message_to_send (map (refresh_to x.id x.reads.ts x.write_ts) x.reads.spans))
 refreshes_keep k x later o = keeps_beside k x later o (map message_to_send (map (refresh_to x.id x.reads.ts x.write_ts) x.reads.spans)) (plain x.reads.spans)
   where
     plain : (spans : List Span) → All (λ (m : Message). is_put m.request ≡ false) (map message_to_send (map (refresh_to x.id x.reads.ts x.write_ts) spans))
     plain [] = All-nil (λ (m : Message). is_put m.request ≡ false)
     plain (span ∷ spans) = All-cons (λ (m : Message). is_put m.request ≡ false) (message_to_send (refresh_to x.id x.reads.ts x.write_ts span)) (map message_to_send (map (refresh_to x.id x.reads.ts x.write_ts) spans)) refl (plain spans)
 
-pub commit_keeps : (k : Known) (x : OpenTxn) (later : List LaterPut) → HasOutbox k x later → (anchor : List ℕ) → KeepsOutbox k x later (message_to_send (own_commit x anchor) ∷ [])
+pub commit_keeps : {loses : Bool} (k : Known) (x : OpenTxn) (later : List LaterPut) → HasOutbox loses k x later → (anchor : List ℕ) → KeepsOutbox loses k x later (message_to_send (own_commit x anchor) ∷ [])
 commit_keeps k x later o anchor =
     keeps_beside k x later o (message_to_send (own_commit x anchor) ∷ []) (All-cons (λ (m : Message). is_put m.request ≡ false) (message_to_send (own_commit x anchor)) [] refl (All-nil (λ (m : Message). is_put m.request ≡ false)))
 
@@ -290,7 +290,7 @@ module _ (x : OpenTxn) (later : List LaterPut) (anchor : List ℕ) where
         by rest false = rest
 
     -- what a call proves joined its wave
-    pub proofs_keep : (k : Known) → HasOutbox k x later → KeepsOutbox k x (without_puts (filter waited x.in_flight) later) (proofs_in call all x later anchor x.in_flight)
+    pub proofs_keep : {loses : Bool} (k : Known) → HasOutbox loses k x later → KeepsOutbox loses k x (without_puts (filter waited x.in_flight) later) (proofs_in call all x later anchor x.in_flight)
     proofs_keep k o = keeps_outbox k x later o (filter waited x.in_flight) (proofs_in call all x later anchor x.in_flight) (proofs_join x.in_flight) (proofs_say x.in_flight)
 
   -- each is to be sent, or on its way
@@ -332,7 +332,7 @@ module _ (x : OpenTxn) (later : List LaterPut) (anchor : List ℕ) where
         more v ws m (inr none) = inr none
 
     -- the puts of a stage joined its wave, and what goes behind them puts nothing
-    pub stage_keeps : (k : Known) → HasOutbox k x later → (m : Message) → is_put m.request ≡ false → KeepsOutbox k x (without_puts x.in_flight later) (put_messages x later anchor puts x.in_flight ++ m ∷ [])
+    pub stage_keeps : {loses : Bool} (k : Known) → HasOutbox loses k x later → (m : Message) → is_put m.request ≡ false → KeepsOutbox loses k x (without_puts x.in_flight later) (put_messages x later anchor puts x.in_flight ++ m ∷ [])
     stage_keeps k o m none =
         keeps_outbox k x later o x.in_flight (put_messages x later anchor puts x.in_flight ++ m ∷ [])
         (λ w there put is. any_kept (IsJoined put) (put_messages x later anchor puts x.in_flight) (m ∷ []) (puts_join x.in_flight w there put is))

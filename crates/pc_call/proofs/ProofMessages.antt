@@ -1,5 +1,5 @@
 -- The messages that prove the writes for which a call waits: a put that waits in the outbox is waited for, another goes out again.
-use Rattle.std.proofs.Common.{◌≡◌, ◌≢◌, ℕ, zero, suc, ◌+◌, ◌<◌, ◌==◌, Bool, true, false, cond, ◌⊎◌, inl, inr, List, [], ◌∷◌, ◌++◌, find, length, reverse, take, ◌-◌, Option, None, Some, refl, sym, ap, ◌∙◌, subst, arith, All, Any, Contains, IsTrue, not, lit<}
+use Rattle.std.proofs.Common.{◌≡◌, ◌≢◌, ℕ, zero, suc, ◌+◌, ◌<◌, ◌==◌, Bool, true, false, cond, ◌⊎◌, inl, inr, List, [], ◌∷◌, ◌++◌, find, length, reverse, take, ◌-◌, Option, None, Some, refl, sym, ap, ◌∙◌, subst, arith, All, Any, Contains, IsTrue, not, lit<, ◌&&◌}
 use Rattle.std.specs.List.{list_any}
 use Rattle.std.specs.Option.{option_map, option_to_list}
 use Rattle.std.proofs.lemmas.Bool.{eqb-true, ne_eqb}
@@ -28,7 +28,7 @@ use Rattle.pc_proto.specs.declared.call.Call.{Call}
 use Rattle.pc_proto.specs.declared.meta.TxnMeta.{TxnMeta}
 use Rattle.pc_proto.specs.declared.request.Request.{Request}
 use Rattle.pc_proto.specs.declared.request.Request.TheVariants as requests
-use Rattle.pc_proto.specs.Requests.{is_put_of}
+use Rattle.pc_proto.specs.Requests.{is_put, is_put_of}
 use Rattle.pc_txn.proofs.Again.{IsEarlierInFlight, flight_order}
 use Rattle.pc_txn.proofs.Puts.{same_put}
 use Rattle.pc_txn.specs.declared.txn.OpenTxn.{OpenTxn}
@@ -40,7 +40,7 @@ use Rattle.pc_wave.proofs.Lists.{at_least-before}
 use Rattle.pc_wave.proofs.Tries.{ready_tries}
 use Rattle.pc_wave.specs.declared.message.Message.{Message}
 use Rattle.pc_wave.specs.Messages.{is_in_conflict, message_again, message_on_way}
-use Rattle.pc_wave.specs.Standing.{AreAnsweredBut, AreCounted, CountsTries, IsMessageAt, MayGoOut, MessageStands, Pairwise, goes_beside, messages_of}
+use Rattle.pc_wave.specs.Standing.{AreAnsweredBut, AreCounted, CountsTries, IsMessageAt, MayGoOut, MessageStands, Pairwise, goes_beside, messages_for}
 use Rattle.pc_wave.specs.Tries.{AreLastUnheard}
 use Rattle.pc_world.specs.Counting.{AtLeast}
 use Rattle.pc_world.specs.Known.{Known}
@@ -52,12 +52,12 @@ use Rattle.pc_world.specs.Tell.Data.{sent_before}
 use Rattle.pc_world.specs.Tell.Refusal.{IsConflictOf, is_heard}
 
 module _ {X : Type 0} (P : X → Type 0) where
-  all_reversed : (xs : List X) → All P xs → All P (reverse xs)
+  pub all_reversed : (xs : List X) → All P xs → All P (reverse xs)
   all_reversed [] a = a
   all_reversed (x ∷ xs) a =
       subst (λ ys. All P ys) (sym (reverse-append (x ∷ []) xs)) (All-append P (reverse xs) (x ∷ []) (all_reversed xs (All-tail P x xs a)) (All-cons P x [] (All-head P x xs a) (All-nil P)))
 
-  any_reversed : (xs : List X) → Any P xs → Any P (reverse xs)
+  pub any_reversed : (xs : List X) → Any P xs → Any P (reverse xs)
   any_reversed [] some = some
   any_reversed (x ∷ xs) (zero, y, inside, is, h) = subst (λ ys. Any P ys) (sym (reverse-append (x ∷ []) xs)) (any_behind P (reverse xs) (x ∷ []) (any_head P x [] (subst P (sym is) h)))
   any_reversed (x ∷ xs) (suc n, y, inside, is, h) = subst (λ ys. Any P ys) (sym (reverse-append (x ∷ []) xs)) (any_kept P (reverse xs) (x ∷ []) (any_reversed xs (n, y, omega arith, is, h)))
@@ -132,7 +132,7 @@ again_stands set k r n own g = record {
   no_round = own;
 }
 
-module _ (set : Setting) (k : Known) (t : Txn) (x : OpenTxn) (stages : List SentStage) (open_in : IsOpenIn k t) (st : TxnStands k stages None t x) (split : IsSplit k) (later : List LaterPut) (o : HasOutbox k x later) (may : MayWait set.course.pipelines later) (anchor : List ℕ) (anchored : x.anchor ≡ Some anchor) where
+module _ (set : Setting) (k : Known) (t : Txn) (x : OpenTxn) (stages : List SentStage) (open_in : IsOpenIn k t) (st : TxnStands k stages None t x) (split : IsSplit k) (later : List LaterPut) (o : HasOutbox set.course.loses k x later) (may : MayWait set.course.pipelines later) (anchor : List ℕ) (anchored : x.anchor ≡ Some anchor) where
   at_anchor : t.anchor ≡ Some anchor
   at_anchor = sym (ap (λ x. x.anchor) st.same) ∙ anchored
 
@@ -234,7 +234,10 @@ module _ (set : Setting) (k : Known) (t : Txn) (x : OpenTxn) (stages : List Sent
       for_call : Contains (sent_for_call k) here.1
       for_call = contains_in_filter (λ m. not (is_heard (heard_before k) m)) k.sent here.1 (here.0, here.2, here.3) (ap not (unheard_at here.1 here.4.numbered (heard_before k) unheard_before))
 
-      may_hear : (b : Bool) → MayWait b later → Any (IsMessageAt put.number put.request) (messages_of b k)
+      is_a_put : is_put put.request ≡ true
+      is_a_put = ap is_put waits.said
+
+      may_hear : (b : Bool) → MayWait b later → Any (IsMessageAt put.number put.request) (messages_for b k)
       may_hear true may = (for_call.0, here.1, for_call.1, for_call.2, here.4)
       may_hear false may = let e : waiting_put w.seq [] ≡ Some put = subst (λ l. waiting_put w.seq l ≡ Some put) may found in absurd cc
 
@@ -274,6 +277,7 @@ module _ (set : Setting) (k : Known) (t : Txn) (x : OpenTxn) (stages : List Sent
         tried = last_unheard (reverse k.sent) (all_reversed (IsThePut t waits.w.seq put) k.sent waits.once) (any_reversed (λ m. IsSameRequest put.request m.request) k.sent (here.0, here.1, here.2, here.3, inl (sym here.4.asked)));
         came = λ out none. absurd cc;
         first = λ out none. absurd cc;
+        here = λ some. absurd (omega (arith, some));
       }
 
       -- where it waits, its put is waited for
@@ -282,7 +286,7 @@ module _ (set : Setting) (k : Known) (t : Txn) (x : OpenTxn) (stages : List Sent
         stands = record {
           as_far = (
             record {
-              out = record { said = waits.sent; numbered = waits.numbered; now = may_hear set.course.pipelines may };
+              out = record { said = waits.sent; numbered = waits.numbered; now = subst (λ own. Any (IsMessageAt put.number put.request) (messages_for (own && set.course.pipelines) k)) (sym is_a_put) (may_hear set.course.pipelines may) };
               rest = rest set.course.loses;
               unheard = waits.unheard;
             },

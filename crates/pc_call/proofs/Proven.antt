@@ -1,5 +1,5 @@
 -- All for which a call waited is proved, and it goes on by its own messages.
-use Rattle.std.proofs.Common.{◌≡◌, ℕ, ◌+◌, ◌<◌, ◌≤◌, Bool, true, false, ◌||◌, ◌⊎◌, inl, inr, List, [], ◌∷◌, length, map, Option, None, Some, Result, Ok, Err, IfOk, refl, sym, ap, ◌∙◌, subst, arith, All, Any, IsTrue, lit<}
+use Rattle.std.proofs.Common.{◌≡◌, ℕ, ◌+◌, ◌<◌, ◌≤◌, Bool, true, false, ◌||◌, ◌⊎◌, inl, inr, List, [], ◌∷◌, length, map, Option, None, Some, Result, Ok, Err, IfOk, refl, sym, ap, ◌∙◌, subst, arith, All, Any, IsTrue, lit<, ◌&&◌, not}
 use Rattle.std.proofs.lemmas.List.Elements.{All-cons, All-head, All-map, All-nil, All-weaker}
 use Rattle.pc_call.specs.Beaten.{HasBeatenIn}
 use Rattle.pc_call.specs.Beside.{IsPastOrNoQuery, is_query}
@@ -71,7 +71,7 @@ nothing_read (requests.Scan id epoch seq ts span) reply none = let e : true ≡ 
 nothing_read r reply none = refl
 
 module _ (session clock count : ℕ) (set : Setting) (k : Known) (x : OpenTxn) (p : Purpose) (ms : List Message) (counted : IsCounted session clock count k) (w : InCall set k x p ms) (call : Call) (all : Bool) (e : p ≡ purposes.Prove call all)
-    (due : step_of ms ≡ steps.Answered) (later : List LaterPut) (outbox : KeepsOutbox k x later ms) (rising : AreRising set.splits) where
+    (due : step_of ms ≡ steps.Answered) (later : List LaterPut) (outbox : KeepsOutbox set.course.loses k x later ms) (rising : AreRising set.splits) where
   abbrev r : ServesProve call all k w.s w.t x ms
   r = subst (λ q. Serves set k w.s w.t x w.stages q ms) e w.serves
 
@@ -149,7 +149,7 @@ module _ (session clock count : ℕ) (set : Setting) (k : Known) (x : OpenTxn) (
   read_new : (q : Request) → goes_beside q ≡ false → is_put q ≡ false → (is_get q ≡ true) ⊎ (is_scan q ≡ true) → IsNewFor set.course k q
   read_new q own none reads =
       let now : IsUnsentIn k.sent_now q = All-weaker (λ m. ReadsNothing m.request) (λ m. IsSameRequest q m.request → ⊥) (λ m nothing same. reads_other q m.request reads nothing same) k.sent_now r.unasked in
-      record { unsent = now; unheard = unsent_plain k w.split x later ms outbox.has set.course.pipelines q own none now; untold = none_told k q none }
+      record { unsent = now; unheard = unsent_plain (not set.course.loses && set.course.pipelines) k q none now; untold = none_told k q none }
 
   read_unmet : (q : Request) → (is_get q ≡ true) ⊎ (is_scan q ≡ true) → AtLeast (IsConflictOf q) 1 k.heard_now → ⊥
   read_unmet q reads one =

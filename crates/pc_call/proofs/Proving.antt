@@ -71,7 +71,7 @@ fills_all : (key : List ℕ) (value : Option (List ℕ)) (flight : List WriteInF
 fills_all key None flight many = le_true MOST_IN_FLIGHT (length flight) many
 fills_all key (Some value) flight many = le_true MOST_IN_FLIGHT (length flight) many
 
-module _ (set : Setting) (k : Known) (x : OpenTxn) (s : Statement) (why : Why) (f : IsFresh set.course.loses k x s why) (later : List LaterPut) (o : HasOutbox k x later) (may : MayWait set.course.pipelines later) (anchor : List ℕ) (anchored : x.anchor ≡ Some anchor) (call : Call) (all : Bool) where
+module _ (set : Setting) (k : Known) (x : OpenTxn) (s : Statement) (why : Why) (f : IsFresh set.course.loses k x s why) (later : List LaterPut) (o : HasOutbox set.course.loses k x later) (may : MayWait set.course.pipelines later) (anchor : List ℕ) (anchored : x.anchor ≡ Some anchor) (call : Call) (all : Bool) where
   -- its put goes out anew, where it does not wait
   goes_anew : (w : WriteInFlight) → waiting_put w.seq later ≡ None → GoesAgain set k (own_put x anchor w) 0
   goes_anew w none =

@@ -61,7 +61,7 @@ use Rattle.pc_txn.specs.Standing.{HasMovedOn, LeavesAsIs, TxnStands, is_plain, i
 use Rattle.pc_wave.proofs.Changed.{any_none, found_all}
 use Rattle.pc_wave.proofs.Lists.{any_before, at_least-before}
 use Rattle.pc_wave.proofs.Rounds.{IsInRound, due_round, first_pending}
-use Rattle.pc_wave.proofs.Standings.{IsOther, IsOtherSent, go_out-kept, stands-kept}
+use Rattle.pc_wave.proofs.Standings.{IsOther, IsOtherSent, go_out-kept, stands-kept, here-kept}
 use Rattle.pc_wave.proofs.Tries.{idle_tried, or_parts}
 use Rattle.pc_wave.specs.declared.message.Message.{Message}
 use Rattle.pc_wave.specs.declared.message.Progress.TheVariants as progresses
@@ -128,6 +128,7 @@ module _ (session clock count : ℕ) (set : Setting) (start k : Known) (x : Open
     tried = idle_tried set.course start k y t not (not_out y not);
     came = t.came;
     first = λ ready none. go_out-kept set.course start k g.sent_more g.heard_more g.more y.request (news y s) (others y s) (t.first ready none);
+    here = λ some. here-kept set.course start k g.sent_more g.heard_more g.more y.request (t.here some);
   }
 
   stays : (y : Message) → MessageStands set.course start y → is_pending y ≡ false → MessageStands set.course k y
@@ -235,6 +236,7 @@ module _ (session clock count : ℕ) (set : Setting) (start k : Known) (x : Open
   -- ---- the stage stands on
 
   before_same : sent_before k ≡ sent_before start
+  unfolding split_then
   before_same = before_is k split_then ∙ sym (before_is start w.split)
 
   again_then : (y : Message) → SendsAgain calls.Commit true start w.t x y → SendsAgain calls.Commit true k w.t x y
@@ -352,7 +354,7 @@ module _ (session clock count : ℕ) (set : Setting) (start k : Known) (x : Open
     key = met.key;
     next = record { conflict = head.0; later = head.1; ts = met.ts; waits = made.waiting ∙ head.2; met = told };
     whose = refl;
-    why = inr (made.push, (made.pushed, made.push_refused));
+    why = inr (made.push, made.pushed, made.push_refused);
   }
 
   refused_of : (c : Reply) (holder : TxnMeta) (ts : ℕ) (key : List ℕ) → c ≡ replies.Conflict holder ts key → RefusesPush c g.heard_more → Any (λ h. IsTrue (was_refused holder.id h)) g.heard_more

@@ -374,11 +374,11 @@ module _ (set : Setting) (k : Known) (x : OpenTxn) (n : ℕ) (ms : List Message)
       listed : IsTrue (lists_write own.w.key own.w.seq one.0.writes)
       listed = (evidence_of k.heard b.t b.stages x.staging.stages b.stands.staging.kept one.0 one.1).1.lists own.w.key own.w.seq (waiting k b.stages None b.t x b.stands own.w flies)
 
-      module _ (later : List LaterPut) (o : KeepsOutbox k x later ms) where
+      module _ (later : List LaterPut) (o : KeepsOutbox set.course.loses k x later ms) where
         goes_out : MessageStands set.course k (message_to_send request)
         goes_out =
             to_send_stands set.course k request own_way
-            (new_goes set.course k request (record { unsent = unsent; unheard = unsent_plain k b.split x later ms o.has set.course.pipelines request own_way no_put unsent; untold = none_told k request no_put })) (none_met request no_put 0)
+            (new_goes set.course k request (record { unsent = unsent; unheard = unsent_plain (not set.course.loses && set.course.pipelines) k request no_put unsent; untold = none_told k request no_put })) (none_met request no_put 0)
 
         -- the call asks for it
         pub query_begins : InCall set k x (purposes.Query n holder ms) (message_to_send request ∷ [])

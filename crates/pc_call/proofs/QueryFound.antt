@@ -70,7 +70,7 @@ use Rattle.pc_txn.specs.Opened.{meta_now, put_at, with_found}
 use Rattle.pc_txn.specs.Standing.{TxnStands, WasMissedAt}
 use Rattle.pc_wave.proofs.Changed.{found_all, found_passes}
 use Rattle.pc_wave.proofs.Lists.{any_before, at_least-before}
-use Rattle.pc_wave.proofs.Standings.{IsOther, IsOtherSent, go_out-kept, stands-kept}
+use Rattle.pc_wave.proofs.Standings.{IsOther, IsOtherSent, go_out-kept, stands-kept, here-kept}
 use Rattle.pc_wave.proofs.Tries.{row-heard}
 use Rattle.pc_wave.specs.Course.{Course}
 use Rattle.pc_wave.specs.declared.message.Message.{Message}
@@ -117,6 +117,7 @@ module _ (k : Known) (h : Heard) (number : ℕ) (asked : request_sent number k.s
     came = t.came;
     first = λ ready none.
         go_out-kept c k (known_heard h k) [] (h ∷ []) (record { sent = sym (append-nil k.sent); sent_now = sym (append-nil k.sent_now); heard = refl; heard_now = refl }) m.request (All-nil (IsOtherSent m.request)) (All-cons (IsOther m.request) h [] other (All-nil (IsOther m.request))) (t.first ready none);
+    here = λ some. here-kept c k (known_heard h k) [] (h ∷ []) (record { sent = sym (append-nil k.sent); sent_now = sym (append-nil k.sent_now); heard = refl; heard_now = refl }) m.request (t.here some);
   }
 
   -- a message of another request stands on

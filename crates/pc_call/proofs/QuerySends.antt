@@ -31,7 +31,7 @@ use Rattle.pc_txn.specs.declared.txn.OpenTxn.{OpenTxn}
 use Rattle.pc_txn.specs.Opened.{put_at}
 use Rattle.pc_txn.specs.Queries.{own_query}
 use Rattle.pc_txn.specs.Standing.{is_plain}
-use Rattle.pc_wave.proofs.Standings.{IsOther, IsOtherSent, go_out-kept, said_kept, stands-kept}
+use Rattle.pc_wave.proofs.Standings.{IsOther, IsOtherSent, go_out-kept, said_kept, stands-kept, here-kept}
 use Rattle.pc_wave.proofs.Tries.{row-other}
 use Rattle.pc_wave.specs.Course.{Course}
 use Rattle.pc_wave.specs.declared.message.Message.{Message}
@@ -62,6 +62,7 @@ tries_on true c k k2 new more m other t = record {
   tried = row-other k k2 m.request new more.sent keep (m.lost + sends_waited m.progress) other t.tried;
   came = t.came;
   first = λ ready none. go_out-kept c k k2 (new ∷ []) [] more m.request (All-cons (IsOtherSent m.request) new [] other (All-nil (IsOtherSent m.request))) (All-nil (IsOther m.request)) (t.first ready none);
+  here = λ some. here-kept c k k2 (new ∷ []) [] more m.request (t.here some);
 }
   where
     keep : (s : Sent) → IsUnheardOf k m.request s → IsUnheardOf k2 m.request s

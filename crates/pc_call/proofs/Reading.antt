@@ -16,7 +16,7 @@ use Rattle.pc_call.proofs.Beginning.{any_true}
 use Rattle.pc_call.proofs.Eighths.{any_eighth, no_eighth, none_eighth}
 use Rattle.pc_call.proofs.Lists.{all_unmapped}
 use Rattle.pc_call.proofs.Told.{may_tell, rows_keep, stays_open, value_keeps}
-use Rattle.pc_call.proofs.Unsent.{sent_here}
+use Rattle.pc_call.proofs.Unsent.{plain_sent}
 use Rattle.pc_call.specs.declared.later.LaterPut.{LaterPut}
 use Rattle.pc_call.specs.declared.purpose.Purpose.{Purpose}
 use Rattle.pc_call.specs.declared.purpose.Purpose.TheVariants as purposes
@@ -207,7 +207,7 @@ all_in ts spans (m ∷ ms) on at =
     (all_in ts spans ms (λ span there. on span (Contains-append_right (span_read m.request) (spans_read ms) span there)) (All-tail (ReadsAt ts) m.request (map (λ (m : Message). m.request) ms) at))
 
 module _ (session clock count : ℕ) (set : Setting) (k : Known) (x : OpenTxn) (p : Purpose) (ms : List Message) (counted : IsCounted session clock count k) (w : InCall set k x p ms)
-    (e : p ≡ purposes.Read) (due : step_of ms ≡ steps.Answered) (later : List LaterPut) (outbox : KeepsOutbox k x later ms) where
+    (e : p ≡ purposes.Read) (due : step_of ms ≡ steps.Answered) (later : List LaterPut) (outbox : KeepsOutbox set.course.loses k x later ms) where
   abbrev r : ServesRead set.splits k w.s x ms
   r = subst (λ q. Serves set k w.s w.t x w.stages q ms) e w.serves
 
@@ -219,7 +219,7 @@ module _ (session clock count : ℕ) (set : Setting) (k : Known) (x : OpenTxn) (
 
   -- each of its messages was sent in the call
   all_here : All (SentHere set.course k) ms
-  all_here = All-weaker (λ (m : Message). (is_put m.request ≡ false) × (goes_beside m.request ≡ false)) (SentHere set.course k) (λ m plain number out. sent_here k w.split x later ms outbox.has set.course.pipelines number m.request plain.1 plain.0 out.now) ms (all_unmapped (λ q. (is_put q ≡ false) × (goes_beside q ≡ false)) (λ (m : Message). m.request) ms (reads_plain set.splits x w.s.call (map (λ m. m.request) ms) r.asked))
+  all_here = All-weaker (λ (m : Message). (is_put m.request ≡ false) × (goes_beside m.request ≡ false)) (SentHere set.course k) (λ m plain number out. subst (λ ms. Any (IsMessageAt number m.request) ms) (plain_sent set.course.pipelines k m.request plain.0) out.now) ms (all_unmapped (λ q. (is_put q ≡ false) × (goes_beside q ≡ false)) (λ (m : Message). m.request) ms (reads_plain set.splits x w.s.call (map (λ m. m.request) ms) r.asked))
 
   -- without pipelining nothing is in flight
   free : SuitsFlightIn set.course.pipelines w.s.call x.in_flight → (answer : Answer) → ((fs : List WriteInFlight) → SuitsFlightNext answer w.s.call fs ≡ (fs ≡ [])) → (s : Statement) → k.statement ≡ Some s → SuitsFlightNextIn set.course.pipelines answer s.call x.in_flight
@@ -340,7 +340,7 @@ module _ (session clock count : ℕ) (set : Setting) (k : Known) (x : OpenTxn) (
     may = record {
       may = may_tell set session k w.s (answers.Value value) w.opened w.open_in.is_open within row;
       written = tt;
-      aborts = tt;
+      aborts = λ quiet. tt;
       rolled_back = tt;
       restarts = tt;
       eighth = any_eighth set.course.loses k (answers.Value value) (no_eighth k w.s (answers.Value value) w.opened other none_met);
@@ -357,7 +357,7 @@ module _ (session clock count : ℕ) (set : Setting) (k : Known) (x : OpenTxn) (
     may = record {
       may = may_tell set session k w.s (answers.Rows rows) w.opened w.open_in.is_open within row;
       written = tt;
-      aborts = tt;
+      aborts = λ quiet. tt;
       rolled_back = tt;
       restarts = tt;
       eighth = any_eighth set.course.loses k (answers.Rows rows) (no_eighth k w.s (answers.Rows rows) w.opened other none_met);

@@ -14,7 +14,6 @@ use Rattle.pc_call.proofs.Decided.{commit_known, commit_out, commit_said, commit
 use Rattle.pc_call.proofs.Eighths.{none_eighth}
 use Rattle.pc_call.proofs.Facts.{unmoved}
 use Rattle.pc_call.proofs.Hearing.{beaten_on, done_by, far, found, gone, paced2, same_request, split2, wave2}
-use Rattle.pc_call.proofs.Unsent.{sent_here}
 use Rattle.pc_call.specs.declared.later.LaterPut.{LaterPut}
 use Rattle.pc_call.specs.Stages.{IsUndecidedAt, KeepsOutbox}
 use Rattle.pc_call.proofs.Lists.{only_found}
@@ -74,7 +73,7 @@ refused-more low high m up h r = record { asked = r.asked; undecided = r.undecid
 
 module _ (session clock count : ℕ) (set : Setting) (k : Known) (x : OpenTxn) (p : Purpose) (ms : List Message) (counted : IsCounted session clock count k) (w : InCall set k x p ms)
     (number recorded : ℕ) (view : View) (h : Heard) (waited : wave_awaits number ms ≡ true) (is : IsHeardTo k number (replies.Status view) h) (undecided : IsUndecidedAt (replies.Status view) recorded) (n : ℕ) (e : p ≡ purposes.Commit n)
-    (later : List LaterPut) (outbox : KeepsOutbox k x later ms) where
+    (later : List LaterPut) (outbox : KeepsOutbox set.course.loses k x later ms) where
   abbrev k2 : Known
   k2 = known_heard h k
 
@@ -121,8 +120,8 @@ module _ (session clock count : ℕ) (set : Setting) (k : Known) (x : OpenTxn) (
   was_now =
       let f = far session clock count set k x p ms counted w number (replies.Status view) h waited is in
       let asked = sym (same_request session clock count set k x p ms counted w number (replies.Status view) h waited is) ∙ commit_said session clock count set k x p ms counted w number view h waited is n e in
-      let out : Any (IsMessageAt number (own_commit x c.commits.anchor)) (messages_of set.course.pipelines k) = subst (λ q. Any (IsMessageAt number q) (messages_of set.course.pipelines k)) asked f.0.out.now in
-      sent_in set.course k number (own_commit x c.commits.anchor) h (sent_here k w.split x later ms outbox.has set.course.pipelines number (own_commit x c.commits.anchor) refl refl out) is.numbered
+      let out : Any (IsMessageAt number (own_commit x c.commits.anchor)) k.sent_now = subst (λ q. Any (IsMessageAt number q) (messages_of set.course.pipelines k q)) asked f.0.out.now in
+      sent_in set.course k number (own_commit x c.commits.anchor) h out is.numbered
 
   -- the reply shows where the record stands
   pub shows : ShowsRecord k x.write_ts recorded h

@@ -1,5 +1,5 @@
 -- What goes out again has a reason: a put goes at the write timestamp, or just as it was; another request once the round of its conflict was made.
-use Rattle.std.proofs.Common.{◌≡◌, ℕ, Bool, true, false, ◌⊎◌, inl, inr, List, [], ◌∷◌, map, find, Option, Some, None, refl, sym, ap, ◌∙◌, subst, All, Any, IsTrue}
+use Rattle.std.proofs.Common.{◌≡◌, ℕ, Bool, true, false, ◌⊎◌, inl, inr, List, [], ◌∷◌, map, find, Option, Some, None, refl, sym, ap, ◌∙◌, subst, All, Any, IsTrue, ◌&&◌, not}
 use Rattle.std.specs.List.{list_any}
 use Rattle.std.proofs.lemmas.List.Elements.{All-append, All-cons, All-contains, All-head, All-nil, All-weaker}
 use Rattle.std.proofs.lemmas.List.Folds.{Any-from_list_any}
@@ -33,7 +33,7 @@ use Rattle.pc_txn.specs.declared.txn.OpenTxn.{OpenTxn}
 use Rattle.pc_wave.proofs.Changed.{any_none, found_all, found_passes}
 use Rattle.pc_wave.specs.declared.message.Message.{Message}
 use Rattle.pc_wave.specs.Messages.{is_to_send}
-use Rattle.pc_wave.specs.Standing.{AreAnsweredIn, CountsTries, IsAsFar, IsFreeToGo, IsReason, MayGoOut, MessageStands, WasPutPassedOver, WentOutBefore, goes_beside, messages_of}
+use Rattle.pc_wave.specs.Standing.{AreAnsweredIn, CountsTries, IsAsFar, IsFreeToGo, IsReason, MayGoOut, MessageStands, WasPutPassedOver, WentOutBefore, goes_beside, messages_for}
 use Rattle.pc_world.specs.Known.{Known, open_txn}
 use Rattle.pc_world.specs.Known.Traffic.{Heard}
 use Rattle.pc_world.specs.Known.Transactions.{Txn}
@@ -156,7 +156,7 @@ module _ (set : Setting) (k : Known) (x : OpenTxn) (p : Purpose) (ms : List Mess
     answered = subst (λ b. AreAnsweredIn b k m.request) quiet goes.answered
 
     -- what went out before has a reason
-    reason : is_heartbeat m.request ≡ false → WentOutBefore set.course.pipelines k m.request → WentThroughRound k m.request ⊎ WasPutPassedOver k m.request
+    reason : is_heartbeat m.request ≡ false → WentOutBefore set.course k m.request → WentThroughRound k m.request ⊎ WasPutPassedOver k m.request
     reason silent before = by set.course.pipelines (subst (λ l. IsReason set.course.pipelines l k m.request) quiet (goes.again silent before))
       where
         by : (b : Bool) → IsReason b false k m.request → WentThroughRound k m.request ⊎ WasPutPassedOver k m.request
@@ -164,7 +164,7 @@ module _ (set : Setting) (k : Known) (x : OpenTxn) (p : Purpose) (ms : List Mess
         by true why = why
 
     -- what was sent in the call may be heard in it
-    sent_for : (b : Bool) → Any (λ s. IsSameRequest m.request s.request) k.sent_now → Any (λ s. IsSameRequest m.request s.request) (messages_of b k)
+    sent_for : (b : Bool) → Any (λ s. IsSameRequest m.request s.request) k.sent_now → Any (λ s. IsSameRequest m.request s.request) (messages_for b k)
     sent_for false some = some
     sent_for true (i, s, inside, at, same) =
         elim (All-contains (λ m. IsTrue (goes_beside m.request) ⊎ (is_heard w.split.heard_first m ≡ false)) k.sent_now s w.split.unheard (i, inside, at)) as (λ e. Any (λ s. IsSameRequest m.request s.request) (sent_for_call k)) [
@@ -178,7 +178,7 @@ module _ (set : Setting) (k : Known) (x : OpenTxn) (p : Purpose) (ms : List Mess
 
     -- what is no put went through the round of its conflict
     went : is_put m.request ≡ false → is_heartbeat m.request ≡ false → Any (λ s. IsSameRequest m.request s.request) k.sent_now → WentThroughRound k m.request
-    went none silent some = only_round none (reason silent (inl (sent_for set.course.pipelines some)))
+    went none silent some = only_round none (reason silent (inl (sent_for (is_put m.request && (not set.course.loses && set.course.pipelines)) some)))
 
     plain_resent : (r : Request) → m.request ≡ r → is_put r ≡ false → is_heartbeat r ≡ false → round_of r ≡ None → GoesAgainAnswered k r
     plain_resent r is none silent alone = λ some.
@@ -229,8 +229,8 @@ module _ (set : Setting) (k : Known) (x : OpenTxn) (p : Purpose) (ms : List Mess
         by : (r : Request) → m.request ≡ r → IsResentFor k r
         by (requests.Put meta seq ts key value) is = λ some. put_resent meta seq ts key value is
         by (requests.Beat meta ts now) is = tt
-        by (requests.Query id epoch seq ts key by) is = λ some. absurd (never_asked (ap is_query is) (ap is_put is) (ap is_heartbeat is) (subst (λ q. Any (λ s. IsSameRequest q s.request) k.sent_now) (sym is) some))
-        by (requests.Push holder by level now goal) is = beside (requests.Push holder by level now goal) is refl
+        by (requests.Query id epoch seq ts key asker) is = λ some. absurd (never_asked (ap is_query is) (ap is_put is) (ap is_heartbeat is) (subst (λ q. Any (λ s. IsSameRequest q s.request) k.sent_now) (sym is) some))
+        by (requests.Push holder pusher level now goal) is = beside (requests.Push holder pusher level now goal) is refl
         by (requests.Recover id epoch ts anchor finding) is = beside (requests.Recover id epoch ts anchor finding) is refl
         by (requests.Resolve id key fate) is = beside (requests.Resolve id key fate) is refl
         by r is = plain_resent r is refl refl refl

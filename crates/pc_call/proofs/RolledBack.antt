@@ -122,7 +122,7 @@ module _ (session clock count : ℕ) (set : Setting) (k : Known) (x : OpenTxn) (
               cause = told;
             });
             written = tt;
-            aborts = aborts_first;
+            aborts = λ quiet. aborts_first;
             rolled_back = tt;
             restarts = tt;
             eighth = any_eighth set.course.loses k2 answer (no_eighth k2 w.s answer w.opened (λ commit. let f : calls.Rollback ≡ calls.Commit = sym a.call ∙ commit in cc) unmet);

@@ -1,5 +1,5 @@
 -- A commit stages: its writes in flight go out again, or are on their way, and behind them its stage.
-use Rattle.std.proofs.Common.{◌≡◌, ◌≢◌, ℕ, zero, suc, ◌+◌, ◌<◌, nat_lt, Bool, true, false, ◌&&◌, ◌||◌, ◌==◌, ◌⊎◌, inl, inr, List, [], ◌∷◌, ◌++◌, map, None, Some, refl, sym, ap, ◌∙◌, subst, arith, All, Any, Contains, IsTrue}
+use Rattle.std.proofs.Common.{◌≡◌, ◌≢◌, ℕ, zero, suc, ◌+◌, ◌<◌, nat_lt, Bool, true, false, ◌&&◌, ◌||◌, ◌==◌, ◌⊎◌, inl, inr, List, [], ◌∷◌, ◌++◌, map, None, Some, refl, sym, ap, ◌∙◌, subst, arith, All, Any, Contains, IsTrue, not}
 use Rattle.std.specs.List.{list_any}
 use Rattle.std.proofs.lemmas.Bool.{and_parts, eqb-true, lt-ltb, ltb-false, ltb-true}
 use Rattle.std.proofs.lemmas.List.Elements.{All-cons, All-contains, All-head, All-map, All-nil, All-push, All-tail, All-weaker}
@@ -82,7 +82,7 @@ from_or : (b : Bool) → (b || false) ≡ true → b ≡ true
 from_or true e = refl
 from_or false e = e
 
-module _ (set : Setting) (n : ℕ) (k : Known) (x : OpenTxn) (s : Statement) (puts : List Message) (d : DecidesNow set.course.loses n k x s puts) (some : x.in_flight ≢ []) (later : List LaterPut) (o : HasOutbox k x later) (may : MayWait set.course.pipelines later) (anchor : List ℕ)
+module _ (set : Setting) (n : ℕ) (k : Known) (x : OpenTxn) (s : Statement) (puts : List Message) (d : DecidesNow set.course.loses n k x s puts) (some : x.in_flight ≢ []) (later : List LaterPut) (o : HasOutbox set.course.loses k x later) (may : MayWait set.course.pipelines later) (anchor : List ℕ)
     (anchored : x.anchor ≡ Some anchor) (suits : SuitsFlightIn set.course.pipelines calls.Commit x.in_flight) where
   abbrev t : Txn
   t = d.t
@@ -157,7 +157,7 @@ module _ (set : Setting) (n : ℕ) (k : Known) (x : OpenTxn) (s : Statement) (pu
 
     -- none of it was sent or heard in the call, or a stage that was refused passed over it, or left it behind
     module _ (none : waiting_put w.seq later ≡ None) where
-      reason : (l : Bool) → set.course.loses ≡ l → WentOutBefore set.course.pipelines k put → IsReason true l k put
+      reason : (l : Bool) → set.course.loses ≡ l → WentOutBefore set.course k put → IsReason true l k put
       reason l at sent_some = by (list_any (λ m. is_put_of t.id t.epoch w.seq m.request) k.sent_now) refl (list_any (λ h. is_put_of t.id t.epoch w.seq h.request) k.heard_now) refl
         where
           own_put_of : IsTrue (is_put_of t.id t.epoch w.seq put)
@@ -178,8 +178,8 @@ module _ (set : Setting) (n : ℕ) (k : Known) (x : OpenTxn) (s : Statement) (pu
               let new = put_new set k t x c.stages c.open_in st c.split later o may anchor anchored w none unheard unsent in
               absurd (never new sent_some)
             where
-              never : IsNewFor set.course k put → WentOutBefore set.course.pipelines k put → ⊥
-              never new (inl sent) = let f = any_of (λ m. IsSameRequest put m.request → ⊥) (λ m. IsSameRequest put m.request) (messages_of set.course.pipelines k) new.unheard sent in f.1 f.2
+              never : IsNewFor set.course k put → WentOutBefore set.course k put → ⊥
+              never new (inl sent) = let f = any_of (λ m. IsSameRequest put m.request → ⊥) (λ m. IsSameRequest put m.request) (messages_of (not set.course.loses && set.course.pipelines) k put) new.unheard sent in f.1 f.2
               never new (inr some) = let f = any_of (λ h. IsSameRequest put h.request → ⊥) (λ h. IsSameRequest put h.request) k.heard_now (new.untold some.0) some.1 in f.1 f.2
 
       goes_again : GoesAgain set k put many
@@ -294,7 +294,7 @@ module _ (set : Setting) (n : ℕ) (k : Known) (x : OpenTxn) (s : Statement) (pu
   stage_stands : MessageStands set.course k (message_to_send staged)
   stage_stands =
       to_send_stands set.course k staged refl
-      (new_goes set.course k staged (record { unsent = stage_unsent; unheard = unsent_plain k c.split x later [] o set.course.pipelines staged refl refl stage_unsent; untold = none_told k staged refl })) no_intent
+      (new_goes set.course k staged (record { unsent = stage_unsent; unheard = unsent_plain (not set.course.loses && set.course.pipelines) k staged refl stage_unsent; untold = none_told k staged refl })) no_intent
 
   -- ---- all of them
 

@@ -17,7 +17,7 @@ use Rattle.pc_call.specs.Ended.{landed_awaited}
 use Rattle.pc_call.specs.Learned.{known_heard}
 use Rattle.pc_call.specs.Met.{AreMetBy, HasMetConflict}
 use Rattle.pc_call.specs.Missing.{IsAboveMisses}
-use Rattle.pc_call.specs.Serving.{GoesOutBefore, InCall, IsCommitBelow, IsOpenFor, PutsEarlier, IsRefreshUpTo, IsRefusedBy, KeepsStages, MeetsByPut, MetNoWrite, SendsAgain, Serves, ServesStage, StageIsOut, StageStands, WaitsMeanwhile, WasRefusedIfCommit, out_of}
+use Rattle.pc_call.specs.Serving.{GoesOutBefore, InCall, IsCommitBelow, IsOpenFor, PutsEarlier, IsRefreshUpTo, IsRefusedBy, KeepsStages, MeetsByPut, MetNoWrite, SendsAgain, Serves, ServesStage, StageIsOut, StageStands, WaitsMeanwhile, WasRefusedIfCommit, out_of, IsOutOrLost}
 use Rattle.pc_call.specs.Setting.{Setting}
 use Rattle.pc_flight.specs.declared.write.WriteInFlight.{WriteInFlight}
 use Rattle.pc_flight.specs.InFlight.{is_another}
@@ -229,9 +229,22 @@ module _ (session clock count : ℕ) (set : Setting) (k : Known) (x : OpenTxn) (
       made_then k w.t h w.open_in
       ∙ ap (λ q. rounds_by (Some w.t) h q h.reply (with_conflict h (rounds_made k))) said
 
+  -- its stage is not to be sent, where all went out
+  stage_gone : (stage : List Message) → StageStands k w.s w.t x w.stages r.commits.anchor stage → All IsOutOrLost stage → All (λ m. is_to_send m ≡ false) stage
+  stage_gone [] left gone = All-nil (λ m. is_to_send m ≡ false)
+  stage_gone (m ∷ []) stands gone = All-cons (λ m. is_to_send m ≡ false) m [] (by (is_to_send m) refl) (All-nil (λ m. is_to_send m ≡ false))
+    where
+      stages : is_stage m.request ≡ true
+      stages = elim stands [ inl next ↦ ap is_stage next.said | inr out ↦ ap is_stage out.said ]
+
+      by : (b : Bool) → is_to_send m ≡ b → is_to_send m ≡ false
+      by false e = e
+      by true e = let f : false ≡ true = sym (All-head IsOutOrLost m [] gone e).1 ∙ stages in absurd cc
+  stage_gone (m ∷ other ∷ rest) both gone = absurd both
+
   -- ---- it met an intent
 
-  module _ (conflict : is_conflict reply ≡ true) (sent : All (λ m. is_to_send m ≡ false) ms) where
+  module _ (conflict : is_conflict reply ≡ true) (sent : All IsOutOrLost ms) where
     heard_conflict : is_conflict h.reply ≡ true
     heard_conflict = ap is_conflict is.told ∙ conflict
 
@@ -297,7 +310,7 @@ module _ (session clock count : ℕ) (set : Setting) (k : Known) (x : OpenTxn) (
             (λ f some. any_goes_on (awaits_at number) (back_with number reply) (IsOpenFor f) (λ y at goes. met_open session clock count set k x p ms counted w number reply h waited is calls.Commit true own w.stages None st conflict f y goes) r.wave.puts some)
             x.in_flight r.wave.each;
         stands = stage_then r.wave.stage r.wave.stands;
-        unmet = first_vacuous puts2 r.wave.stage (all_behind (λ m. is_to_send m ≡ false) r.wave.puts r.wave.stage (subst (λ ms. All (λ m. is_to_send m ≡ false) ms) r.wave.whole sent));
+        unmet = first_vacuous puts2 r.wave.stage (stage_gone r.wave.stage r.wave.stands (all_behind IsOutOrLost r.wave.puts r.wave.stage (subst (λ ms. All IsOutOrLost ms) r.wave.whole sent)));
         last = last2 (ap is_to_send back_is) (λ at waits. let f : false ≡ true = sym (ap (awaits_at at) back_is) ∙ waits in absurd cc);
       };
       piped = r.piped;
@@ -313,7 +326,7 @@ module _ (session clock count : ℕ) (set : Setting) (k : Known) (x : OpenTxn) (
 
   -- ---- it was written
 
-  module _ (at : ℕ) (written : reply ≡ replies.Written at) (above : IsAboveMisses k.heard h.request h.reply) (all_sent : All (λ m. is_to_send m ≡ false) ms) where
+  module _ (at : ℕ) (written : reply ≡ replies.Written at) (above : IsAboveMisses k.heard h.request h.reply) (all_sent : All IsOutOrLost ms) where
     abbrev x2 : OpenTxn
     x2 = landed_at own.w.key own.w.seq at h.step x
 
@@ -326,11 +339,11 @@ module _ (session clock count : ℕ) (set : Setting) (k : Known) (x : OpenTxn) (
     back_so : (m : Message) → back_with number reply m ≡ back_with_by false number reply m
     back_so m = ap (λ b. back_with_by b number reply m) (ap is_conflict written)
 
-    puts_sent : All (λ m. is_to_send m ≡ false) r.wave.puts
-    puts_sent = all_front (λ m. is_to_send m ≡ false) r.wave.puts r.wave.stage (subst (λ ms. All (λ m. is_to_send m ≡ false) ms) r.wave.whole all_sent)
+    puts_sent : All IsOutOrLost r.wave.puts
+    puts_sent = all_front IsOutOrLost r.wave.puts r.wave.stage (subst (λ ms. All IsOutOrLost ms) r.wave.whole all_sent)
 
     stage_sent : All (λ m. is_to_send m ≡ false) r.wave.stage
-    stage_sent = all_behind (λ m. is_to_send m ≡ false) r.wave.puts r.wave.stage (subst (λ ms. All (λ m. is_to_send m ≡ false) ms) r.wave.whole all_sent)
+    stage_sent = stage_gone r.wave.stage r.wave.stands (all_behind IsOutOrLost r.wave.puts r.wave.stage (subst (λ ms. All IsOutOrLost ms) r.wave.whole all_sent))
 
     stage_on : (stage : List Message) → All (λ m. is_to_send m ≡ false) stage → StageStands k w.s w.t x w.stages r.commits.anchor stage → StageStands k2 w.s t2 x2 w.stages r.commits.anchor stage
     stage_on [] sent left = record { one = left.one; kept = left.kept; here = left.here; late = All-weaker (IsLate k.heard) (IsLate k2.heard) (λ s late. late_more k.heard (h ∷ []) s late) w.stages left.late; refreshes = left.refreshes }

@@ -12,7 +12,7 @@ use Rattle.pc_call.specs.Learned.{known_heard, known_sent}
 use Rattle.pc_call.specs.Missing.{IsAboveMisses}
 use Rattle.pc_call.specs.Opening.{after_send}
 use Rattle.pc_call.specs.Rounding.{MakesRound}
-use Rattle.pc_call.specs.Serving.{InCall}
+use Rattle.pc_call.specs.Serving.{InCall, IsOutOrLost}
 use Rattle.pc_call.specs.Setting.{Setting}
 use Rattle.pc_proto.specs.declared.reply.Reply.{Reply}
 use Rattle.pc_proto.specs.declared.reply.Reply.TheVariants as replies
@@ -38,10 +38,10 @@ module _ (session clock count : ℕ) (set : Setting) (k : Known) (x : OpenTxn) (
     query_sends n holder puts e = QuerySends.query_sends session clock count set k x p ms counted w request due number next range n holder puts e
 
   module _ (number : ℕ) (reply : Reply) (h : Heard) (waited : wave_awaits number ms ≡ true) (is : IsHeardTo k number reply h) where
-    pub stage_hears : (n : ℕ) → p ≡ purposes.Stage n → is_conflict reply ≡ true → All (λ m. is_to_send m ≡ false) ms → InCall set (known_heard h k) x p (first_changed (awaits_at number) (back_with number reply) ms)
+    pub stage_hears : (n : ℕ) → p ≡ purposes.Stage n → is_conflict reply ≡ true → All IsOutOrLost ms → InCall set (known_heard h k) x p (first_changed (awaits_at number) (back_with number reply) ms)
     stage_hears n e conflict sent = conflict_on session clock count set k x p ms counted w number reply h waited is n e (λ r stage may. conflict_no_stage r reply stage conflict may) conflict sent
 
-    pub stage_proved : (n : ℕ) (at : ℕ) → p ≡ purposes.Stage n → reply ≡ replies.Written at → IsAboveMisses k.heard h.request h.reply → All (λ m. is_to_send m ≡ false) ms
+    pub stage_proved : (n : ℕ) (at : ℕ) → p ≡ purposes.Stage n → reply ≡ replies.Written at → IsAboveMisses k.heard h.request h.reply → All IsOutOrLost ms
         → InCall set (known_heard h k) (landed_awaited number ms at h.step x) p (first_changed (awaits_at number) (back_with number reply) ms)
     stage_proved n at e written above whole =
         written_on session clock count set k x p ms counted w number reply h waited is n e (λ r stage may. written_no_stage r at stage (subst (MayAnswer r) written may)) at written above whole

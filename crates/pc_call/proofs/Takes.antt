@@ -182,7 +182,8 @@ asked_by (Some m) x r is = put_asked m.request x r is
 pub asked_query : (ms : List Message) (x : OpenTxn) (r : Request) → Some r ≡ query_of_blocked ms x → (key : List ℕ) × (seq : ℕ) × (r ≡ own_query x key seq)
 asked_query ms x r is = asked_by (find is_in_conflict ms) x r is
 
-refusals_asked : Purpose → Option ℕ
+-- The refusals of a commit that asks for a write.
+abbrev refusals_asked : Purpose → Option ℕ
 refusals_asked (purposes.Query n holder puts) = Some n
 refusals_asked p = None
 

@@ -14,7 +14,7 @@ use Rattle.pc_call.specs.declared.purpose.Purpose.{Purpose}
 use Rattle.pc_call.specs.declared.purpose.Purpose.TheVariants as purposes
 use Rattle.pc_call.specs.Learned.{known_heard}
 use Rattle.pc_call.specs.Met.{AreMetBy}
-use Rattle.pc_call.specs.Serving.{GoesOutBefore, InCall, IsCommitBelow, IsRefusedBy, KeepsStages, MeetsByPut, MetNoWrite, SendsAgain, Serves, ServesStage, StageIsOut, StageStands, WasRefusedIfCommit, out_of, GoesJustSo}
+use Rattle.pc_call.specs.Serving.{GoesOutBefore, InCall, IsCommitBelow, IsRefusedBy, KeepsStages, MeetsByPut, MetNoWrite, SendsAgain, Serves, ServesStage, StageIsOut, StageStands, WasRefusedIfCommit, out_of, GoesJustSo, is_unsent}
 use Rattle.pc_call.specs.Setting.{Setting}
 use Rattle.pc_call.specs.Stages.{IsUndecidedAt}
 use Rattle.pc_follows.specs.OwnStages.{refuses_stage}
@@ -239,7 +239,7 @@ module _ (session clock count : ℕ) (set : Setting) (k : Known) (x : OpenTxn) (
         and_no true = refl
         and_no false = refl
 
-    goes_on_at : (m : Message) (a : SendsAgain calls.Commit true k w.t x m) → ((is_to_send m ≡ true) × (a.ts ≡ w.t.write_ts)) ⊎ (WasAskedAt w.t a.w.seq a.ts × GoesJustSo k2 m)
+    goes_on_at : (m : Message) (a : SendsAgain calls.Commit true k w.t x m) → ((is_unsent m ≡ true) × (a.ts ≡ w.t.write_ts)) ⊎ (WasAskedAt w.t a.w.seq a.ts × GoesJustSo k2 m)
     goes_on_at m a = elim a.goes_at [ inl now ↦ inl now | inr was ↦ inr (was.0, just_so_plain k k2 h refl m (ap is_put a.said) (ap is_put asked) was.1) ]
 
     again2 : (m : Message) → SendsAgain calls.Commit true k w.t x m → SendsAgain calls.Commit true k2 w.t x2 m

@@ -1,5 +1,5 @@
 -- What a call asks for anew beside what was sent before it: the puts that were left are the only messages of earlier calls that it may hear.
-use Rattle.std.proofs.Common.{◌≡◌, ℕ, Bool, true, false, not, ◌⊎◌, inl, inr, List, [], ◌∷◌, Option, None, refl, sym, ap, ◌∙◌, subst, arith, All, Any, IsTrue}
+use Rattle.std.proofs.Common.{◌≡◌, ℕ, Bool, true, false, not, ◌&&◌, ◌⊎◌, inl, inr, List, [], ◌∷◌, Option, None, refl, sym, ap, ◌∙◌, subst, arith, All, Any, IsTrue}
 use Rattle.std.proofs.lemmas.Bool.{and_parts}
 use Rattle.std.proofs.lemmas.List.Elements.{All-append, All-cons, All-contains, All-nil, All-weaker}
 use Rattle.pc_base.specs.Transaction.{same_txn}
@@ -20,7 +20,7 @@ use Rattle.pc_txn.proofs.Puts.{same_put}
 use Rattle.pc_txn.specs.declared.txn.OpenTxn.{OpenTxn}
 use Rattle.pc_wave.proofs.Changed.{found_none}
 use Rattle.pc_wave.specs.declared.message.Message.{Message}
-use Rattle.pc_wave.specs.Standing.{IsMessageAt, goes_beside, messages_of}
+use Rattle.pc_wave.specs.Standing.{goes_beside, messages_for, messages_of}
 use Rattle.pc_world.specs.Known.{Known}
 use Rattle.pc_world.specs.Known.Traffic.{Sent}
 use Rattle.pc_world.specs.Known.Transactions.{Txn}
@@ -44,6 +44,22 @@ same_put_only r q none put (inl e) = let f : false ≡ true = sym none ∙ ap is
 same_put_only (requests.Put meta seq ts key value) q none put (inr same) = absurd cc
 same_put_only r q none put (inr same) = same
 
+-- The call may hear of what is no put only what it sent itself.
+pub plain_sent : (b : Bool) (k : Known) (r : Request) → is_put r ≡ false → messages_of b k r ≡ k.sent_now
+plain_sent b k r none = ap (λ put. messages_for (put && b) k) none
+
+-- So it is of each request where writes are not pipelined.
+pub unpiped_sent : (b : Bool) (k : Known) (r : Request) → b ≡ false → messages_of b k r ≡ k.sent_now
+unpiped_sent b k r none = ap (λ p. messages_of p k r) none ∙ by (is_put r)
+  where
+    by : (put : Bool) → messages_for (put && false) k ≡ k.sent_now
+    by true = refl
+    by false = refl
+
+-- So what is no put needs no reason to go out, where it was not sent in the call.
+pub unsent_plain : (b : Bool) (k : Known) (r : Request) → is_put r ≡ false → All (λ m. IsSameRequest r m.request → ⊥) k.sent_now → All (λ m. IsSameRequest r m.request → ⊥) (messages_of b k r)
+unsent_plain b k r none now = subst (λ ms. All (λ m. IsSameRequest r m.request → ⊥) ms) (sym (plain_sent b k r none)) now
+
 module _ (k : Known) (split : IsSplit k) where
   -- what holds of all that was sent in the call, and of all that was sent before and not heard then, holds of all that may be heard in it
   pub all_for_call : (P : Sent → Type 0) → All P k.sent_now → All (λ m. is_heard (heard_before k) m ≡ false → P m) (sent_before k) → All P (sent_for_call k)
@@ -55,46 +71,29 @@ module _ (k : Known) (split : IsSplit k) where
       let c = contains_filter (λ m. not (is_heard (heard_before k) m)) k.sent m there in
       All-contains Q k.sent m all c.0 (from_not (is_heard (heard_before k) m) c.1))
 
-  pub all_messages : (b : Bool) (P : Sent → Type 0) → All P k.sent_now → All (λ m. is_heard (heard_before k) m ≡ false → P m) (sent_before k) → All P (messages_of b k)
+  pub all_messages : (b : Bool) (P : Sent → Type 0) → All P k.sent_now → All (λ m. is_heard (heard_before k) m ≡ false → P m) (sent_before k) → All P (messages_for b k)
   all_messages true P now before = all_for_call P now before
   all_messages false P now before = now
 
-  module _ (x : OpenTxn) (later : List LaterPut) (messages : List Message) (o : WaitsBeside (sent_before k) (heard_before k) k.heard_now k x later messages) where
-    unsent_by : (b : Bool) (r : Request) → goes_beside r ≡ false → ((m : Sent) → is_put m.request ≡ true → ((seq : ℕ) → IsTrue (is_put_of o.t.id o.t.epoch seq m.request) → Any (IsSentAs m) later ⊎ Any (IsOnWayAs m) messages ⊎ Any (IsReplyToMessage m) k.heard_now) → IsSameRequest r m.request → ⊥)
-        → All (λ m. IsSameRequest r m.request → ⊥) k.sent_now → All (λ m. IsSameRequest r m.request → ⊥) (messages_of b k)
-    unsent_by b r own no_put now =
-        all_messages b (λ m. IsSameRequest r m.request → ⊥) now
-        (All-weaker (IsHeardOrLeft (heard_before k) k.heard_now o.t later messages) (λ m. is_heard (heard_before k) m ≡ false → IsSameRequest r m.request → ⊥) by (sent_before k) o.left)
+  module _ {loses : Bool} (x : OpenTxn) (later : List LaterPut) (messages : List Message) (o : WaitsBeside loses (sent_before k) (heard_before k) k.heard_now k x later messages) where
+    -- where nothing is lost, what is none of the puts that were left was not sent for the call, where it was not sent in it
+    unsent_by : loses ≡ false → (r : Request) → goes_beside r ≡ false → ((m : Sent) → is_put m.request ≡ true → ((seq : ℕ) → IsTrue (is_put_of o.t.id o.t.epoch seq m.request) → Any (IsSentAs m) later ⊎ Any (IsOnWayAs m) messages ⊎ Any (IsReplyToMessage m) k.heard_now) → IsSameRequest r m.request → ⊥)
+        → All (λ m. IsSameRequest r m.request → ⊥) k.sent_now → All (λ m. IsSameRequest r m.request → ⊥) (sent_for_call k)
+    unsent_by quiet r own no_put now =
+        all_for_call (λ m. IsSameRequest r m.request → ⊥) now
+        (All-weaker (IsHeardOrLeft (heard_before k) k.heard_now o.t later messages) (λ m. is_heard (heard_before k) m ≡ false → IsSameRequest r m.request → ⊥) by (sent_before k) (o.left quiet))
       where
         by : (m : Sent) → IsHeardOrLeft (heard_before k) k.heard_now o.t later messages m → is_heard (heard_before k) m ≡ false → IsSameRequest r m.request → ⊥
         by m (inl heard) unheard same = let e : false ≡ true = sym unheard ∙ heard in cc
         by m (inr (inl beside)) unheard same = same_beside r m.request own beside same
         by m (inr (inr left)) unheard same = no_put m left.put left.waits same
 
-    -- a request that is no put was not sent for the call, where it was not sent in it
-    pub unsent_plain : (b : Bool) (r : Request) → goes_beside r ≡ false → is_put r ≡ false → All (λ m. IsSameRequest r m.request → ⊥) k.sent_now → All (λ m. IsSameRequest r m.request → ⊥) (messages_of b k)
-    unsent_plain b r own none now = unsent_by b r own (λ m put waits same. same_put_only r m.request none put same) now
-
-    -- a message that may be heard in the call, and is no put, was sent in it
-    pub sent_here : (b : Bool) (number : ℕ) (r : Request) → goes_beside r ≡ false → is_put r ≡ false → Any (IsMessageAt number r) (messages_of b k) → Any (IsMessageAt number r) k.sent_now
-    sent_here b number r own none some =
-        let P : Sent → Type 0 = λ m. IsMessageAt number r m → Any (IsMessageAt number r) k.sent_now in
-        let all : All P (messages_of b k) =
-        all_messages b P (all_from_contains P k.sent_now (λ m there at. (there.0, m, there.1, there.2, at)))
-        (All-weaker (IsHeardOrLeft (heard_before k) k.heard_now o.t later messages) (λ m. is_heard (heard_before k) m ≡ false → P m) by (sent_before k) o.left) in
-        let f = any_of P (IsMessageAt number r) (messages_of b k) all some in
-        f.1 f.2
-      where
-        by : (m : Sent) → IsHeardOrLeft (heard_before k) k.heard_now o.t later messages m → is_heard (heard_before k) m ≡ false → IsMessageAt number r m → Any (IsMessageAt number r) k.sent_now
-        by m (inl heard) unheard at = let e : false ≡ true = sym unheard ∙ heard in absurd cc
-        by m (inr (inl beside)) unheard at = let e : false ≡ true = sym own ∙ ap goes_beside (sym at.asked) ∙ beside in absurd cc
-        by m (inr (inr left)) unheard at = let e : false ≡ true = sym none ∙ ap is_put (sym at.asked) ∙ left.put in absurd cc
-
-    -- nor was the put of a write that does not wait in the outbox, where none was replied to in the call
+    -- the put of a write that does not wait in the outbox needs no reason to go out, where none was sent or replied to in the call
     pub unsent_put : (b : Bool) (meta : TxnMeta) (seq ts : ℕ) (key : List ℕ) (value : Option (List ℕ)) → meta.id ≡ o.t.id → meta.epoch ≡ o.t.epoch → waiting_put seq later ≡ None → messages ≡ []
         → All (λ h. is_put_of o.t.id o.t.epoch seq h.request ≡ false) k.heard_now
-        → All (λ m. IsSameRequest (requests.Put meta seq ts key value) m.request → ⊥) k.sent_now → All (λ m. IsSameRequest (requests.Put meta seq ts key value) m.request → ⊥) (messages_of b k)
-    unsent_put b meta seq ts key value id epoch none alone unheard now = unsent_by b (requests.Put meta seq ts key value) refl others now
+        → All (λ m. IsSameRequest (requests.Put meta seq ts key value) m.request → ⊥) k.sent_now
+        → All (λ m. IsSameRequest (requests.Put meta seq ts key value) m.request → ⊥) (messages_of (not loses && b) k (requests.Put meta seq ts key value))
+    unsent_put b meta seq ts key value id epoch none alone unheard now = either loses refl b
       where
         puts : (m : Sent) → IsSameRequest (requests.Put meta seq ts key value) m.request → is_put_of o.t.id o.t.epoch seq m.request ≡ true
         puts m same = sym (ap (λ i. is_put_of i meta.epoch seq m.request) id ∙ ap (λ e. is_put_of o.t.id e seq m.request) epoch) ∙ same_put meta seq ts key value m.request same
@@ -116,6 +115,11 @@ module _ (k : Known) (split : IsSplit k) where
                 let f = any_of (λ h. is_put_of o.t.id o.t.epoch seq h.request ≡ false) (IsReplyToMessage m) k.heard_now unheard some in
                 let e : false ≡ true = sym f.1 ∙ ap (is_put_of o.t.id o.t.epoch seq) f.2.asked ∙ puts m same in
                 cc
+
+        either : (l : Bool) → loses ≡ l → (b : Bool) → All (λ m. IsSameRequest (requests.Put meta seq ts key value) m.request → ⊥) (messages_for (not l && b) k)
+        either true is b = now
+        either false is false = now
+        either false is true = unsent_by is (requests.Put meta seq ts key value) refl others now
 
 -- each put that waits does so by itself
 pub each_waits : (k : Known) (t : Txn) (x : OpenTxn) (later : List LaterPut) → OutboxStands k t x later → All (WaitsInOutbox k t x) later

@@ -66,7 +66,7 @@ module _ (set : Setting) (session : ℕ) (k : Known) (x : OpenTxn) (s : Statemen
             why = inl (record { no_put = unwritten; at_begin = begin; good = subst (IsGood k.heard f.t) (sym begin) good });
           });
           written = tt;
-          aborts = tt;
+          aborts = λ quiet. tt;
           rolled_back = tt;
           restarts = tt;
           eighth = any_eighth set.course.loses k answer (no_eighth_move k s answer f.opened call (λ eight. beats_unmoved k (All-weaker ShowsAlive (λ h. is_heartbeat h.request ≡ true) (λ h a. a.beat) k.heard_now f.heard) (at_least-fewer (WasMoved k) 1 MOST_REFUSALS k.heard_now (omega arith) eight)));
@@ -93,7 +93,7 @@ module _ (set : Setting) (session : ℕ) (k : Known) (x : OpenTxn) (s : Statemen
             cause = inr ((λ other was. alive_now other was), f.cause);
           });
           written = tt;
-          aborts = λ t anchor is some.
+          aborts = λ quiet t anchor is some.
               let same : f.t ≡ t = same_Some f.t t (sym opened ∙ is) in
               let e : Some anchor ≡ None = sym some ∙ sym (ap (λ t. t.anchor) same) ∙ unwritten in
               absurd cc;

@@ -6,7 +6,7 @@ use Rattle.pc_call.specs.Setting.{Setting}
 use Rattle.pc_base.specs.declared.span.Span.{Span}
 use Rattle.pc_call.proofs.Facts.{open_is}
 use Rattle.pc_call.proofs.Hearing.{of_request}
-use Rattle.pc_call.proofs.Unsent.{sent_here}
+use Rattle.pc_call.proofs.Unsent.{plain_sent}
 use Rattle.pc_call.specs.declared.later.LaterPut.{LaterPut}
 use Rattle.pc_call.specs.Stages.{KeepsOutbox}
 use Rattle.pc_call.specs.declared.purpose.Purpose.{Purpose}
@@ -26,25 +26,26 @@ use Rattle.pc_wave.specs.declared.message.Message.{Message}
 use Rattle.pc_wave.specs.declared.message.Progress.{Progress}
 use Rattle.pc_wave.specs.declared.message.Progress.TheVariants as progresses
 use Rattle.pc_wave.specs.Messages.{is_to_send, progress_to_send, wave_awaits}
-use Rattle.pc_wave.specs.Standing.{IsAsFar, IsHeardTo, IsMessageAt, MessageStands, messages_of}
+use Rattle.pc_wave.specs.Standing.{IsAsFar, IsHeardTo, IsMessageAt, MessageStands}
 use Rattle.pc_wave.specs.Course.{Course}
 use Rattle.pc_follows.specs.Refreshes.{AreAllAsked, IsOfWholeRefresh, RefreshesInOneWave}
 use Rattle.pc_world.specs.Known.{Known}
 use Rattle.pc_world.specs.Known.Traffic.{Heard}
 use Rattle.pc_world.specs.Known.Transactions.{Txn}
 use Rattle.pc_world.specs.RangeOf.{pieces}
+use Rattle.pc_proto.specs.Requests.{is_put}
 
 every : {X : Type 0} (P : X → Type 0) → ((x : X) → P x) → (xs : List X) → All P xs
 every P all [] = All-nil P
 every P all (x ∷ xs) = All-cons P x xs (all x) (every P all xs)
 
 -- a message that is not to be sent went out in the call
-went_out : (c : Course) (k : Known) (request : Request) (conflicts : ℕ) (pr : Progress) → ((number : ℕ) → Any (IsMessageAt number request) (messages_of c.pipelines k) → Any (IsMessageAt number request) k.sent_now) → progress_to_send pr ≡ false
+went_out : (c : Course) (k : Known) (request : Request) (conflicts : ℕ) (pr : Progress) → is_put request ≡ false → progress_to_send pr ≡ false
     → IsAsFar c k request conflicts pr → Any (λ m. m.request ≡ request) k.sent_now
-went_out c k request conflicts progresses.ToSend here out far = absurd cc
-went_out c k request conflicts (progresses.Sent number) here out far = any_weaker (IsMessageAt number request) (λ m. m.request ≡ request) (λ m at. at.asked) k.sent_now (here number far.0.out.now)
-went_out c k request conflicts (progresses.Met number conflict) here out far = any_weaker (IsMessageAt number request) (λ m. m.request ≡ request) (λ m at. at.asked) k.sent_now (here number far.out.now)
-went_out c k request conflicts (progresses.Answered number reply) here out far = any_weaker (IsMessageAt number request) (λ m. m.request ≡ request) (λ m at. at.asked) k.sent_now (here number far.0.out.now)
+went_out c k request conflicts progresses.ToSend none out far = absurd cc
+went_out c k request conflicts (progresses.Sent number) none out far = any_weaker (IsMessageAt number request) (λ m. m.request ≡ request) (λ m at. at.asked) k.sent_now (subst (λ ms. Any (IsMessageAt number request) ms) (plain_sent c.pipelines k request none) far.0.out.now)
+went_out c k request conflicts (progresses.Met number conflict) none out far = any_weaker (IsMessageAt number request) (λ m. m.request ≡ request) (λ m at. at.asked) k.sent_now (subst (λ ms. Any (IsMessageAt number request) ms) (plain_sent c.pipelines k request none) far.out.now)
+went_out c k request conflicts (progresses.Answered number reply) none out far = any_weaker (IsMessageAt number request) (λ m. m.request ≡ request) (λ m at. at.asked) k.sent_now (subst (λ ms. Any (IsMessageAt number request) ms) (plain_sent c.pipelines k request none) far.0.out.now)
 
 reads_whole : (set : Setting) (k : Known) (x : OpenTxn) (call : Call) (rs : List Request) → AreReadsOf set.splits x call rs → All (IsOfWholeRefresh k) rs
 reads_whole set k x (calls.Get key) rs e = subst (λ rs. All (IsOfWholeRefresh k) rs) (sym e) (All-cons (IsOfWholeRefresh k) (own_get x key) [] tt (All-nil (IsOfWholeRefresh k)))
@@ -54,7 +55,7 @@ reads_whole set k x (calls.Scan span) rs e =
 reads_whole set k x call rs e = absurd e
 
 module _ (session clock count : ℕ) (set : Setting) (k : Known) (x : OpenTxn) (p : Purpose) (ms : List Message) (counted : IsCounted session clock count k) (w : InCall set k x p ms) (out : All (λ m. is_to_send m ≡ false) ms)
-    (later : List LaterPut) (outbox : KeepsOutbox k x later ms) where
+    (later : List LaterPut) (outbox : KeepsOutbox set.course.loses k x later ms) where
   abbrev asks : Span → Request
   asks span = refresh_to x.id x.reads.ts x.write_ts span
 
@@ -67,7 +68,7 @@ module _ (session clock count : ℕ) (set : Setting) (k : Known) (x : OpenTxn) (
       let rest : map (λ (m : Message). m.request) xs ≡ map asks spans = cc in
       let st = All-head (MessageStands set.course k) y xs stand in
       elim (contains_cons one spans span there) as (λ c. Any (λ m. m.request ≡ asks span) k.sent_now) [
-        | inl is ↦ subst (λ q. Any (λ m. m.request ≡ q) k.sent_now) (first ∙ ap asks is) (went_out set.course k y.request y.conflicts y.progress (λ number some. subst (λ q. Any (IsMessageAt number q) k.sent_now) (sym first) (sent_here k w.split x later ms outbox.has set.course.pipelines number (asks one) refl refl (subst (λ q. Any (IsMessageAt number q) (messages_of set.course.pipelines k)) first some))) (All-head (λ m. is_to_send m ≡ false) y xs out) st.as_far)
+        | inl is ↦ subst (λ q. Any (λ m. m.request ≡ q) k.sent_now) (first ∙ ap asks is) (went_out set.course k y.request y.conflicts y.progress (ap is_put first) (All-head (λ m. is_to_send m ≡ false) y xs out) st.as_far)
         | inr behind ↦ asked_of spans xs rest (All-tail (MessageStands set.course k) y xs stand) (All-tail (λ m. is_to_send m ≡ false) y xs out) span behind
       ]
 

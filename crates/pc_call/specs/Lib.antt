@@ -29,4 +29,5 @@ pub mod Setting
 pub mod Stages
 pub mod Suiting
 pub mod Telling
+pub mod Unanswered
 pub mod Waiting

@@ -21,7 +21,7 @@ use Rattle.pc_proto.specs.declared.request.Request.TheVariants as requests
 use Rattle.pc_proto.specs.declared.why.Why.{Why}
 use Rattle.pc_proto.specs.declared.why.Why.TheVariants as whys
 use Rattle.pc_proto.specs.Replies.{holder_in, is_conflict, is_undecided_status}
-use Rattle.pc_proto.specs.Requests.{is_commit, is_get, is_put, is_put_of, is_scan}
+use Rattle.pc_proto.specs.Requests.{is_commit, is_get, is_put, is_put_of, is_scan, is_stage}
 use Rattle.pc_proto.specs.Stamps.{why_stamps}
 use Rattle.pc_reads.specs.ReadsStanding.{refresh_to}
 use Rattle.pc_reads.specs.Replies.{unrefreshed_by, unrefreshed_in}
@@ -123,12 +123,20 @@ pub record ServesWrite (k : Known) (s : Statement) (t : Txn) (x : OpenTxn) (mess
   pub unmoved : All IsNoMove k.heard_now
   pub lays : LaysNext k s t x key value m ⊎ LaysLast k t x key value m
 
+-- The message did not go out yet: it is to be sent, and was not lost.
+abbrev pub is_unsent : Message → Bool
+is_unsent m = is_to_send m && (m.lost == 0)
+
+-- The message went out, and is not to be sent; or it was lost since, and is no stage.
+abbrev pub IsOutOrLost : Message → Type 0
+IsOutOrLost m = is_to_send m ≡ true → (1 ≤ m.lost) × (is_stage m.request ≡ false)
+
 -- A message that is to be sent, and was not lost, is just as it was when the round of its conflict was made.
 abbrev pub GoesJustSo : Known → Message → Type 0
 GoesJustSo k m = is_to_send m ≡ true → m.lost ≡ 0 → WentThroughRound k m.request
 
--- The message sends a write of an earlier call again, for which this one waits, and which is in flight until it was answered: at the write timestamp,
--- or at one at which it went out before, just as it was.
+-- The message sends a write of an earlier call again, for which this one waits, and which is in flight until it was answered: at the write timestamp
+-- where it did not go out yet, or at one at which it went out before, just as it was.
 pub record SendsAgain (call : Call) (all : Bool) (k : Known) (t : Txn) (x : OpenTxn) (m : Message) : Type 0 where
   pub w : WriteInFlight
   pub waits : waits_on call all w.key ≡ true
@@ -138,7 +146,7 @@ pub record SendsAgain (call : Call) (all : Bool) (k : Known) (t : Txn) (x : Open
   pub ts : ℕ
   pub said : m.request ≡ put_at x anchor ts w
   pub low : ts ≤ t.write_ts
-  pub goes_at : ((is_to_send m ≡ true) × (ts ≡ t.write_ts)) ⊎ (WasAskedAt t w.seq ts × GoesJustSo k m)
+  pub goes_at : ((is_unsent m ≡ true) × (ts ≡ t.write_ts)) ⊎ (WasAskedAt t w.seq ts × GoesJustSo k m)
   pub there : has_answer m ≡ false → Contains x.in_flight w
 
 -- The message sends this write, and was not answered.
@@ -280,10 +288,6 @@ pub record ServesRefresh (loses : Bool) (refusals : ℕ) (puts : List Message) (
   pub none_eighth : NoneMetEighth t.id t.epoch x.in_flight k.heard_now
   pub counted : All (λ w. MayBePutAgain loses k t w.seq (conflicts_before w.seq puts)) x.in_flight
   pub settled : IsWithoutConflict k
-
--- The message did not go out yet: it is to be sent, and was not lost.
-abbrev pub is_unsent : Message → Bool
-is_unsent m = is_to_send m && (m.lost == 0)
 
 -- It commits where its reads are good, no write is in flight, and no round is left; each commit that was sent in the call is this one, or was refused.
 pub record ServesCommit (refusals : ℕ) (k : Known) (s : Statement) (t : Txn) (x : OpenTxn) (messages : List Message) : Type 0 where

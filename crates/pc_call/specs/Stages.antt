@@ -102,24 +102,24 @@ MayProve _ = ⊥
 
 -- ---- what comes of them
 
--- These puts wait in the outbox of the session, for the open transaction; and what is left of these messages that were sent, and not heard before, waits
--- there, or in the wave, or was heard since.
-pub record WaitsBeside (sent : List Sent) (before since : List Heard) (k : Known) (x : OpenTxn) (later : List LaterPut) (messages : List Message) : Type 0 where
+-- These puts wait in the outbox of the session, for the open transaction; and where nothing is lost, what is left of these messages that were sent, and not heard
+-- before, waits there, or in the wave, or was heard since.
+pub record WaitsBeside (loses : Bool) (sent : List Sent) (before since : List Heard) (k : Known) (x : OpenTxn) (later : List LaterPut) (messages : List Message) : Type 0 where
   pub t : Txn
   pub opened : open_txn k ≡ Some t
   pub stands : OutboxStands k t x later
-  pub left : All (IsHeardOrLeft before since t later messages) sent
+  pub left : loses ≡ false → All (IsHeardOrLeft before since t later messages) sent
 
 -- So it is as the open call begins or goes on; and between calls, of all that was sent.
-abbrev pub HasOutbox : Known → OpenTxn → List LaterPut → Type 0
-HasOutbox k x later = WaitsBeside (sent_before k) (heard_before k) k.heard_now k x later []
+abbrev pub HasOutbox : Bool → Known → OpenTxn → List LaterPut → Type 0
+HasOutbox loses k x later = WaitsBeside loses (sent_before k) (heard_before k) k.heard_now k x later []
 
-abbrev pub HasOutboxBetween : Known → OpenTxn → List LaterPut → Type 0
-HasOutboxBetween k x later = WaitsBeside k.sent k.heard [] k x later []
+abbrev pub HasOutboxBetween : Bool → Known → OpenTxn → List LaterPut → Type 0
+HasOutboxBetween loses k x later = WaitsBeside loses k.sent k.heard [] k x later []
 
 -- So it is beside these messages, which put no write that waits in the outbox.
-pub record KeepsOutbox (k : Known) (x : OpenTxn) (later : List LaterPut) (messages : List Message) : Type 0 where
-  pub has : WaitsBeside (sent_before k) (heard_before k) k.heard_now k x later messages
+pub record KeepsOutbox (loses : Bool) (k : Known) (x : OpenTxn) (later : List LaterPut) (messages : List Message) : Type 0 where
+  pub has : WaitsBeside loses (sent_before k) (heard_before k) k.heard_now k x later messages
   pub apart : All (IsApartFrom messages) later
 
 -- The commit goes on, after it was moved so often: each of its stages is late and each commit refused. These puts are those of its last stage, and count
@@ -176,9 +176,9 @@ HasMessagesOn (staged_on.Commit call) = AreToSendOrOnWay call.wave
 HasMessagesOn (staged_on.GivesUp answer) = ⊤
 
 -- So do these puts beside what follows the stage.
-abbrev pub KeepsOutboxStaged : Known → OpenTxn → List LaterPut → StagedOn → Type 0
-KeepsOutboxStaged k x later (staged_on.Commit call) = KeepsOutbox k x later call.wave
-KeepsOutboxStaged k x later (staged_on.GivesUp answer) = HasOutbox k x later
+abbrev pub KeepsOutboxStaged : Bool → Known → OpenTxn → List LaterPut → StagedOn → Type 0
+KeepsOutboxStaged loses k x later (staged_on.Commit call) = KeepsOutbox loses k x later call.wave
+KeepsOutboxStaged loses k x later (staged_on.GivesUp answer) = HasOutbox loses k x later
 
 -- It refreshes, stages or commits.
 abbrev pub is_to_commit : Purpose → Bool
@@ -212,6 +212,6 @@ TakesRefreshed before after (refreshes.Commit call) = CommitsBy before after cal
 TakesRefreshed before after (refreshes.Restart answer) = after ≡ before
 
 -- So do these puts beside what follows the refreshes.
-abbrev pub KeepsOutboxOn : Known → OpenTxn → List LaterPut → Refreshed → Type 0
-KeepsOutboxOn k x later (refreshes.Commit call) = KeepsOutbox k x later call.wave
-KeepsOutboxOn k x later (refreshes.Restart answer) = HasOutbox k x later
+abbrev pub KeepsOutboxOn : Bool → Known → OpenTxn → List LaterPut → Refreshed → Type 0
+KeepsOutboxOn loses k x later (refreshes.Commit call) = KeepsOutbox loses k x later call.wave
+KeepsOutboxOn loses k x later (refreshes.Restart answer) = HasOutbox loses k x later

@@ -31,14 +31,14 @@ TellsAfterEighth true k s (answers.Unavailable faults) = ⊤
 TellsAfterEighth true k s (answers.Unknown id) = ⊤
 TellsAfterEighth loses k s answer = TellsTheEighth k s answer
 
--- The open call may be told this: its row allows it; a call that is told written heard so of its own put, a rollback of a transaction that wrote
--- heard its abort, and no rollback is told aborted, a restart is for the first refresh that did not hold, after an eighth the call is told of it, and
+-- The open call may be told this: its row allows it; a call that is told written heard so of its own put, where nothing is lost a rollback of a transaction that
+-- wrote heard its abort, and no rollback is told aborted, a restart is for the first refresh that did not hold, after an eighth the call is told of it, and
 -- where nothing is lost a heartbeat that was due was heard, and an abort that it found is told; and where writes are pipelined a commit that is blocked is so
 -- by its next block.
 pub record MayBeTold (set : Setting) (session : ℕ) (k : Known) (answer : Answer) : Type 0 where
   pub may : MayTell set.splits (actors.Session session) k answer
   pub written : TellsWritten set.course.pipelines k (events.Tell answer)
-  pub aborts : AbortsFirst k (events.Tell answer)
+  pub aborts : set.course.loses ≡ false → AbortsFirst k (events.Tell answer)
   pub rolled_back : TellsRollbacks k (events.Tell answer)
   pub restarts : RefreshesReads k (events.Tell answer)
   pub eighth : (s : Statement) → k.statement ≡ Some s → TellsAfterEighth set.course.loses k s answer

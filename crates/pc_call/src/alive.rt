@@ -43,7 +43,7 @@ impl OpenCall {
         reading: u64,
     ) -> Result<OpenCall, NoMemory>
         ensures made { IfOk result (λ made. made.wave ≡ message_to_send (own_beat txn.now reading anchor.now) ∷ []) }
-        ensures stands { (set : Setting) (k : Known) (later : List LaterPut) (why : Why) → HasOutbox k txn.now later → IsJustAsked k txn.now (record { call = call; reading = reading }) why → MayBlock call → SuitsFlightIn set.course.pipelines call txn.now.in_flight → is_silent reading txn.now ≡ true → txn.now.anchor ≡ Some anchor.now → IfOk result (λ made. InCall set k txn.now made.purpose made.wave) }
+        ensures stands { (set : Setting) (k : Known) (later : List LaterPut) (why : Why) → HasOutbox set.course.loses k txn.now later → IsJustAsked k txn.now (record { call = call; reading = reading }) why → MayBlock call → SuitsFlightIn set.course.pipelines call txn.now.in_flight → is_silent reading txn.now ≡ true → txn.now.anchor ≡ Some anchor.now → IfOk result (λ made. InCall set k txn.now made.purpose made.wave) }
     {
         let wave = wave_of(alloc, txn.beat(anchor, reading)?)?;
         Ok(OpenCall {

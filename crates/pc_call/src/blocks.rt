@@ -1,4 +1,4 @@
-ghost use Rattle.std.specs.Prelude.{◌≡◌, ◌≢◌, ℕ, false, true, IfSome};
+ghost use Rattle.std.specs.Prelude.{◌≡◌, ℕ, false, true, IfSome};
 ghost use Rattle.pc_call.specs.Giving.{is_for_stage};
 ghost use Rattle.std.specs.Option.{option_map};
 ghost use Rattle.pc_call.specs.Setting.{Setting};
@@ -7,8 +7,6 @@ ghost use Rattle.pc_call.specs.Serving.{InCall};
 ghost use Rattle.pc_call.specs.Telling.{MayTellOpen};
 ghost use Rattle.pc_proto.specs.declared.answer.Answer.TheVariants as answers;
 ghost use Rattle.pc_proto.specs.declared.reply.Reply.{Reply};
-ghost use Rattle.pc_call.specs.declared.purpose.Purpose.TheVariants as purposes;
-ghost use Rattle.pc_proto.specs.declared.why.Why.{Why};
 ghost use Rattle.pc_proto.specs.Replies.{holder_in};
 ghost use Rattle.pc_staging.specs.Kept.{is_over, without_stages};
 ghost use Rattle.pc_txn.specs.Counted.{IsCounted};
@@ -17,6 +15,7 @@ ghost use Rattle.pc_wave.specs.declared.step.Step.TheVariants as steps;
 ghost use Rattle.pc_wave.specs.Messages.{step_of};
 ghost use Rattle.pc_world.specs.Known.{Known};
 ghost use Rattle.pc_world.specs.Tell.Refusal.{WasLost};
+ghost use Rattle.pc_call.specs.Unanswered.{MayGiveUpLost};
 
 use crate::call::OpenCall;
 use pc_proto::{Answer, Reply};
@@ -38,7 +37,7 @@ impl OpenCall {
     /// transaction, whose stages are forgotten, stays open.
     pub fn unavailable(self, faults: u32) -> Answer
         ensures made { result ≡ answers.Unavailable faults }
-        ensures told { (session clock begun : ℕ) (set : Setting) (start k : Known) (x : OpenTxn) → set.course.loses ≡ true → IsCounted session clock begun start → InCall set start x self.purpose self.wave → ((why : Why) → self.purpose ≢ purposes.Abort why) → GoesOnBeside start k x.id → is_over x.staging ≡ true → WasLost k faults → MayTellOpen set session k result (record x { staging = without_stages x.staging }) }
+        ensures told { (session : ℕ) (set : Setting) (start k : Known) (x : OpenTxn) → set.course.loses ≡ true → MayGiveUpLost set start x → GoesOnBeside start k x.id → is_over x.staging ≡ true → WasLost k faults → MayTellOpen set session k result (record x { staging = without_stages x.staging }) }
     {
         Answer::Unavailable { faults }
     }

@@ -11,7 +11,7 @@ ghost use Rattle.pc_call.specs.Missing.{IsAboveMisses};
 ghost use Rattle.pc_call.specs.Outbox.{later_sent};
 ghost use Rattle.pc_call.specs.Rounding.{MakesRound};
 ghost use Rattle.pc_base.specs.Span.{same_key};
-ghost use Rattle.pc_call.specs.Serving.{InCall, write_call};
+ghost use Rattle.pc_call.specs.Serving.{InCall, write_call, IsOutOrLost};
 ghost use Rattle.pc_call.specs.Stages.{KeepsOutbox};
 ghost use Rattle.pc_call.specs.Telling.{MayTellOpen};
 ghost use Rattle.pc_proto.specs.declared.answer.Answer.TheVariants as answers;
@@ -94,8 +94,8 @@ impl OpenCall {
     /// This was replied to the message of this number, and the call goes on.
     pub fn heard(&mut self, number: u64, reply: Reply)
         ensures made { self.new ≡ record self.old { wave = first_changed (awaits_at number) (back_with number reply) self.old.wave } }
-        ensures stands { (session clock begun : ℕ) (set : Setting) (k : Known) (x : OpenTxn) (h : Heard) → IsCounted session clock begun k → InCall set k x self.old.purpose self.old.wave → wave_awaits number self.old.wave ≡ true → IsHeardTo k number reply h → GoesOn self.old.purpose reply → All (λ m. is_to_send m ≡ false) self.old.wave → InCall set (known_heard h k) x self.new.purpose self.new.wave }
-        ensures one_wave { (session clock begun : ℕ) (set : Setting) (k : Known) (x : OpenTxn) (later : List LaterPut) (h : Heard) → IsCounted session clock begun k → InCall set k x self.old.purpose self.old.wave → KeepsOutbox k x later self.old.wave → All (λ m. is_to_send m ≡ false) self.old.wave → wave_awaits number self.old.wave ≡ true → IsHeardTo k number reply h → RefreshesInOneWave k (Some h) }
+        ensures stands { (session clock begun : ℕ) (set : Setting) (k : Known) (x : OpenTxn) (h : Heard) → IsCounted session clock begun k → InCall set k x self.old.purpose self.old.wave → wave_awaits number self.old.wave ≡ true → IsHeardTo k number reply h → GoesOn self.old.purpose reply → All IsOutOrLost self.old.wave → InCall set (known_heard h k) x self.new.purpose self.new.wave }
+        ensures one_wave { (session clock begun : ℕ) (set : Setting) (k : Known) (x : OpenTxn) (later : List LaterPut) (h : Heard) → IsCounted session clock begun k → InCall set k x self.old.purpose self.old.wave → KeepsOutbox set.course.loses k x later self.old.wave → All (λ m. is_to_send m ≡ false) self.old.wave → wave_awaits number self.old.wave ≡ true → IsHeardTo k number reply h → RefreshesInOneWave k (Some h) }
         ensures awaited { (set : Setting) (k : Known) (x : OpenTxn) (other : ℕ) → InCall set k x self.old.purpose self.old.wave → wave_awaits number self.old.wave ≡ true → wave_awaits other self.new.wave ≡ (wave_awaits other self.old.wave && not (number == other)) }
     {
         self.wave.heard(number, reply);

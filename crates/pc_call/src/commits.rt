@@ -1,4 +1,4 @@
-ghost use Rattle.std.specs.Prelude.{◌≡◌, ℕ, ◌<◌, true, List, [], ◌∷◌, None, Some, IfOk};
+ghost use Rattle.std.specs.Prelude.{Bool, ◌≡◌, ℕ, ◌<◌, true, List, [], ◌∷◌, None, Some, IfOk};
 ghost use Rattle.pc_call.specs.declared.later.LaterPut.{LaterPut};
 ghost use Rattle.pc_call.specs.Setting.{Setting};
 ghost use Rattle.pc_call.specs.Suiting.{SuitsFlightIn};
@@ -53,9 +53,9 @@ impl OpenCall {
     ) -> Result<OpenCall, NoMemory>
         ensures takes { IfOk result (λ made. CommitsBy later.old later.new made) }
         ensures unsent { IfOk result (λ made. AreToSendOrOnWay made.wave) }
-        ensures outbox { (k : Known) → HasOutbox k txn.now later.old → IfOk result (λ made. KeepsOutbox k txn.now later.new made.wave) }
-        ensures goes_on { (set : Setting) (k : Known) (t : Txn) (s : Statement) → CommitsOnFrom set.course.loses t.read_ts refusals k t txn.now s puts → HasOutbox k txn.now later.old → MayWait set.course.pipelines later.old → s.reading ≡ reading → SuitsFlightIn set.course.pipelines calls.Commit txn.now.in_flight → IfOk result (λ call. InCall set k txn.now call.purpose call.wave) }
-        ensures begins { (set : Setting) (k : Known) (s : Statement) (why : Why) (anchor : List ℕ) → IsFresh set.course.loses k txn.now s why → SuitsFlightIn set.course.pipelines s.call txn.now.in_flight → s.call ≡ calls.Commit → s.reading ≡ reading → refusals ≡ 0 → puts ≡ [] → txn.now.anchor ≡ Some anchor → HasOutbox k txn.now later.old → MayWait set.course.pipelines later.old → IfOk result (λ call. InCall set k txn.now call.purpose call.wave) }
+        ensures outbox { (loses : Bool) (k : Known) → HasOutbox loses k txn.now later.old → IfOk result (λ made. KeepsOutbox loses k txn.now later.new made.wave) }
+        ensures goes_on { (set : Setting) (k : Known) (t : Txn) (s : Statement) → CommitsOnFrom set.course.loses t.read_ts refusals k t txn.now s puts → HasOutbox set.course.loses k txn.now later.old → MayWait set.course.pipelines later.old → s.reading ≡ reading → SuitsFlightIn set.course.pipelines calls.Commit txn.now.in_flight → IfOk result (λ call. InCall set k txn.now call.purpose call.wave) }
+        ensures begins { (set : Setting) (k : Known) (s : Statement) (why : Why) (anchor : List ℕ) → IsFresh set.course.loses k txn.now s why → SuitsFlightIn set.course.pipelines s.call txn.now.in_flight → s.call ≡ calls.Commit → s.reading ≡ reading → refusals ≡ 0 → puts ≡ [] → txn.now.anchor ≡ Some anchor → HasOutbox set.course.loses k txn.now later.old → MayWait set.course.pipelines later.old → IfOk result (λ call. InCall set k txn.now call.purpose call.wave) }
     {
         if txn.reads.is_to_refresh(txn.write_ts) {
             return OpenCall::refresh(alloc, txn, refusals, puts);
@@ -74,8 +74,8 @@ impl OpenCall {
     ) -> Result<OpenCall, NoMemory>
         ensures takes { IfOk result (λ made. CommitsBy later.old later.new made) }
         ensures unsent { IfOk result (λ made. AreToSendOrOnWay made.wave) }
-        ensures outbox { (k : Known) → HasOutbox k txn.now later.old → IfOk result (λ made. KeepsOutbox k txn.now later.new made.wave) }
-        ensures stands { (set : Setting) (k : Known) (s : Statement) → DecidesNow set.course.loses refusals k txn.now s puts.now → HasOutbox k txn.now later.old → MayWait set.course.pipelines later.old → s.reading ≡ reading → SuitsFlightIn set.course.pipelines calls.Commit txn.now.in_flight → IfOk result (λ call. InCall set k txn.now call.purpose call.wave) }
+        ensures outbox { (loses : Bool) (k : Known) → HasOutbox loses k txn.now later.old → IfOk result (λ made. KeepsOutbox loses k txn.now later.new made.wave) }
+        ensures stands { (set : Setting) (k : Known) (s : Statement) → DecidesNow set.course.loses refusals k txn.now s puts.now → HasOutbox set.course.loses k txn.now later.old → MayWait set.course.pipelines later.old → s.reading ≡ reading → SuitsFlightIn set.course.pipelines calls.Commit txn.now.in_flight → IfOk result (λ call. InCall set k txn.now call.purpose call.wave) }
     {
         match &txn.anchor {
             Some(anchor) => {
@@ -97,8 +97,8 @@ impl OpenCall {
     ) -> Result<OpenCall, NoMemory>
         ensures takes { IfOk result (λ made. CommitsBy later.old later.new made) }
         ensures unsent { IfOk result (λ made. AreToSendOrOnWay made.wave) }
-        ensures outbox { (k : Known) → HasOutbox k txn.now later.old → IfOk result (λ made. KeepsOutbox k txn.now later.new made.wave) }
-        ensures stands { (set : Setting) (k : Known) (s : Statement) → txn.now.anchor ≡ Some anchor.now → DecidesNow set.course.loses refusals k txn.now s puts.now → HasOutbox k txn.now later.old → MayWait set.course.pipelines later.old → s.reading ≡ reading → SuitsFlightIn set.course.pipelines calls.Commit txn.now.in_flight → IfOk result (λ call. InCall set k txn.now call.purpose call.wave) }
+        ensures outbox { (loses : Bool) (k : Known) → HasOutbox loses k txn.now later.old → IfOk result (λ made. KeepsOutbox loses k txn.now later.new made.wave) }
+        ensures stands { (set : Setting) (k : Known) (s : Statement) → txn.now.anchor ≡ Some anchor.now → DecidesNow set.course.loses refusals k txn.now s puts.now → HasOutbox set.course.loses k txn.now later.old → MayWait set.course.pipelines later.old → s.reading ≡ reading → SuitsFlightIn set.course.pipelines calls.Commit txn.now.in_flight → IfOk result (λ call. InCall set k txn.now call.purpose call.wave) }
     {
         if txn.in_flight.is_empty() {
             return OpenCall::commit(alloc, txn, anchor, refusals);
@@ -137,7 +137,7 @@ impl OpenCall {
     /// refusals so far, with which its commit goes on; or none, where its commit was moved as often as it may be, and its call is told so.
     pub fn refused(self, txn: &mut OpenTxn, recorded: Timestamp, step: u64) -> Option<Refusals>
         ensures risen { txn.new ≡ refused_at recorded step txn.old }
-        ensures refused { (session clock begun number n : ℕ) (set : Setting) (k : Known) (later : List LaterPut) (reply : Reply) (h : Heard) → IsCounted session clock begun k → InCall set k txn.old self.purpose self.wave → KeepsOutbox k txn.old later self.wave → self.purpose ≡ purposes.Commit n → wave_awaits number self.wave ≡ true → IsHeardTo k number reply h → IsUndecidedAt reply recorded → h.step ≡ step → IsRefusalOf set session (known_heard h k) recorded txn.new result }
+        ensures refused { (session clock begun number n : ℕ) (set : Setting) (k : Known) (later : List LaterPut) (reply : Reply) (h : Heard) → IsCounted session clock begun k → InCall set k txn.old self.purpose self.wave → KeepsOutbox set.course.loses k txn.old later self.wave → self.purpose ≡ purposes.Commit n → wave_awaits number self.wave ≡ true → IsHeardTo k number reply h → IsUndecidedAt reply recorded → h.step ≡ step → IsRefusalOf set session (known_heard h k) recorded txn.new result }
     {
         let ts = txn.write_ts;
         txn.refused(recorded, step);

@@ -6,11 +6,11 @@ ghost use Rattle.pc_call.specs.Losses.{stages_late, is_lost_after, rolled_back_u
 ghost use Rattle.pc_call.specs.Serving.{InCall};
 ghost use Rattle.pc_proto.specs.declared.answer.Answer.TheVariants as answers;
 ghost use Rattle.pc_staging.specs.Kept.{is_over};
-ghost use Rattle.pc_txn.specs.Counted.{IsCounted};
 ghost use Rattle.pc_world.specs.Known.{Known};
 ghost use Rattle.pc_world.specs.Tell.Refusal.{WasLost};
-ghost use Rattle.std.specs.Prelude.{◌≡◌, ◌≤◌, ℕ, ◌&&◌, true, false, IfOk, None, position};
+ghost use Rattle.std.specs.Prelude.{◌≡◌, ◌≤◌, ℕ, ◌&&◌, true, false, IfOk, IfSome, None, position};
 ghost use Rattle.pc_wave.specs.Messages.{awaits_at, is_out, wave_awaits};
+ghost use Rattle.pc_call.specs.Unanswered.{MayGiveUpLost};
 
 use crate::call::OpenCall;
 use crate::over::Over;
@@ -42,7 +42,7 @@ impl OpenCall {
     /// The tries of one of its messages are used up, and it is not known what became of its commit: its transaction is over.
     pub fn unknown(self, txn: &OpenTxn) -> Over
         ensures made { result ≡ record { answer = answers.Unknown txn.now.id; left = None } }
-        ensures over { (session clock begun faults : ℕ) (set : Setting) (start k : Known) → set.course.loses ≡ true → IsCounted session clock begun start → InCall set start txn.now self.purpose self.wave → GoesOnBeside start k txn.now.id → WasLost k faults → is_over txn.now.staging ≡ false → MayTellOver set session k result }
+        ensures over { (session faults : ℕ) (set : Setting) (start k : Known) → set.course.loses ≡ true → MayGiveUpLost set start txn.now → GoesOnBeside start k txn.now.id → WasLost k faults → is_over txn.now.staging ≡ false → MayTellOver set session k result }
     {
         Over {
             answer: Answer::Unknown { id: txn.id },
@@ -53,6 +53,7 @@ impl OpenCall {
     /// The tries of its abort are used up: its transaction is over all the same, for the abort's cause. None where it does not abort.
     pub fn rolled_back_unheard(&self, txn: &OpenTxn) -> Result<Option<Over>, NoMemory>
         ensures made { IfOk result (λ over. over ≡ rolled_back_unheard self.now.purpose txn.now) }
+        ensures over { (session : ℕ) (set : Setting) (k : Known) → set.course.loses ≡ true → InCall set k txn.now self.now.purpose self.now.wave → IfOk result (λ over. IfSome over (MayTellOver set session k)) }
     {
         match &self.purpose {
             Purpose::Abort { why } => {

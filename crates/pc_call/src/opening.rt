@@ -1,4 +1,4 @@
-ghost use Rattle.std.specs.Prelude.{◌≡◌, ◌<◌, true, false, [], ◌∷◌, map, Some, All, IfOk, List};
+ghost use Rattle.std.specs.Prelude.{Bool, ◌≡◌, ◌<◌, true, false, [], ◌∷◌, map, Some, All, IfOk, List};
 ghost use Rattle.pc_call.specs.declared.later.LaterPut.{LaterPut};
 ghost use Rattle.pc_call.specs.Setting.{Setting};
 ghost use Rattle.pc_reads.specs.ReadsStanding.{refresh_to};
@@ -35,7 +35,7 @@ impl OpenCall {
     pub fn get(alloc: Global, txn: &OpenTxn, key: &Key) -> Result<OpenCall, NoMemory>
         ensures made { IfOk result (λ call. call ≡ record { purpose = purposes.Read; wave = message_to_send (own_get txn.now key.now) ∷ [] }) }
         ensures unsent { IfOk result (λ call. All (λ m. is_to_send m ≡ true) call.wave) }
-        ensures stands { (set : Setting) (k : Known) (later : List LaterPut) (s : Statement) (why : Why) → IsFresh set.course.loses k txn.now s why → HasOutbox k txn.now later → SuitsFlightIn set.course.pipelines s.call txn.now.in_flight → s.call ≡ calls.Get key.now → waits_for_some (calls.Get key.now) txn.now.in_flight ≡ false → IfOk result (λ call. InCall set k txn.now call.purpose call.wave) }
+        ensures stands { (set : Setting) (k : Known) (later : List LaterPut) (s : Statement) (why : Why) → IsFresh set.course.loses k txn.now s why → HasOutbox set.course.loses k txn.now later → SuitsFlightIn set.course.pipelines s.call txn.now.in_flight → s.call ≡ calls.Get key.now → waits_for_some (calls.Get key.now) txn.now.in_flight ≡ false → IfOk result (λ call. InCall set k txn.now call.purpose call.wave) }
     {
         let wave = wave_of(alloc, txn.get(key)?)?;
         Ok(OpenCall {
@@ -53,7 +53,7 @@ impl OpenCall {
     ) -> Result<OpenCall, NoMemory>
         ensures made { IfOk result (λ call. call ≡ record { purpose = purposes.Read; wave = scan_messages txn.now (spans_in splits.now span.now) }) }
         ensures unsent { IfOk result (λ call. All (λ m. is_to_send m ≡ true) call.wave) }
-        ensures stands { (set : Setting) (k : Known) (later : List LaterPut) (s : Statement) (why : Why) → set.splits ≡ splits.now → AreRising splits.now → IsFresh set.course.loses k txn.now s why → HasOutbox k txn.now later → SuitsFlightIn set.course.pipelines s.call txn.now.in_flight → s.call ≡ calls.Scan span.now → waits_for_some (calls.Scan span.now) txn.now.in_flight ≡ false → IfOk result (λ call. InCall set k txn.now call.purpose call.wave) }
+        ensures stands { (set : Setting) (k : Known) (later : List LaterPut) (s : Statement) (why : Why) → set.splits ≡ splits.now → AreRising splits.now → IsFresh set.course.loses k txn.now s why → HasOutbox set.course.loses k txn.now later → SuitsFlightIn set.course.pipelines s.call txn.now.in_flight → s.call ≡ calls.Scan span.now → waits_for_some (calls.Scan span.now) txn.now.in_flight ≡ false → IfOk result (λ call. InCall set k txn.now call.purpose call.wave) }
     {
         let wave = scan_wave(alloc, splits, txn, span)?;
         Ok(OpenCall {
@@ -70,7 +70,7 @@ impl OpenCall {
         value: &Option<Value>,
     ) -> Result<OpenCall, NoMemory>
         ensures made { IfOk result (λ call. call ≡ laying txn.now key.now value.now) }
-        ensures stands { (set : Setting) (k : Known) (later : List LaterPut) (s : Statement) (why : Why) → IsFresh set.course.loses k txn.now s why → HasOutbox k txn.now later → SuitsFlightIn set.course.pipelines s.call txn.now.in_flight → s.call ≡ write_call key.now value.now → waits_for_some (write_call key.now value.now) txn.now.in_flight ≡ false → IfOk result (λ call. InCall set k txn.now call.purpose call.wave) }
+        ensures stands { (set : Setting) (k : Known) (later : List LaterPut) (s : Statement) (why : Why) → IsFresh set.course.loses k txn.now s why → HasOutbox set.course.loses k txn.now later → SuitsFlightIn set.course.pipelines s.call txn.now.in_flight → s.call ≡ write_call key.now value.now → waits_for_some (write_call key.now value.now) txn.now.in_flight ≡ false → IfOk result (λ call. InCall set k txn.now call.purpose call.wave) }
     {
         let wave = wave_of(alloc, txn.next_put(key, value)?)?;
         Ok(OpenCall {
@@ -88,8 +88,8 @@ impl OpenCall {
     ) -> Result<OpenCall, NoMemory>
         ensures purpose { IfOk result (λ call. is_to_commit call.purpose ≡ true) }
         ensures made { IfOk result (λ call. call.wave ≡ message_to_send (own_commit txn.now anchor.now) ∷ []) }
-        ensures outbox { (k : Known) (later : List LaterPut) → HasOutbox k txn.now later → IfOk result (λ call. KeepsOutbox k txn.now later call.wave) }
-        ensures stands { (set : Setting) (k : Known) (later : List LaterPut) (s : Statement) (c : CommitsNow set.course.loses refusals k txn.now s) → c.on.commits.anchor ≡ anchor.now → txn.now.in_flight ≡ [] → HasOutbox k txn.now later → IfOk result (λ call. InCall set k txn.now call.purpose call.wave) }
+        ensures outbox { (loses : Bool) (k : Known) (later : List LaterPut) → HasOutbox loses k txn.now later → IfOk result (λ call. KeepsOutbox loses k txn.now later call.wave) }
+        ensures stands { (set : Setting) (k : Known) (later : List LaterPut) (s : Statement) (c : CommitsNow set.course.loses refusals k txn.now s) → c.on.commits.anchor ≡ anchor.now → txn.now.in_flight ≡ [] → HasOutbox set.course.loses k txn.now later → IfOk result (λ call. InCall set k txn.now call.purpose call.wave) }
     {
         let wave = wave_of(alloc, txn.commit(anchor)?)?;
         Ok(OpenCall {
@@ -108,8 +108,8 @@ impl OpenCall {
         ensures purpose { IfOk result (λ call. is_to_commit call.purpose ≡ true) }
         ensures made { IfOk result (λ call. call.wave ≡ map message_to_send (map (refresh_to txn.now.id txn.now.reads.ts txn.now.write_ts) txn.now.reads.spans)) }
         ensures unsent { IfOk result (λ call. All (λ m. is_to_send m ≡ true) call.wave) }
-        ensures outbox { (k : Known) (later : List LaterPut) → HasOutbox k txn.now later → IfOk result (λ call. KeepsOutbox k txn.now later call.wave) }
-        ensures stands { (set : Setting) (k : Known) (later : List LaterPut) (t : Txn) (s : Statement) → CommitsOnFrom set.course.loses t.read_ts refusals k t txn.now s puts → txn.now.reads.ts < txn.now.write_ts → SuitsFlightIn set.course.pipelines calls.Commit txn.now.in_flight → HasOutbox k txn.now later → IfOk result (λ call. InCall set k txn.now call.purpose call.wave) }
+        ensures outbox { (loses : Bool) (k : Known) (later : List LaterPut) → HasOutbox loses k txn.now later → IfOk result (λ call. KeepsOutbox loses k txn.now later call.wave) }
+        ensures stands { (set : Setting) (k : Known) (later : List LaterPut) (t : Txn) (s : Statement) → CommitsOnFrom set.course.loses t.read_ts refusals k t txn.now s puts → txn.now.reads.ts < txn.now.write_ts → SuitsFlightIn set.course.pipelines calls.Commit txn.now.in_flight → HasOutbox set.course.loses k txn.now later → IfOk result (λ call. InCall set k txn.now call.purpose call.wave) }
     {
         let requests = txn.reads.refreshes(alloc, txn.id, txn.write_ts)?;
         let wave = wave_of_all(alloc, requests)?;
@@ -123,7 +123,7 @@ impl OpenCall {
     pub fn abort(alloc: Global, txn: &OpenTxn, anchor: &Key, why: Why) -> Result<OpenCall, NoMemory>
         ensures made { IfOk result (λ call. call.wave ≡ message_to_send (own_abort txn.now why anchor.now) ∷ []) }
         ensures unsent { IfOk result (λ call. All (λ m. is_to_send m ≡ true) call.wave) }
-        ensures stands { (set : Setting) (k : Known) (later : List LaterPut) (s : Statement) → IsFresh set.course.loses k txn.now s why → HasOutbox k txn.now later → SuitsFlightIn set.course.pipelines s.call txn.now.in_flight → s.call ≡ calls.Rollback → txn.now.anchor ≡ Some anchor.now → IfOk result (λ call. InCall set k txn.now call.purpose call.wave) }
+        ensures stands { (set : Setting) (k : Known) (later : List LaterPut) (s : Statement) → IsFresh set.course.loses k txn.now s why → HasOutbox set.course.loses k txn.now later → SuitsFlightIn set.course.pipelines s.call txn.now.in_flight → s.call ≡ calls.Rollback → txn.now.anchor ≡ Some anchor.now → IfOk result (λ call. InCall set k txn.now call.purpose call.wave) }
     {
         let wave = wave_of(alloc, txn.abort(anchor, &why)?)?;
         Ok(OpenCall {

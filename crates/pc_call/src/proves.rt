@@ -9,7 +9,7 @@ ghost use Rattle.pc_call.specs.declared.purpose.Purpose.TheVariants as purposes;
 ghost use Rattle.pc_call.specs.Ended.{HasBegun, landed_awaited, own_messages, own_messages_by};
 ghost use Rattle.pc_call.specs.Fresh.{IsFresh};
 ghost use Rattle.pc_call.specs.Learned.{known_heard};
-ghost use Rattle.pc_call.specs.Serving.{InCall};
+ghost use Rattle.pc_call.specs.Serving.{InCall, IsOutOrLost};
 ghost use Rattle.pc_call.specs.Missing.{IsAboveMisses};
 ghost use Rattle.pc_call.specs.Outbox.{AreToSendOrOnWay, MayWait, TakesFrom, proof_in, proofs_in, without_put, without_puts};
 ghost use Rattle.pc_call.specs.Stages.{HasOutbox, KeepsOutbox, MayProve};
@@ -50,8 +50,8 @@ impl OpenCall {
         ensures some { waits_for_some call txn.now.in_flight ≡ true → IfOk result (λ made. made.wave ≢ []) }
         ensures purpose { IfOk result (λ made. made.purpose ≡ purposes.Prove call (waits_for_all call txn.now.in_flight)) }
         ensures unsent { IfOk result (λ made. AreToSendOrOnWay made.wave) }
-        ensures outbox { (k : Known) → HasOutbox k txn.now later.old → IfOk result (λ made. KeepsOutbox k txn.now later.new made.wave) }
-        ensures stands { (set : Setting) (k : Known) (s : Statement) (why : Why) → IsFresh set.course.loses k txn.now s why → SuitsFlightIn set.course.pipelines s.call txn.now.in_flight → s.call ≡ call → BeginsBehindProofs call → txn.now.anchor ≡ Some anchor.now → HasOutbox k txn.now later.old → MayWait set.course.pipelines later.old → (waits_for_all call txn.now.in_flight ≡ true → IsFull k) → IfOk result (λ made. InCall set k txn.now made.purpose made.wave) }
+        ensures outbox { (loses : Bool) (k : Known) → HasOutbox loses k txn.now later.old → IfOk result (λ made. KeepsOutbox loses k txn.now later.new made.wave) }
+        ensures stands { (set : Setting) (k : Known) (s : Statement) (why : Why) → IsFresh set.course.loses k txn.now s why → SuitsFlightIn set.course.pipelines s.call txn.now.in_flight → s.call ≡ call → BeginsBehindProofs call → txn.now.anchor ≡ Some anchor.now → HasOutbox set.course.loses k txn.now later.old → MayWait set.course.pipelines later.old → (waits_for_all call txn.now.in_flight ≡ true → IsFull k) → IfOk result (λ made. InCall set k txn.now made.purpose made.wave) }
     {
         let all = waits_for_all(&call, txn);
         let wave = proof_wave(alloc, txn, later, anchor, &call, all)?;
@@ -66,7 +66,7 @@ impl OpenCall {
     pub fn proved(&mut self, txn: &mut OpenTxn, number: u64, step: u64, ts: Timestamp, reply: Reply)
         ensures made { self.new ≡ record self.old { wave = first_changed (awaits_at number) (back_with number reply) self.old.wave } }
         ensures landed { txn.new ≡ landed_awaited number self.old.wave ts step txn.old }
-        ensures stands { (session clock begun : ℕ) (set : Setting) (k : Known) (h : Heard) → IsCounted session clock begun k → InCall set k txn.old self.old.purpose self.old.wave → MayProve self.old.purpose → wave_awaits number self.old.wave ≡ true → IsHeardTo k number reply h → reply ≡ replies.Written ts → IsAboveMisses k.heard h.request h.reply → h.step ≡ step → All (λ m. is_to_send m ≡ false) self.old.wave → InCall set (known_heard h k) txn.new self.new.purpose self.new.wave }
+        ensures stands { (session clock begun : ℕ) (set : Setting) (k : Known) (h : Heard) → IsCounted session clock begun k → InCall set k txn.old self.old.purpose self.old.wave → MayProve self.old.purpose → wave_awaits number self.old.wave ≡ true → IsHeardTo k number reply h → reply ≡ replies.Written ts → IsAboveMisses k.heard h.request h.reply → h.step ≡ step → All IsOutOrLost self.old.wave → InCall set (known_heard h k) txn.new self.new.purpose self.new.wave }
         ensures awaited { (set : Setting) (k : Known) (x : OpenTxn) (other : ℕ) → InCall set k x self.old.purpose self.old.wave → wave_awaits number self.old.wave ≡ true → wave_awaits other self.new.wave ≡ (wave_awaits other self.old.wave && not (number == other)) }
     {
         land_awaited(self.wave.messages(), number, txn, ts, step);
@@ -82,7 +82,7 @@ impl OpenCall {
         txn: &OpenTxn,
     ) -> Result<Option<OpenCall>, NoMemory>
         ensures made { IfOk result (λ next. next ≡ own_messages_by self.purpose splits.now txn.now) }
-        ensures begins { (set : Setting) (session clock begun : ℕ) (k : Known) (later : List LaterPut) (call : Call) (all : Bool) → set.splits ≡ splits.now → AreRising splits.now → IsCounted session clock begun k → InCall set k txn.now self.purpose self.wave → KeepsOutbox k txn.now later self.wave → self.purpose ≡ purposes.Prove call all → step_of self.wave ≡ steps.Answered → IfOk result (HasBegun set k txn.now) }
+        ensures begins { (set : Setting) (session clock begun : ℕ) (k : Known) (later : List LaterPut) (call : Call) (all : Bool) → set.splits ≡ splits.now → AreRising splits.now → IsCounted session clock begun k → InCall set k txn.now self.purpose self.wave → KeepsOutbox set.course.loses k txn.now later self.wave → self.purpose ≡ purposes.Prove call all → step_of self.wave ≡ steps.Answered → IfOk result (HasBegun set k txn.now) }
     {
         match &self.purpose {
             Purpose::Prove { call, .. } => own_messages(alloc, splits, txn, call),

@@ -46,7 +46,7 @@ impl OpenCall {
         ensures purpose { IfOk result (λ made. (n : ℕ) × (made.purpose ≡ purposes.Query n holder self.wave)) }
         ensures asks { IfOk result (λ made. (key : List ℕ) × (seq : ℕ) × (made.wave ≡ message_to_send (own_query txn.now key seq) ∷ [])) }
         ensures unsent { IfOk result (λ made. All (λ m. is_to_send m ≡ true) made.wave) }
-        ensures stands { (n : ℕ) (set : Setting) (k : Known) (later : List LaterPut) → IsBlockedStage set k txn.now n self.wave holder → KeepsOutbox k txn.now later self.wave → self.purpose ≡ purposes.Stage n → is_live_at txn.now.write_ts txn.now.staging ≡ true → IfOk result (λ made. InCall set k txn.now made.purpose made.wave) }
+        ensures stands { (n : ℕ) (set : Setting) (k : Known) (later : List LaterPut) → IsBlockedStage set k txn.now n self.wave holder → KeepsOutbox set.course.loses k txn.now later self.wave → self.purpose ≡ purposes.Stage n → is_live_at txn.now.write_ts txn.now.staging ≡ true → IfOk result (λ made. InCall set k txn.now made.purpose made.wave) }
     {
         let request = query_of_blocked(self.wave.messages(), txn)?;
         let asking = wave_of(alloc, request)?;

@@ -26,7 +26,7 @@ impl OpenCall {
     pub fn read(self, alloc: Global, txn: &mut OpenTxn) -> Result<Answer, NoMemory>
         ensures answer { IfOk result (λ answer. answer ≡ answer_read self.wave) }
         ensures kept { OnOk result (txn.new ≡ record txn.old { reads = record { spans = with_spans txn.old.reads.spans (spans_read self.wave); ts = txn.old.reads.ts } }) }
-        ensures told { (session clock begun : ℕ) (set : Setting) (k : Known) (later : List LaterPut) → IsCounted session clock begun k → InCall set k txn.old self.purpose self.wave → KeepsOutbox k txn.old later self.wave → self.purpose ≡ purposes.Read → step_of self.wave ≡ steps.Answered → IfOk result (λ answer. MayTellOpen set session k answer txn.new) }
+        ensures told { (session clock begun : ℕ) (set : Setting) (k : Known) (later : List LaterPut) → IsCounted session clock begun k → InCall set k txn.old self.purpose self.wave → KeepsOutbox set.course.loses k txn.old later self.wave → self.purpose ≡ purposes.Read → step_of self.wave ≡ steps.Answered → IfOk result (λ answer. MayTellOpen set session k answer txn.new) }
     {
         keep_spans(self.wave.messages(), &mut txn.reads)?;
         answer_of(alloc, self.wave.messages())

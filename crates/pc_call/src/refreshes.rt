@@ -9,7 +9,7 @@ ghost use Rattle.pc_wave.specs.declared.step.Step.TheVariants as steps;
 ghost use Rattle.pc_wave.specs.Messages.{step_of};
 ghost use Rattle.pc_world.specs.Known.{Known, reading_of};
 ghost use Rattle.pc_world.specs.Known.Statements.{Statement};
-ghost use Rattle.std.specs.Prelude.{◌≡◌, ℕ, List, IfOk, Some};
+ghost use Rattle.std.specs.Prelude.{Bool, ◌≡◌, ℕ, List, IfOk, Some};
 ghost use Rattle.pc_call.specs.Outbox.{MayWait};
 ghost use Rattle.pc_call.specs.Stages.{DecidesNow, GoesOnOrGivesUp, HasMessagesOrRestarts, HasOutbox, KeepsOutboxOn, TakesRefreshed};
 ghost use Rattle.pc_wave.specs.declared.message.Message.{Message};
@@ -43,10 +43,10 @@ impl OpenCall {
         later: &mut Later,
         reading: u64,
     ) -> Result<Refreshed, NoMemory>
-        ensures refreshed { (session clock begun n : ℕ) (set : Setting) (k : Known) (puts : List Message) → IsCounted session clock begun k → InCall set k txn.now self.purpose self.wave → self.purpose ≡ purposes.Refresh n puts → step_of self.wave ≡ steps.Answered → HasOutbox k txn.now later.old → MayWait set.course.pipelines later.old → reading_of k ≡ Some reading → IfOk result (GoesOnOrGivesUp set session k txn.now) }
+        ensures refreshed { (session clock begun n : ℕ) (set : Setting) (k : Known) (puts : List Message) → IsCounted session clock begun k → InCall set k txn.now self.purpose self.wave → self.purpose ≡ purposes.Refresh n puts → step_of self.wave ≡ steps.Answered → HasOutbox set.course.loses k txn.now later.old → MayWait set.course.pipelines later.old → reading_of k ≡ Some reading → IfOk result (GoesOnOrGivesUp set session k txn.now) }
         ensures takes { IfOk result (TakesRefreshed later.old later.new) }
         ensures alone { IfOk result HasMessagesOrRestarts }
-        ensures outbox { (k : Known) → HasOutbox k txn.now later.old → IfOk result (KeepsOutboxOn k txn.now later.new) }
+        ensures outbox { (loses : Bool) (k : Known) → HasOutbox loses k txn.now later.old → IfOk result (KeepsOutboxOn loses k txn.now later.new) }
     {
         let met = first_met(&self.wave)?;
         match met {
@@ -63,10 +63,10 @@ impl OpenCall {
         later: &mut Later,
         reading: u64,
     ) -> Result<Refreshed, NoMemory>
-        ensures stands { (session n : ℕ) (set : Setting) (k : Known) (s : Statement) (puts : List Message) → DecidesNow set.course.loses n k txn.now s puts → HasOutbox k txn.now later.old → MayWait set.course.pipelines later.old → self.purpose ≡ purposes.Refresh n puts → s.reading ≡ reading → SuitsFlightIn set.course.pipelines calls.Commit txn.now.in_flight → IfOk result (GoesOnOrGivesUp set session k txn.now) }
+        ensures stands { (session n : ℕ) (set : Setting) (k : Known) (s : Statement) (puts : List Message) → DecidesNow set.course.loses n k txn.now s puts → HasOutbox set.course.loses k txn.now later.old → MayWait set.course.pipelines later.old → self.purpose ≡ purposes.Refresh n puts → s.reading ≡ reading → SuitsFlightIn set.course.pipelines calls.Commit txn.now.in_flight → IfOk result (GoesOnOrGivesUp set session k txn.now) }
         ensures takes { IfOk result (TakesRefreshed later.old later.new) }
         ensures alone { IfOk result HasMessagesOrRestarts }
-        ensures outbox { (k : Known) → HasOutbox k txn.now later.old → IfOk result (KeepsOutboxOn k txn.now later.new) }
+        ensures outbox { (loses : Bool) (k : Known) → HasOutbox loses k txn.now later.old → IfOk result (KeepsOutboxOn loses k txn.now later.new) }
     {
         let OpenCall { purpose, .. } = self;
         match purpose {

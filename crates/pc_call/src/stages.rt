@@ -1,4 +1,4 @@
-ghost use Rattle.std.specs.Prelude.{◌≡◌, ◌≢◌, List, [], ℕ, true, Some, IfOk, IfSome, find, is_some};
+ghost use Rattle.std.specs.Prelude.{Bool, ◌≡◌, ◌≢◌, List, [], ℕ, true, Some, IfOk, IfSome, find, is_some};
 ghost use Rattle.std.specs.Option.{option_copied};
 ghost use Rattle.pc_call.specs.Setting.{Setting};
 ghost use Rattle.pc_proto.specs.declared.call.Call.TheVariants as calls;
@@ -67,8 +67,8 @@ impl OpenCall {
     ) -> Result<OpenCall, NoMemory>
         ensures takes { IfOk result (λ made. CommitsBy later.old later.new made) }
         ensures unsent { IfOk result (λ made. AreToSendOrOnWay made.wave) }
-        ensures outbox { (k : Known) → HasOutbox k txn.now later.old → IfOk result (λ made. KeepsOutbox k txn.now later.new made.wave) }
-        ensures stands { (set : Setting) (k : Known) (s : Statement) → DecidesNow set.course.loses refusals k txn.now s puts.now → txn.now.in_flight ≢ [] → HasOutbox k txn.now later.old → MayWait set.course.pipelines later.old → s.reading ≡ reading → txn.now.anchor ≡ Some anchor.now → SuitsFlightIn set.course.pipelines calls.Commit txn.now.in_flight → IfOk result (λ made. InCall set k txn.now made.purpose made.wave) }
+        ensures outbox { (loses : Bool) (k : Known) → HasOutbox loses k txn.now later.old → IfOk result (λ made. KeepsOutbox loses k txn.now later.new made.wave) }
+        ensures stands { (set : Setting) (k : Known) (s : Statement) → DecidesNow set.course.loses refusals k txn.now s puts.now → txn.now.in_flight ≢ [] → HasOutbox set.course.loses k txn.now later.old → MayWait set.course.pipelines later.old → s.reading ≡ reading → txn.now.anchor ≡ Some anchor.now → SuitsFlightIn set.course.pipelines calls.Commit txn.now.in_flight → IfOk result (λ made. InCall set k txn.now made.purpose made.wave) }
     {
         let mut wave = put_wave(alloc, txn, later, anchor, puts.messages())?;
         wave.add(txn.stage(alloc, anchor, reading)?)?;
@@ -123,8 +123,8 @@ impl OpenCall {
         ensures some { (n : ℕ) → self.purpose ≡ purposes.Stage n → IfOk result (λ o. is_some o ≡ true) }
         ensures takes { IfOk result (λ next. IfSome next (TakesStaged later.old later.new)) }
         ensures unsent { IfOk result (λ next. IfSome next HasMessagesOn) }
-        ensures outbox { (k : Known) → HasOutbox k txn.now later.old → IfOk result (λ next. IfSome next (KeepsOutboxStaged k txn.now later.new)) }
-        ensures stands { (session clock begun n : ℕ) (set : Setting) (k : Known) → IsCounted session clock begun k → CallStagesOn set.course.loses recorded k txn.now self → HasOutbox k txn.now later.old → MayWait set.course.pipelines later.old → reading_of k ≡ Some reading → self.purpose ≡ purposes.Stage n → SuitsFlightIn set.course.pipelines calls.Commit txn.now.in_flight → IfOk result (λ next. IfSome next (IsStagedOn set k txn.now)) }
+        ensures outbox { (loses : Bool) (k : Known) → HasOutbox loses k txn.now later.old → IfOk result (λ next. IfSome next (KeepsOutboxStaged loses k txn.now later.new)) }
+        ensures stands { (session clock begun n : ℕ) (set : Setting) (k : Known) → IsCounted session clock begun k → CallStagesOn set.course.loses recorded k txn.now self → HasOutbox set.course.loses k txn.now later.old → MayWait set.course.pipelines later.old → reading_of k ≡ Some reading → self.purpose ≡ purposes.Stage n → SuitsFlightIn set.course.pipelines calls.Commit txn.now.in_flight → IfOk result (λ next. IfSome next (IsStagedOn set k txn.now)) }
     {
         let OpenCall { purpose, wave } = self;
         match refusals_in(&purpose) {
@@ -168,8 +168,8 @@ fn stage_on(
     ensures some { IfOk result (λ o. is_some o ≡ true) }
     ensures takes { IfOk result (λ next. IfSome next (TakesStaged later.old later.new)) }
     ensures unsent { IfOk result (λ next. IfSome next HasMessagesOn) }
-    ensures outbox { (k : Known) → HasOutbox k txn.now later.old → IfOk result (λ next. IfSome next (KeepsOutboxStaged k txn.now later.new)) }
-    ensures stands { (set : Setting) (k : Known) → MayStageOn set.course.loses recorded refusals k txn.now wave → HasOutbox k txn.now later.old → MayWait set.course.pipelines later.old → reading_of k ≡ Some reading → SuitsFlightIn set.course.pipelines calls.Commit txn.now.in_flight → IfOk result (λ next. IfSome next (IsStagedOn set k txn.now)) }
+    ensures outbox { (loses : Bool) (k : Known) → HasOutbox loses k txn.now later.old → IfOk result (λ next. IfSome next (KeepsOutboxStaged loses k txn.now later.new)) }
+    ensures stands { (set : Setting) (k : Known) → MayStageOn set.course.loses recorded refusals k txn.now wave → HasOutbox set.course.loses k txn.now later.old → MayWait set.course.pipelines later.old → reading_of k ≡ Some reading → SuitsFlightIn set.course.pipelines calls.Commit txn.now.in_flight → IfOk result (λ next. IfSome next (IsStagedOn set k txn.now)) }
 {
     if refusals.are_used_up() {
         let moved = Answer::Moved { ts: recorded };

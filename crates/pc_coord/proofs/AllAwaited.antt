@@ -1,5 +1,5 @@
 -- While a call waits for puts, or a conflict is to have its round, none for which it waits stands aside: each was heard, or is on its way.
-use Rattle.std.proofs.Common.{◌<◌, ◌≡◌, ℕ, zero, suc, ◌+◌, ◌≤◌, Bool, true, false, ◌&&◌, ◌||◌, ◌⊎◌, inl, inr, List, [], ◌∷◌, ◌++◌, Option, None, Some, refl, sym, ap, ◌∙◌, subst, arith, All, Any, Contains, IsTrue}
+use Rattle.std.proofs.Common.{◌<◌, ◌≡◌, ℕ, zero, suc, ◌+◌, Bool, true, false, ◌&&◌, ◌||◌, ◌⊎◌, inl, inr, List, [], ◌∷◌, ◌++◌, Option, None, Some, refl, sym, ap, ◌∙◌, subst, arith, All, Any, Contains, IsTrue}
 use Rattle.std.proofs.lemmas.Bool.{eq-eqb, or_right}
 use Rattle.std.proofs.lemmas.List.Elements.{All-cons, All-contains, All-map, All-nil, All-weaker}
 use Rattle.std.proofs.lemmas.Option.{same_Some}
@@ -17,6 +17,7 @@ use Rattle.pc_call.specs.Setting.{Setting}
 use Rattle.pc_call.specs.Waiting.{BeginsBehindProofs, SendsWrite, depends_on, waits_on}
 use Rattle.pc_coord.proofs.Aside.{awaited_in, found_in}
 use Rattle.pc_coord.proofs.Blocks.{round_idle}
+use Rattle.pc_coord.proofs.Lists.{and_once, every}
 use Rattle.pc_coord.proofs.Outbox.{any_to, awaits_in, has_own}
 use Rattle.pc_coord.proofs.Steps.{round_step}
 use Rattle.pc_coord.proofs.Tells.{all_sent, any_is_heard, was_before, was_now}
@@ -65,8 +66,8 @@ put_beside : (id : TxnId) (epoch seq : ℕ) (r : Request) → is_put_of id epoch
 put_beside id epoch seq (requests.Put meta own ts key value) is = refl
 put_beside id epoch seq r is = absurd cc
 
--- a call that waits for a write of this key depends on it, or waits for all
-waits_true : (k : Known) (call : Call) (all : Bool) (key : List ℕ) → BeginsBehindProofs call → (IsFull k → (own : List ℕ) (value : Option (List ℕ)) → call ≡ write_call own value → all ≡ true) → WaitsFor k key call → waits_on call all key ≡ true
+-- a call that waits for a write of this key, as its session has it, depends on it, or waits for all
+pub waits_true : (k : Known) (call : Call) (all : Bool) (key : List ℕ) → BeginsBehindProofs call → (IsFull k → (own : List ℕ) (value : Option (List ℕ)) → call ≡ write_call own value → all ≡ true) → WaitsFor k key call → waits_on call all key ≡ true
 waits_true k (calls.Get own) all key begins fills same = or_right all (depends_on (calls.Get own) key) (same_key-equal key own (sym same))
 waits_true k (calls.Scan span) all key begins fills within = or_right all (depends_on (calls.Scan span) key) within
 waits_true k (calls.Put own value) all key begins fills (inl same) = or_right all (depends_on (calls.Put own value) key) (same_key-equal key own (sym same))
@@ -95,11 +96,7 @@ none_there put there = omega (arith, there.1)
 abbrev IsPlain : Request → Type 0
 IsPlain r = ((is_put r || is_stage r) ≡ false) × ((holder : TxnMeta) (ts : ℕ) (key : List ℕ) → MayAnswer r (replies.Conflict holder ts key) → ⊥)
 
-every : {X : Type 0} (P : X → Type 0) → ((x : X) → P x) → (xs : List X) → All P xs
-every P each [] = All-nil P
-every P each (x ∷ xs) = All-cons P x xs (each x) (every P each xs)
-
-module _ (set : Setting) (k : Known) (x : OpenTxn) (p : Purpose) (ms : List Message) (w : InCall set k x p ms) (b : Bool) (later : List LaterPut) (a : KeepsAside b k x p later ms) where
+module _ (set : Setting) (k : Known) (x : OpenTxn) (p : Purpose) (ms : List Message) (w : InCall set k x p ms) (b : Bool) (later : List LaterPut) (a : KeepsAside set.course.loses b k x p later ms) where
   -- No put for which the call waits stands aside.
   abbrev NoneAside : Type 0
   NoneAside = (f : WriteInFlight) → Contains x.in_flight f → (put : LaterPut) → Contains later put → has_put f.seq put.request ≡ true → WaitsFor k f.key w.s.call → ⊥
@@ -155,7 +152,7 @@ module _ (set : Setting) (k : Known) (x : OpenTxn) (p : Purpose) (ms : List Mess
   on_way : (m : Sent) → Any (IsOnWayAs m) ms → wave_awaits m.number ms ≡ true
   on_way m out = any_to (IsOnWayAs m) (wave_awaits m.number ms ≡ true) ms (λ q there on. awaits_in m.number ms q there on.waited) out
 
-  module _ (none : NoneAside) where
+  module _ (quiet : set.course.loses ≡ false) (none : NoneAside) where
     abbrev t : Txn
     t = a.outbox.has.t
 
@@ -188,15 +185,11 @@ module _ (set : Setting) (k : Known) (x : OpenTxn) (p : Purpose) (ms : List Mess
     of_now m (inr (inr out)) aw = inr (on_way m out)
 
     all_awaited : All IsHeardOrAwaited k.sent
-    all_awaited = all_sent k w.split IsHeardOrAwaited (All-weaker (IsHeardOrLeft (heard_before k) k.heard_now t later ms) IsHeardOrAwaited of_before (sent_before k) a.outbox.has.left) (All-weaker (IsHeardOrOut k ms) IsHeardOrAwaited of_now k.sent_now a.heard)
+    all_awaited = all_sent k w.split IsHeardOrAwaited (All-weaker (IsHeardOrLeft (heard_before k) k.heard_now t later ms) IsHeardOrAwaited of_before (sent_before k) (a.outbox.has.left quiet)) (All-weaker (IsHeardOrOut k ms) IsHeardOrAwaited of_now k.sent_now (a.heard quiet))
 
 none_may : (b : Bool) (later : List LaterPut) → b ≡ false → MayWait b later → later ≡ []
 none_may true later isnt may = absurd cc
 none_may false later isnt may = may
-
-and_off : (b : Bool) → (b && true) ≡ false → b ≡ false
-and_off true e = absurd cc
-and_off false e = refl
 
 sent_unsent : (n : ℕ) (q : Progress) → q ≡ progresses.Sent n → progress_to_send q ≡ true → ⊥
 sent_unsent n q is sends = let e : false ≡ true = sym (ap progress_to_send is) ∙ sends in cc
@@ -207,7 +200,7 @@ write_waits b p ms later m there out unsent may writes = none_may b later (by (b
   where
     by : (e : Bool) → (b && is_writing p) ≡ e → AreUnsent e ms → b ≡ false
     by true is all = absurd (out (All-contains (λ m. is_to_send m ≡ true) ms m all there))
-    by false is none = and_off b (sym (ap (λ p. b && is_writing p) writes) ∙ is)
+    by false is none = and_once b (sym (ap (λ p. b && is_writing p) writes) ∙ is)
 
 module _ (c : Coordination) (k : Known) (call : OpenCall) (h : HasCallDue false c k call) (may : MayWait c.pipelining c.later) where
   abbrev set : Setting
@@ -222,7 +215,7 @@ module _ (c : Coordination) (k : Known) (call : OpenCall) (h : HasCallDue false 
       let far : IsOnItsWay set.course k number o.0.request × (o.0.conflicts < MOST_CONFLICTS) = subst (λ p. IsAsFar set.course k o.0.request o.0.conflicts p) sent st.as_far in
       let same : o.0.request ≡ request = same_Some o.0.request request (sym far.0.out.said ∙ said) in
       elim (none_aside set k h.x call.purpose call.wave h.in_call c.pipelining c.later h.aside (write_waits c.pipelining call.purpose call.wave c.later o.0 o.1 (sent_unsent number o.0.progress sent) h.aside.unsent may)) [
-        | inl none ↦ all_awaited set k h.x call.purpose call.wave h.in_call c.pipelining c.later h.aside none
+        | inl none ↦ all_awaited set k h.x call.purpose call.wave h.in_call c.pipelining c.later h.aside refl none
         | inr plain ↦
             absurd
             (let isnt = (All-contains (λ (m : Message). IsPlain m.request) call.wave o.0 plain o.1).0 in
@@ -241,7 +234,7 @@ module _ (c : Coordination) (k : Known) (call : OpenCall) (h : HasCallDue false 
         | inl none ↦
             All-weaker (λ m. IsAwaitedPut k m.request → IsTrue (is_heard k.heard m) ⊎ (wave_awaits m.number call.wave ≡ true)) (λ m. IsAwaitedPut k m.request → IsTrue (is_heard k.heard m))
             (λ m each aw. elim (each aw) [ inl was ↦ was | inr waits ↦ absurd (let e : false ≡ true = sym (round_idle m.number call.wave number conflict due) ∙ waits in cc) ]) k.sent
-            (all_awaited set k h.x call.purpose call.wave h.in_call c.pipelining c.later h.aside none)
+            (all_awaited set k h.x call.purpose call.wave h.in_call c.pipelining c.later h.aside refl none)
         | inr plain ↦ absurd ((All-contains (λ (m : Message). IsPlain m.request) call.wave f.0 plain there).1 met.holder met.ts met.key (subst (MayAnswer f.0.request) met.is met.kind))
       ]
 

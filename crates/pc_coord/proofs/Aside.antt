@@ -1,5 +1,5 @@
 -- What stands aside of an open call stands so still once a message was sent, a reply heard, or a round made.
-use Rattle.std.proofs.Common.{◌<◌, ◌≡◌, ◌≢◌, ℕ, zero, suc, ◌+◌, ◌≤◌, ◌==◌, Bool, true, false, cond, ◌&&◌, ◌||◌, ◌⊎◌, inl, inr, List, [], ◌∷◌, ◌++◌, find, map, Option, None, Some, refl, sym, ap, ◌∙◌, subst, arith, All, Any, Contains, IsTrue}
+use Rattle.std.proofs.Common.{◌<◌, ◌≡◌, ◌≢◌, ℕ, zero, suc, ◌+◌, ◌==◌, Bool, true, false, cond, ◌&&◌, ◌||◌, ◌⊎◌, inl, inr, List, [], ◌∷◌, ◌++◌, find, map, Option, None, Some, refl, sym, ap, ◌∙◌, subst, arith, All, Any, Contains, IsTrue}
 use Rattle.std.specs.List.{list_all, list_any}
 use Rattle.std.specs.Option.{option_or}
 use Rattle.std.proofs.lemmas.Bool.{eq-eqb}
@@ -10,17 +10,16 @@ use Rattle.pc_base.specs.declared.limits.TheConstants.{MOST_CONFLICTS}
 use Rattle.pc_base.specs.declared.transaction.TxnId.{TxnId}
 use Rattle.pc_base.specs.Span.{same_key}
 use Rattle.pc_base.specs.Transaction.{same_txn}
-use Rattle.pc_call.proofs.Facts.{open_is}
 use Rattle.pc_call.specs.declared.later.LaterPut.{LaterPut}
 use Rattle.pc_call.specs.declared.purpose.Purpose.{Purpose}
 use Rattle.pc_call.specs.declared.purpose.Purpose.TheVariants as purposes
 use Rattle.pc_call.specs.Learned.{known_heard, known_sent}
-use Rattle.pc_call.specs.Opening.{after_send, laid_at, laid_first, laid_with, staged_by}
+use Rattle.pc_call.specs.Opening.{after_send, laid_with, staged_by}
 use Rattle.pc_call.specs.Outbox.{IsApartFrom, IsHeardOrLeft, IsOnWayAs, IsReplyToMessage, OutboxStands, WaitsInOutbox, has_put}
 use Rattle.pc_call.specs.Serving.{InCall}
 use Rattle.pc_call.specs.Setting.{Setting}
-use Rattle.pc_call.specs.Stages.{HasOutbox, KeepsOutbox, WaitsBeside}
-use Rattle.pc_coord.proofs.Outbox.{GoesOnAs, all_wait, any_each, any_to, awaits_in, has_own, keeps_idle, left_on, same_sent, still_heard}
+use Rattle.pc_call.specs.Stages.{KeepsOutbox, WaitsBeside}
+use Rattle.pc_coord.proofs.Outbox.{GoesOnAs, all_wait, any_to, awaits_in, has_own, keeps_idle, left_on, same_sent, still_heard}
 use Rattle.pc_coord.specs.Aside.{AreUnsent, AsksForOthers, HasAside, HasProofs, IsFreeToLay, IsHeardOrOut, KeepsAside, LeavesNoneWaiting}
 use Rattle.pc_coord.specs.Coordination.{is_writing}
 use Rattle.pc_flight.specs.declared.write.WriteInFlight.{WriteInFlight}
@@ -36,7 +35,6 @@ use Rattle.pc_txn.specs.declared.txn.OpenTxn.{OpenTxn}
 use Rattle.pc_txn.specs.Opened.{meta_now, with_next_write}
 use Rattle.pc_txn.specs.Staged.{with_stage}
 use Rattle.pc_txn.specs.Standing.{is_query_of}
-use Rattle.pc_wave.proofs.Changed.{found_all, found_passes}
 use Rattle.pc_wave.proofs.ForCall.{same_before}
 use Rattle.pc_wave.proofs.Hearing.{awaits_as}
 use Rattle.pc_wave.proofs.Sending.{sends_first}
@@ -44,7 +42,7 @@ use Rattle.pc_wave.specs.declared.message.Message.{Message}
 use Rattle.pc_wave.specs.declared.message.Progress.{Progress}
 use Rattle.pc_wave.specs.declared.message.Progress.TheVariants as progresses
 use Rattle.pc_wave.specs.declared.step.Step.TheVariants as steps
-use Rattle.pc_wave.specs.Messages.{awaits_at, back_with, back_with_by, conflicts_at, first_changed, first_in_conflict, goes_again, has_answer, is_out, is_to_send, progress_awaits, progress_conflicts, progress_out, progress_to_send, sent_under, step_of, wave_awaits}
+use Rattle.pc_wave.specs.Messages.{awaits_at, back_with, back_with_by, conflicts_at, first_changed, first_in_conflict, goes_again, has_answer, is_to_send, progress_awaits, progress_conflicts, progress_to_send, sent_under, step_of, wave_awaits}
 use Rattle.pc_wave.specs.Standing.{HasMore, IsAsFar, IsHeardTo, IsOnItsWay, MessageStands, goes_beside}
 use Rattle.pc_world.specs.Known.{Known, call_in, first_if, open_txn}
 use Rattle.pc_world.specs.Known.Traffic.{Heard, Sent, request_sent}
@@ -197,7 +195,7 @@ last_heard m (g ∷ hs) h same = by (g.number == m.number) (last_heard m hs h sa
     by true is = refl
     by false is = is
 
-module _ (set : Setting) (k : Known) (x : OpenTxn) (p : Purpose) (ms : List Message) (w : InCall set k x p ms) (b : Bool) (later : List LaterPut) (a : KeepsAside b k x p later ms) (number : ℕ) (reply : Reply) (h : Heard) (waited : wave_awaits number ms ≡ true) (is : IsHeardTo k number reply h) where
+module _ (set : Setting) (k : Known) (x : OpenTxn) (p : Purpose) (ms : List Message) (w : InCall set k x p ms) (b : Bool) (later : List LaterPut) (a : KeepsAside set.course.loses b k x p later ms) (number : ℕ) (reply : Reply) (h : Heard) (waited : wave_awaits number ms ≡ true) (is : IsHeardTo k number reply h) where
   abbrev k2 : Known
   k2 = known_heard h k
 
@@ -235,10 +233,10 @@ module _ (set : Setting) (k : Known) (x : OpenTxn) (p : Purpose) (ms : List Mess
   goes_on x2 meta = record { id = refl; epoch = refl; anchored = λ anchor is. is; up = omega arith; asked = λ seq ts was. asked_heard seq ts t k.sent h was; meta = meta }
 
   module _ (x2 : OpenTxn) (meta : (anchor : List ℕ) → meta_now x2 anchor ≡ meta_now x anchor) (there2 : (f : WriteInFlight) → Contains x.in_flight f → has_put f.seq h.request ≡ false → Contains x2.in_flight f)
-      (ms2 : List Message) (gone : (q : Message) → Contains ms q → (n : ℕ) → awaits_at n q ≡ true → (n ≡ number) ⊎ Contains ms2 q) where
-    way : (m : Sent) (q : Message) → Contains ms q → IsOnWayAs m q → Any (IsOnWayAs m) ms2 ⊎ Any (IsReplyToMessage m) k2.heard_now
-    way m q there on =
-        elim (gone q there m.number on.waited) [
+      (ms2 : List Message) (gone : set.course.loses ≡ false → (q : Message) → Contains ms q → (n : ℕ) → awaits_at n q ≡ true → (n ≡ number) ⊎ Contains ms2 q) where
+    way : set.course.loses ≡ false → (m : Sent) (q : Message) → Contains ms q → IsOnWayAs m q → Any (IsOnWayAs m) ms2 ⊎ Any (IsReplyToMessage m) k2.heard_now
+    way quiet m q there on =
+        elim (gone quiet q there m.number on.waited) [
           | inl same ↦
               inr
               (let n : h.number ≡ m.number = is.numbered ∙ sym same in
@@ -270,30 +268,30 @@ module _ (set : Setting) (k : Known) (x : OpenTxn) (p : Purpose) (ms : List Mess
         on (f ∷ hs) (suc n, g, low, same, r) = let e = on hs (n, g, omega (arith, low), same, r) in (suc e.0, e.1, omega (arith, e.2), e.3, e.4)
 
     -- the puts that wait do so still
-    pub outbox_heard : WaitsBeside (sent_before k2) (heard_before k2) k2.heard_now k2 x2 later ms2
+    pub outbox_heard : WaitsBeside set.course.loses (sent_before k2) (heard_before k2) k2.heard_now k2 x2 later ms2
     outbox_heard = record {
       t = t2;
       opened = open_heard k h t a.outbox.has.opened;
       stands =
           all_wait k k2 [] (h ∷ []) more.sent more.heard t t2 x x2 (goes_on x2 meta) later a.outbox.has.stands
-          (all_from_contains (λ put. (o : WaitsInOutbox k t x put) → Contains x2.in_flight o.w × All (λ m. has_put o.w.seq m.request ≡ false) [] × All (λ h. (h.number ≢ put.number) × (has_put o.w.seq h.request ≡ false)) (h ∷ [])) later
+          (all_from_contains (λ put. (o : WaitsInOutbox k t x put) → Contains x2.in_flight o.w × All (λ (m : Sent). has_put o.w.seq m.request ≡ false) [] × All (λ (h : Heard). (h.number ≢ put.number) × (has_put o.w.seq h.request ≡ false)) (h ∷ [])) later
           (λ put there o.
           let r = replied put there o in
           (there2 o.w o.there r.1, All-nil (λ (m : Sent). has_put o.w.seq m.request ≡ false), All-cons (λ h. (h.number ≢ put.number) × (has_put o.w.seq h.request ≡ false)) h [] r (All-nil (λ h. (h.number ≢ put.number) × (has_put o.w.seq h.request ≡ false))))));
-      left =
+      left = λ quiet.
           let same = same_before k k2 [] (h ∷ []) more in
-          left_on t t2 refl refl (heard_before k) (heard_before k2) k.heard_now k2.heard_now later ms ms2 (λ m was. subst (λ hs. IsTrue (is_heard hs m)) (sym same) was) kept way (sent_before k) a.outbox.has.left;
+          left_on t t2 refl refl (heard_before k) (heard_before k2) k.heard_now k2.heard_now later ms ms2 (λ m was. subst (λ hs. IsTrue (is_heard hs m)) (sym same) was) kept (way quiet) (sent_before k) (a.outbox.has.left quiet);
     }
 
-    pub all_heard : All (IsHeardOrOut k2 ms2) k2.sent_now
-    all_heard = All-weaker (IsHeardOrOut k ms) (IsHeardOrOut k2 ms2) by k.sent_now a.heard
+    pub all_heard : set.course.loses ≡ false → All (IsHeardOrOut k2 ms2) k2.sent_now
+    all_heard quiet = All-weaker (IsHeardOrOut k ms) (IsHeardOrOut k2 ms2) by k.sent_now (a.heard quiet)
       where
         by : (m : Sent) → IsHeardOrOut k ms m → IsHeardOrOut k2 ms2 m
         by m (inl was) = inl (still_heard m k.heard_now (h ∷ []) k2.heard_now refl was)
         by m (inr (inl beside)) = inr (inl beside)
         by m (inr (inr out)) =
             any_to (IsOnWayAs m) (IsHeardOrOut k2 ms2 m) ms
-            (λ q there on. elim (gone q there m.number on.waited) [ inl same ↦ inl (last_heard m k.heard_now h (is.numbered ∙ sym same)) | inr stays ↦ inr (inr (stays.0, q, stays.1, stays.2, on)) ]) out
+            (λ q there on. elim (gone quiet q there m.number on.waited) [ inl same ↦ inl (last_heard m k.heard_now h (is.numbered ∙ sym same)) | inr stays ↦ inr (inr (stays.0, q, stays.1, stays.2, on)) ]) out
 
   pub others_heard : AsksForOthers k2
   others_heard = others_as k k2 t t2 a.outbox.has.opened (open_heard k h t a.outbox.has.opened) refl [] (sym (append-nil k.sent_now)) (All-nil (λ (m : Sent). goes_beside m.request ≡ true → is_query_of t.id m.request ≡ false)) a.others
@@ -314,22 +312,22 @@ module _ (set : Setting) (k : Known) (x : OpenTxn) (p : Purpose) (ms : List Mess
 
   -- the call goes on by its messages
   pub aside_back : (x2 : OpenTxn) → ((anchor : List ℕ) → meta_now x2 anchor ≡ meta_now x anchor) → ((f : WriteInFlight) → Contains x.in_flight f → has_put f.seq h.request ≡ false → Contains x2.in_flight f)
-      → IsFreeToLay (b && is_writing p) k2 x2 → KeepsAside b k2 x2 p later back
+      → IsFreeToLay (b && is_writing p) k2 x2 → KeepsAside set.course.loses b k2 x2 p later back
   aside_back x2 meta there2 free = record {
-    outbox = record { has = outbox_heard x2 meta there2 back back_gone; apart = apart_changed (awaits_at number) (back_with number reply) back_request ms later a.outbox.apart };
+    outbox = record { has = outbox_heard x2 meta there2 back (λ quiet. back_gone); apart = apart_changed (awaits_at number) (back_with number reply) back_request ms later a.outbox.apart };
     joined = a.joined;
     some = proofs_changed (awaits_at number) (back_with number reply) p ms a.some;
-    heard = all_heard x2 meta there2 back back_gone;
+    heard = all_heard x2 meta there2 back (λ quiet. back_gone);
     others = others_heard;
     free = free;
     unsent = back_unsent (b && is_writing p) number ms back a.unsent waited;
   }
 
-  -- or no message of it is on its way any more
-  pub aside_over : ((q : Message) → Contains ms q → (n : ℕ) → awaits_at n q ≡ true → n ≡ number) → (x2 : OpenTxn) → ((anchor : List ℕ) → meta_now x2 anchor ≡ meta_now x anchor)
-      → ((f : WriteInFlight) → Contains x.in_flight f → has_put f.seq h.request ≡ false → Contains x2.in_flight f) → HasAside k2 x2 later
+  -- or, where nothing is lost, no message of it is on its way any more
+  pub aside_over : (set.course.loses ≡ false → (q : Message) → Contains ms q → (n : ℕ) → awaits_at n q ≡ true → n ≡ number) → (x2 : OpenTxn) → ((anchor : List ℕ) → meta_now x2 anchor ≡ meta_now x anchor)
+      → ((f : WriteInFlight) → Contains x.in_flight f → has_put f.seq h.request ≡ false → Contains x2.in_flight f) → HasAside set.course.loses k2 x2 later
   aside_over alone x2 meta there2 =
-      let gone : (q : Message) → Contains ms q → (n : ℕ) → awaits_at n q ≡ true → (n ≡ number) ⊎ Contains [] q = λ q there n on. inl (alone q there n on) in
+      let gone : set.course.loses ≡ false → (q : Message) → Contains ms q → (n : ℕ) → awaits_at n q ≡ true → (n ≡ number) ⊎ Contains [] q = λ quiet q there n on. inl (alone quiet q there n on) in
       record { outbox = outbox_heard x2 meta there2 [] gone; heard = all_heard x2 meta there2 [] gone; others = others_heard }
 
 -- a message that is alone waits under its number alone
@@ -344,10 +342,10 @@ lone number ms m one waits q there n on = by (subst (λ ms. Contains ms q) one t
     by mine o = one_number n number q on (subst (λ m. awaits_at number m ≡ true) (sym (only o.0 o.1) ∙ only q mine) o.2)
 
 -- where no reply to the messages is waited for, they stand aside of none
-pub aside_idle : (b : Bool) (k : Known) (x : OpenTxn) (p : Purpose) (later : List LaterPut) (ms : List Message) → KeepsAside b k x p later ms → ((number : ℕ) → wave_awaits number ms ≡ false) → HasAside k x later
+pub aside_idle : {l : Bool} (b : Bool) (k : Known) (x : OpenTxn) (p : Purpose) (later : List LaterPut) (ms : List Message) → KeepsAside l b k x p later ms → ((number : ℕ) → wave_awaits number ms ≡ false) → HasAside l k x later
 aside_idle b k x p later ms a idle = record {
   outbox = keeps_idle k x later ms a.outbox idle;
-  heard = All-weaker (IsHeardOrOut k ms) (IsHeardOrOut k []) by k.sent_now a.heard;
+  heard = λ quiet. All-weaker (IsHeardOrOut k ms) (IsHeardOrOut k []) by k.sent_now (a.heard quiet);
   others = a.others;
 }
   where
@@ -357,12 +355,12 @@ aside_idle b k x p later ms a idle = record {
     by m (inr (inr out)) = any_to (IsOnWayAs m) (IsHeardOrOut k [] m) ms (λ q there on. let e : false ≡ true = sym (idle m.number) ∙ awaits_in m.number ms q there on.waited in absurd cc) out
 
 -- a call goes on by messages of which none is waited for but what waited in the outbox
-pub aside_on : (b : Bool) (k : Known) (x : OpenTxn) (p : Purpose) (later later2 : List LaterPut) (ms : List Message) → HasAside k x later → KeepsOutbox k x later2 ms → LeavesNoneWaiting p later2 → HasProofs p ms → IsFreeToLay (b && is_writing p) k x → AreUnsent (b && is_writing p) ms → KeepsAside b k x p later2 ms
+pub aside_on : {l : Bool} (b : Bool) (k : Known) (x : OpenTxn) (p : Purpose) (later later2 : List LaterPut) (ms : List Message) → HasAside l k x later → KeepsOutbox l k x later2 ms → LeavesNoneWaiting p later2 → HasProofs p ms → IsFreeToLay (b && is_writing p) k x → AreUnsent (b && is_writing p) ms → KeepsAside l b k x p later2 ms
 aside_on b k x p later later2 ms a o joined some free unsent = record {
   outbox = o;
   joined = joined;
   some = some;
-  heard = All-weaker (IsHeardOrOut k []) (IsHeardOrOut k ms) by k.sent_now a.heard;
+  heard = λ quiet. All-weaker (IsHeardOrOut k []) (IsHeardOrOut k ms) by k.sent_now (a.heard quiet);
   others = a.others;
   free = free;
   unsent = unsent;
@@ -425,7 +423,7 @@ out_unsent n (progresses.Sent number) is = refl
 out_unsent n (progresses.Met number conflict) is = absurd cc
 out_unsent n (progresses.Answered number reply) is = absurd cc
 
-module _ (set : Setting) (k : Known) (x : OpenTxn) (p : Purpose) (ms : List Message) (w : InCall set k x p ms) (b : Bool) (later : List LaterPut) (a : KeepsAside b k x p later ms) (number range : ℕ) (request : Request) (due : step_of ms ≡ steps.Send request) where
+module _ (set : Setting) (k : Known) (x : OpenTxn) (p : Purpose) (ms : List Message) (w : InCall set k x p ms) (b : Bool) (later : List LaterPut) (a : KeepsAside set.course.loses b k x p later ms) (number range : ℕ) (request : Request) (due : step_of ms ≡ steps.Send request) where
   abbrev ks : Known
   ks = known_sent number range request k
 
@@ -485,12 +483,12 @@ module _ (set : Setting) (k : Known) (x : OpenTxn) (p : Purpose) (ms : List Mess
       let f = kept_other is_to_send (sent_under number) ms q (out_unsent m.number q.progress on.waited) there in
       (f.0, q, f.1, f.2, on)
 
-  pub left_sent : (ms2 : List Message) → ((m : Sent) (q : Message) → Contains ms q → IsOnWayAs m q → Any (IsOnWayAs m) ms2) → All (IsHeardOrLeft (heard_before ks) ks.heard_now ts later ms2) (sent_before ks)
-  left_sent ms2 way =
+  pub left_sent : set.course.loses ≡ false → (ms2 : List Message) → ((m : Sent) (q : Message) → Contains ms q → IsOnWayAs m q → Any (IsOnWayAs m) ms2) → All (IsHeardOrLeft (heard_before ks) ks.heard_now ts later ms2) (sent_before ks)
+  left_sent quiet ms2 way =
       let more : HasMore k ks (m2 ∷ []) [] = record { sent = refl; sent_now = refl; heard = sym (append-nil k.heard); heard_now = sym (append-nil k.heard_now) } in
       let same = same_before k ks (m2 ∷ []) [] more in
       subst (λ l. All (IsHeardOrLeft (heard_before ks) k.heard_now ts later ms2) l) (sym (same_sent k ks (m2 ∷ []) refl refl))
-      (left_on tw ts refl refl (heard_before k) (heard_before ks) k.heard_now k.heard_now later ms ms2 (λ m was. subst (λ hs. IsTrue (is_heard hs m)) (sym same) was) (λ m is. is) (λ m q there on. inl (way m q there on)) (sent_before k) a.outbox.has.left)
+      (left_on tw ts refl refl (heard_before k) (heard_before ks) k.heard_now k.heard_now later ms ms2 (λ m was. subst (λ hs. IsTrue (is_heard hs m)) (sym same) was) (λ m is. is) (λ m q there on. inl (way m q there on)) (sent_before k) (a.outbox.has.left quiet))
 
   pub others_sent : AsksForOthers ks
   others_sent =
@@ -498,16 +496,16 @@ module _ (set : Setting) (k : Known) (x : OpenTxn) (p : Purpose) (ms : List Mess
       (All-cons (λ (m : Sent). goes_beside m.request ≡ true → is_query_of tw.id m.request ≡ false) m2 [] (λ beside. let e : false ≡ true = sym own_wave ∙ beside in absurd cc) (All-nil (λ (m : Sent). goes_beside m.request ≡ true → is_query_of tw.id m.request ≡ false))) a.others
 
   -- the call goes on
-  pub aside_sent : (b && is_writing p) ≡ false → KeepsAside b ks xs p later out
+  pub aside_sent : (b && is_writing p) ≡ false → KeepsAside set.course.loses b ks xs p later out
   aside_sent isnt = record {
     outbox = record {
-      has = record { t = ts; opened = open_sent k number range request tw a.outbox.has.opened; stands = wait_sent; left = left_sent out still_out };
+      has = record { t = ts; opened = open_sent k number range request tw a.outbox.has.opened; stands = wait_sent; left = λ quiet. left_sent quiet out still_out };
       apart = apart_changed is_to_send (sent_under number) (λ m. refl) ms later a.outbox.apart;
     };
     joined = a.joined;
     some = proofs_changed is_to_send (sent_under number) p ms a.some;
-    heard =
-        All-push (IsHeardOrOut ks out) k.sent_now m2 (All-weaker (IsHeardOrOut k ms) (IsHeardOrOut ks out) by k.sent_now a.heard)
+    heard = λ quiet.
+        All-push (IsHeardOrOut ks out) k.sent_now m2 (All-weaker (IsHeardOrOut k ms) (IsHeardOrOut ks out) by k.sent_now (a.heard quiet))
         (let f = changed_in is_to_send (sent_under number) ms first.0 first.1 in inr (inr (f.0, sent_under number first.0, f.1, f.2, record { waited = eq-eqb number number refl; asked = first.2 })));
     others = others_sent;
     free = subst (λ b. IsFreeToLay b ks xs) (sym isnt) tt;
@@ -528,21 +526,21 @@ met_waits n number (progresses.Met sent conflict) waits = absurd cc
 met_waits n number (progresses.Answered sent reply) waits = refl
 
 -- after its round, the message that met a conflict goes again: what stands aside does so still
-pub again_aside : (b : Bool) (k : Known) (x : OpenTxn) (p : Purpose) (later : List LaterPut) (ms : List Message) → KeepsAside b k x p later ms → (number : ℕ) → KeepsAside b k x p later (first_changed (conflicts_at number) goes_again ms)
+pub again_aside : {l : Bool} (b : Bool) (k : Known) (x : OpenTxn) (p : Purpose) (later : List LaterPut) (ms : List Message) → KeepsAside l b k x p later ms → (number : ℕ) → KeepsAside l b k x p later (first_changed (conflicts_at number) goes_again ms)
 again_aside b k x p later ms a number = record {
   outbox = record {
     has = record {
       t = a.outbox.has.t;
       opened = a.outbox.has.opened;
       stands = a.outbox.has.stands;
-      left =
-          left_on a.outbox.has.t a.outbox.has.t refl refl (heard_before k) (heard_before k) k.heard_now k.heard_now later ms again (λ m was. was) (λ m is. is) (λ m q there on. inl (way m q there on)) (sent_before k) a.outbox.has.left;
+      left = λ quiet.
+          left_on a.outbox.has.t a.outbox.has.t refl refl (heard_before k) (heard_before k) k.heard_now k.heard_now later ms again (λ m was. was) (λ m is. is) (λ m q there on. inl (way m q there on)) (sent_before k) (a.outbox.has.left quiet);
     };
     apart = apart_changed (conflicts_at number) goes_again (λ m. refl) ms later a.outbox.apart;
   };
   joined = a.joined;
   some = proofs_changed (conflicts_at number) goes_again p ms a.some;
-  heard = All-weaker (IsHeardOrOut k ms) (IsHeardOrOut k again) still k.sent_now a.heard;
+  heard = λ quiet. All-weaker (IsHeardOrOut k ms) (IsHeardOrOut k again) still k.sent_now (a.heard quiet);
   others = a.others;
   free = a.free;
   unsent = unsent (b && is_writing p) a.unsent;

@@ -1,5 +1,5 @@
 -- Messages of an open call that are waited for, and those that are sent.
-use Rattle.std.proofs.Common.{◌≡◌, ℕ, zero, suc, ◌+◌, ◌≤◌, ◌<◌, Bool, true, false, ◌||◌, ◌⊎◌, inl, inr, List, [], ◌∷◌, ◌++◌, find, Option, Some, refl, sym, ap, ◌∙◌, subst, arith, All, Contains}
+use Rattle.std.proofs.Common.{◌≡◌, ℕ, zero, suc, ◌+◌, ◌≤◌, ◌<◌, Bool, true, false, ◌||◌, ◌⊎◌, inl, inr, List, [], ◌∷◌, find, Option, Some, refl, sym, ap, ◌∙◌, subst, arith, All, Contains}
 use Rattle.std.specs.List.{list_all}
 use Rattle.std.proofs.lemmas.List.Elements.{All-append, All-cons, All-contains, All-head, All-map, All-nil, All-tail, All-weaker}
 use Rattle.std.proofs.lemmas.Option.{same_Some}
@@ -11,6 +11,7 @@ use Rattle.pc_call.specs.declared.purpose.Purpose.TheVariants as purposes
 use Rattle.pc_call.specs.Serving.{AreReadsOf, InCall, LaysLast, LaysNext, SendsAgain, Serves, StageStands, StageWave}
 use Rattle.pc_call.specs.Setting.{Setting}
 use Rattle.pc_coord.proofs.Aside.{awaited_in, found_in}
+use Rattle.pc_coord.proofs.Lists.{every}
 use Rattle.pc_proto.specs.declared.call.Call.{Call}
 use Rattle.pc_proto.specs.declared.call.Call.TheVariants as calls
 use Rattle.pc_proto.specs.declared.request.Request.{Request}
@@ -95,10 +96,6 @@ module _ (session : ℕ) (set : Setting) (k : Known) (x : OpenTxn) (p : Purpose)
   own_one m one own =
       let P : Message → Type 0 = λ m. IsOwn session k.begun m.request in
       subst (λ ms. All P ms) (sym one) (All-cons P m [] own (All-nil P))
-
-  every : {X : Type 0} (P : X → Type 0) → ((x : X) → P x) → (xs : List X) → All P xs
-  every P all [] = All-nil P
-  every P all (x ∷ xs) = All-cons P x xs (all x) (every P all xs)
 
   own_get_is : (key : List ℕ) → IsOwn session k.begun (own_get x key)
   own_get_is key = record { write = tt; record_of = λ id about whose. absurd cc; query_of = tt }

@@ -1,7 +1,7 @@
 -- A call begins by its own messages: what stands aside of it then.
-use Rattle.std.proofs.Common.{◌≡◌, ◌≢◌, ℕ, zero, suc, ◌+◌, ◌≤◌, ◌<◌, ◌==◌, Bool, true, false, cond, not, ◌&&◌, ◌||◌, ◌⊎◌, inl, inr, List, [], ◌∷◌, ◌++◌, count_by, filter, length, map, Option, None, Some, Result, Ok, Err, IfOk, refl, sym, ap, ◌∙◌, subst, arith, All, Any, Contains, IsTrue}
+use Rattle.std.proofs.Common.{◌≡◌, ℕ, zero, suc, ◌+◌, ◌≤◌, ◌==◌, Bool, true, false, cond, not, ◌&&◌, ◌||◌, List, [], ◌∷◌, count_by, length, map, Option, None, Some, refl, sym, ap, ◌∙◌, subst, arith, All, Any, Contains}
 use Rattle.std.specs.List.{list_any}
-use Rattle.std.proofs.lemmas.Bool.{eq-eqb, eqb-true, leb-true}
+use Rattle.std.proofs.lemmas.Bool.{eqb-true, leb-true}
 use Rattle.std.proofs.lemmas.List.Elements.{All-cons, All-contains, All-head, All-nil, All-tail, All-weaker}
 use Rattle.std.proofs.lemmas.List.Folds.{list_any-append}
 use Rattle.std.proofs.lemmas.Option.{same_Some}
@@ -17,17 +17,18 @@ use Rattle.pc_call.specs.Ended.{laying, own_messages}
 use Rattle.pc_call.specs.Fresh.{IsFresh}
 use Rattle.pc_call.specs.Outbox.{IsApartFrom, OutboxStands, WaitsInOutbox, has_put}
 use Rattle.pc_call.specs.Pieces.{scan_messages, spans_in}
-use Rattle.pc_call.specs.Serving.{IsSplit, write_call}
+use Rattle.pc_call.specs.Serving.{write_call}
 use Rattle.pc_call.specs.Stages.{HasOutbox, KeepsOutbox}
 use Rattle.pc_call.specs.Suiting.{SuitsFlightIn}
 use Rattle.pc_call.specs.Waiting.{depends_on, waits_for_all, waits_for_some, waits_on}
 use Rattle.pc_coord.proofs.Aside.{aside_on, free_aside, unsent_all, unsent_aside}
+use Rattle.pc_coord.proofs.Lists.{every}
 use Rattle.pc_coord.proofs.Outbox.{has_own, left_on, no_put}
 use Rattle.pc_coord.proofs.Tells.{before_heard_is}
 use Rattle.pc_coord.specs.Aside.{HasAside, HasProofs, IsFreeToLay, KeepsAside, LeavesNoneWaiting}
 use Rattle.pc_coord.specs.Coordination.{is_writing}
 use Rattle.pc_flight.specs.declared.write.WriteInFlight.{WriteInFlight}
-use Rattle.pc_flight.specs.InFlight.{AreInFlight, in_flight_as}
+use Rattle.pc_flight.specs.InFlight.{in_flight_as}
 use Rattle.pc_follows.specs.Heartbeats.{is_heartbeat}
 use Rattle.pc_follows.specs.PipelinedPuts.{IsFull, heard_before, proves, was_in_flight}
 use Rattle.pc_lists.proofs.Counts.{count-cons, one_if}
@@ -46,23 +47,23 @@ use Rattle.pc_txn.specs.Standing.{TxnStands}
 use Rattle.pc_txn.specs.Writing.{IsUnwrittenWhereUnproved, WasWriteSent}
 use Rattle.pc_wave.specs.declared.message.Message.{Message}
 use Rattle.pc_wave.specs.Messages.{is_to_send, message_to_send}
-use Rattle.pc_world.specs.Known.{Known, call_in, call_of}
+use Rattle.pc_world.specs.Known.{Known, call_in}
 use Rattle.pc_world.specs.Known.Statements.{Statement}
 use Rattle.pc_world.specs.Known.Traffic.{Heard, Sent}
 use Rattle.pc_world.specs.Known.Transactions.{Txn}
-use Rattle.pc_world.specs.Known.Writes.{Write, is_proved, last_seq_of, unproved}
+use Rattle.pc_world.specs.Known.Writes.{Write, is_proved, unproved}
 use Rattle.pc_world.specs.StageFate.{SentCommit, SentStage}
 use Rattle.pc_world.specs.Tell.Data.{sent_before}
 
 -- ---- the outbox beside messages that put nothing that waits
 
-pub keeps_with : (k : Known) (x : OpenTxn) (later : List LaterPut) (o : HasOutbox k x later) (ms : List Message) → All (IsApartFrom ms) later → KeepsOutbox k x later ms
+pub keeps_with : {l : Bool} (k : Known) (x : OpenTxn) (later : List LaterPut) (o : HasOutbox l k x later) (ms : List Message) → All (IsApartFrom ms) later → KeepsOutbox l k x later ms
 keeps_with k x later o ms apart = record {
   has = record {
     t = o.t;
     opened = o.opened;
     stands = o.stands;
-    left = left_on o.t o.t refl refl (heard_before k) (heard_before k) k.heard_now k.heard_now later [] ms (λ m is. is) (λ m is. is) (λ m q there on. absurd (omega (arith, there.1))) (sent_before k) o.left;
+    left = λ quiet. left_on o.t o.t refl refl (heard_before k) (heard_before k) k.heard_now k.heard_now later [] ms (λ m is. is) (λ m is. is) (λ m q there on. absurd (omega (arith, there.1))) (sent_before k) (o.left quiet);
   };
   apart = apart;
 }
@@ -70,22 +71,18 @@ keeps_with k x later o ms apart = record {
 plain_apart : (ms : List Message) → All (λ m. is_put m.request ≡ false) ms → (put : LaterPut) → IsApartFrom ms put
 plain_apart ms none put = All-weaker (λ m. is_put m.request ≡ false) (λ m. (seq : ℕ) → has_put seq put.request ≡ true → has_put seq m.request ≡ false) (λ m is seq waits. no_put seq m.request is) ms none
 
-every : {X : Type 0} (P : X → Type 0) → ((x : X) → P x) → (xs : List X) → All P xs
-every P all [] = All-nil P
-every P all (x ∷ xs) = All-cons P x xs (all x) (every P all xs)
-
 -- messages that put nothing
-pub keeps_plain : (k : Known) (x : OpenTxn) (later : List LaterPut) → HasOutbox k x later → (ms : List Message) → All (λ m. is_put m.request ≡ false) ms → KeepsOutbox k x later ms
+pub keeps_plain : {l : Bool} (k : Known) (x : OpenTxn) (later : List LaterPut) → HasOutbox l k x later → (ms : List Message) → All (λ m. is_put m.request ≡ false) ms → KeepsOutbox l k x later ms
 keeps_plain k x later o ms none = keeps_with k x later o ms (every (IsApartFrom ms) (plain_apart ms none) later)
 
-pub keeps_one : (k : Known) (x : OpenTxn) (later : List LaterPut) → HasOutbox k x later → (r : Request) → is_put r ≡ false → KeepsOutbox k x later (message_to_send r ∷ [])
+pub keeps_one : {l : Bool} (k : Known) (x : OpenTxn) (later : List LaterPut) → HasOutbox l k x later → (r : Request) → is_put r ≡ false → KeepsOutbox l k x later (message_to_send r ∷ [])
 keeps_one k x later o r none = keeps_plain k x later o (message_to_send r ∷ []) (All-cons (λ (m : Message). is_put m.request ≡ false) (message_to_send r) [] none (All-nil (λ (m : Message). is_put m.request ≡ false)))
 
 pub scans_plain : (x : OpenTxn) (spans : List Span) → All (λ (m : Message). is_put m.request ≡ false) (scan_messages x spans)
 scans_plain x [] = All-nil (λ (m : Message). is_put m.request ≡ false)
 scans_plain x (span ∷ spans) = All-cons (λ (m : Message). is_put m.request ≡ false) (message_to_send (own_scan x span)) (scan_messages x spans) refl (scans_plain x spans)
 
-module _ (k : Known) (stages : List SentStage) (commit : Option SentCommit) (t : Txn) (x : OpenTxn) (st : TxnStands k stages commit t x) (later : List LaterPut) (o : HasOutbox k x later) where
+module _ {l : Bool} (k : Known) (stages : List SentStage) (commit : Option SentCommit) (t : Txn) (x : OpenTxn) (st : TxnStands k stages commit t x) (later : List LaterPut) (o : HasOutbox l k x later) where
   seq_under : (f : WriteInFlight) → Contains x.in_flight f → f.seq ≤ x.seq
   seq_under f there = let low = seq_low k stages commit t x st f there in omega (arith, low, ap (λ x. x.seq) st.same)
 
@@ -104,7 +101,7 @@ module _ (k : Known) (stages : List SentStage) (commit : Option SentCommit) (t :
       by false e = refl
 
   -- and the next write of the transaction
-  pub keeps_write : (key : List ℕ) (value : Option (List ℕ)) → KeepsOutbox k x later (message_to_send (next_put x key value) ∷ [])
+  pub keeps_write : (key : List ℕ) (value : Option (List ℕ)) → KeepsOutbox l k x later (message_to_send (next_put x key value) ∷ [])
   keeps_write key value =
       let m : Message = message_to_send (next_put x key value) in
       keeps_with k x later o (m ∷ [])
@@ -117,11 +114,11 @@ module _ (k : Known) (stages : List SentStage) (commit : Option SentCommit) (t :
       each (put ∷ puts) st = All-cons (WaitsInOutbox k o.t x) put puts st.0 (each puts st.2)
 
   -- the messages by which a call goes on that waited for proofs
-  pub keeps_own : (splits : List (List ℕ)) (call : Call) (made : OpenCall) → own_messages splits call x ≡ Some made → KeepsOutbox k x later made.wave
-  keeps_own splits (calls.Get key) made is = subst (λ (c : OpenCall). KeepsOutbox k x later c.wave) (same_Some _ made is) (keeps_one k x later o (own_get x key) refl)
-  keeps_own splits (calls.Scan span) made is = subst (λ (c : OpenCall). KeepsOutbox k x later c.wave) (same_Some _ made is) (keeps_plain k x later o (scan_messages x (spans_in splits span)) (scans_plain x (spans_in splits span)))
-  keeps_own splits (calls.Put key value) made is = subst (λ (c : OpenCall). KeepsOutbox k x later c.wave) (same_Some _ made is) (keeps_write key (Some value))
-  keeps_own splits (calls.Delete key) made is = subst (λ (c : OpenCall). KeepsOutbox k x later c.wave) (same_Some _ made is) (keeps_write key None)
+  pub keeps_own : (splits : List (List ℕ)) (call : Call) (made : OpenCall) → own_messages splits call x ≡ Some made → KeepsOutbox l k x later made.wave
+  keeps_own splits (calls.Get key) made is = subst (λ (c : OpenCall). KeepsOutbox l k x later c.wave) (same_Some _ made is) (keeps_one k x later o (own_get x key) refl)
+  keeps_own splits (calls.Scan span) made is = subst (λ (c : OpenCall). KeepsOutbox l k x later c.wave) (same_Some _ made is) (keeps_plain k x later o (scan_messages x (spans_in splits span)) (scans_plain x (spans_in splits span)))
+  keeps_own splits (calls.Put key value) made is = subst (λ (c : OpenCall). KeepsOutbox l k x later c.wave) (same_Some _ made is) (keeps_write key (Some value))
+  keeps_own splits (calls.Delete key) made is = subst (λ (c : OpenCall). KeepsOutbox l k x later c.wave) (same_Some _ made is) (keeps_write key None)
   keeps_own splits call made is = absurd cc
 
 -- ---- where a write is laid
@@ -257,28 +254,28 @@ rollback_suits false call flight is = subst (λ c. SuitsFlightIn false c flight)
 
 -- ---- what waits stands aside of a call that begins
 
-module _ (b : Bool) (k : Known) (x : OpenTxn) (later : List LaterPut) (h : HasAside k x later) where
+module _ {l : Bool} (b : Bool) (k : Known) (x : OpenTxn) (later : List LaterPut) (h : HasAside l k x later) where
   -- which puts nothing
-  pub plain_aside : (p : Purpose) (ms : List Message) → All (λ m. is_put m.request ≡ false) ms → LeavesNoneWaiting p later → HasProofs p ms → is_writing p ≡ false → KeepsAside b k x p later ms
+  pub plain_aside : (p : Purpose) (ms : List Message) → All (λ m. is_put m.request ≡ false) ms → LeavesNoneWaiting p later → HasProofs p ms → is_writing p ≡ false → KeepsAside l b k x p later ms
   plain_aside p ms none joined some plain = aside_on b k x p later later ms h (keeps_plain k x later h.outbox ms none) joined some (free_aside b p k x plain) (unsent_aside b p ms plain)
 
-  pub one_aside : (p : Purpose) (ms : List Message) (r : Request) → ms ≡ message_to_send r ∷ [] → is_put r ≡ false → LeavesNoneWaiting p later → HasProofs p ms → is_writing p ≡ false → KeepsAside b k x p later ms
+  pub one_aside : (p : Purpose) (ms : List Message) (r : Request) → ms ≡ message_to_send r ∷ [] → is_put r ≡ false → LeavesNoneWaiting p later → HasProofs p ms → is_writing p ≡ false → KeepsAside l b k x p later ms
   one_aside p ms r one none joined some plain =
       plain_aside p ms (subst (λ ms. All (λ (m : Message). is_put m.request ≡ false) ms) (sym one) (All-cons (λ (m : Message). is_put m.request ≡ false) (message_to_send r) [] none (All-nil (λ (m : Message). is_put m.request ≡ false)))) joined some plain
 
-  pub get_aside : (key : List ℕ) (made : OpenCall) → made ≡ record { purpose = purposes.Read; wave = message_to_send (own_get x key) ∷ [] } → KeepsAside b k x made.purpose later made.wave
+  pub get_aside : (key : List ℕ) (made : OpenCall) → made ≡ record { purpose = purposes.Read; wave = message_to_send (own_get x key) ∷ [] } → KeepsAside l b k x made.purpose later made.wave
   get_aside key made is =
-      subst (λ (c : OpenCall). KeepsAside b k x c.purpose later c.wave) (sym is) (one_aside purposes.Read (message_to_send (own_get x key) ∷ []) (own_get x key) refl refl tt tt refl)
+      subst (λ (c : OpenCall). KeepsAside l b k x c.purpose later c.wave) (sym is) (one_aside purposes.Read (message_to_send (own_get x key) ∷ []) (own_get x key) refl refl tt tt refl)
 
-  pub scan_aside : (spans : List Span) (made : OpenCall) → made ≡ record { purpose = purposes.Read; wave = scan_messages x spans } → KeepsAside b k x made.purpose later made.wave
-  scan_aside spans made is = subst (λ (c : OpenCall). KeepsAside b k x c.purpose later c.wave) (sym is) (plain_aside purposes.Read (scan_messages x spans) (scans_plain x spans) tt tt refl)
+  pub scan_aside : (spans : List Span) (made : OpenCall) → made ≡ record { purpose = purposes.Read; wave = scan_messages x spans } → KeepsAside l b k x made.purpose later made.wave
+  scan_aside spans made is = subst (λ (c : OpenCall). KeepsAside l b k x c.purpose later c.wave) (sym is) (plain_aside purposes.Read (scan_messages x spans) (scans_plain x spans) tt tt refl)
 
   -- or writes
   pub write_aside : (stages : List SentStage) (commit : Option SentCommit) (t : Txn) → TxnStands k stages commit t x → (s : Statement) (key : List ℕ) (value : Option (List ℕ)) → k.statement ≡ Some s → s.call ≡ write_call key value → waits_for_some (write_call key value) x.in_flight ≡ false
-      → (made : OpenCall) → made ≡ laying x key value → KeepsAside b k x made.purpose later made.wave
+      → (made : OpenCall) → made ≡ laying x key value → KeepsAside l b k x made.purpose later made.wave
   write_aside stages commit t st s key value opened asked none made is =
       let ms : List Message = message_to_send (next_put x key value) ∷ [] in
       let S : Message → Type 0 = λ m. is_to_send m ≡ true in
-      subst (λ (c : OpenCall). KeepsAside b k x c.purpose later c.wave) (sym is)
+      subst (λ (c : OpenCall). KeepsAside l b k x c.purpose later c.wave) (sym is)
       (aside_on b k x purposes.Write later later ms h (keeps_write k stages commit t x st later h.outbox key value) tt tt
       (free_lay (b && true) k x s key value opened asked (none_depends (write_call key value) x.in_flight none)) (unsent_all (b && true) ms (All-cons S (message_to_send (next_put x key value)) [] refl (All-nil S))))

@@ -1,5 +1,5 @@
 -- What a coordinator's transaction and counts are after its session sent and heard messages beside it.
-use Rattle.std.proofs.Common.{◌≡◌, ℕ, ◌+◌, ◌≤◌, Bool, true, false, ◌⊎◌, inl, inr, List, [], ◌∷◌, ◌++◌, length, Option, Some, None, IfSome, refl, sym, ap, ◌∙◌, subst, arith, All, IsTrue, length-append}
+use Rattle.std.proofs.Common.{◌≡◌, ◌+◌, ◌≤◌, Bool, true, false, ◌⊎◌, inl, inr, List, [], ◌∷◌, ◌++◌, length, Option, Some, None, IfSome, refl, sym, ap, ◌∙◌, subst, arith, All, IsTrue, length-append}
 use Rattle.std.proofs.lemmas.List.Elements.{All-append, All-cons, All-head, All-nil, All-tail, All-weaker}
 use Rattle.std.proofs.lemmas.Option.{same_Some}
 use Rattle.pc_base.specs.declared.transaction.TxnId.{TxnId}
@@ -30,6 +30,7 @@ use Rattle.pc_world.specs.Known.Traffic.{Heard, Sent}
 use Rattle.pc_world.specs.Known.Transactions.{Txn}
 use Rattle.pc_world.specs.StageFate.{SentCommit}
 use Rattle.pc_world.specs.Tell.Refusal.{is_heard}
+use Rattle.pc_coord.proofs.OneRange.{one_range-beside}
 
 all_both : {X : Type 0} (P Q R : X → Type 0) → ((x : X) → P x → Q x → R x) → (xs : List X) → All P xs → All Q xs → All R xs
 all_both P Q R on [] p q = All-nil R
@@ -118,10 +119,10 @@ module _ (c : Coordination) (start k : Known) (later : IsLaterBeside c start k) 
   -- what holds at any time holds still
   pub course-beside : (loses : Bool) (now : Coordination) → now.tries ≡ c.tries → now.splits ≡ c.splits → now.pipelining ≡ c.pipelining → now.later ≡ c.later → KeepsCourse loses c start → KeepsCourse loses now k
   course-beside loses now tries splits pipelining later_is o = record {
-    quiet = o.quiet;
     tried = subst (λ n. 1 ≤ n) (sym tries) o.tried;
     rising = subst AreRising (sym splits) o.rising;
     ranged = subst (λ s. IsRanged s k) (sym splits) (ranged-beside c c.splits start k later o.ranged);
+    one_range = λ lossy. one_range-beside c start k later (o.one_range lossy);
     may_wait = subst (λ l. MayWait now.pipelining l) (sym later_is) (subst (λ b. MayWait b c.later) (sym pipelining) o.may_wait);
     unstaged = λ is. unstaged-beside c.pipelining o.unstaged (sym pipelining ∙ is);
   }
@@ -184,12 +185,12 @@ module _ (c : Coordination) (start k : Known) (later : IsLaterBeside c start k) 
   held_by-beside None none closed = later.is_open ∙ closed
   held_by-beside (Some x) is o = open-beside x is o
 
-  outbox-beside : (txn : Option OpenTxn) → IsOutboxOf txn c.later start → IsOutboxOf txn c.later k
-  outbox-beside None o =
+  outbox-beside : (l : Bool) (txn : Option OpenTxn) → IsOutboxOf l txn c.later start → IsOutboxOf l txn c.later k
+  outbox-beside l None o =
       let P : Sent → Type 0 = IsHeardBesideOrPut k in (
         o.0,
-        subst (λ ms. All P ms) (sym later.sent)
-            (All-append P start.sent later.sent_more (All-weaker (IsHeardBesideOrPut start) P (λ m was. still m was) start.sent o.1)
+        λ quiet. subst (λ ms. All P ms) (sym later.sent)
+            (All-append P start.sent later.sent_more (All-weaker (IsHeardBesideOrPut start) P (λ m was. still m was) start.sent (o.1 quiet))
             (All-weaker (λ m. (goes_beside m.request ≡ true) ⊎ IsTrue (is_heard k.heard m)) P (λ m is. elim is [ inl beside ↦ inr (inl beside) | inr was ↦ inl was ]) later.sent_more later.sent_heard)),
       )
     where
@@ -197,20 +198,20 @@ module _ (c : Coordination) (start k : Known) (later : IsLaterBeside c start k) 
       still m (inl was) = inl (still_heard m start.heard later.heard_more k.heard later.heard was)
       still m (inr (inl beside)) = inr (inl beside)
       still m (inr (inr put)) = inr (inr put)
-  outbox-beside (Some x) o =
+  outbox-beside l (Some x) o =
       between_beside start k later.sent_more later.heard_more more-beside later.txns.first x c.later sent_puts heard_puts later.heard_first later.sent_heard o
 
   -- between calls a coordinator with nothing left to hand out knows what its session knows
   goes_on : (loses : Bool) → Knows loses c start → c.due ≡ dues.Nothing → c.job ≡ None → Knows loses (with_clock k.high c) k
   goes_on loses knows due job =
-      let r : Rests c.session c.clock c.begun c.txn c.later c.job start = subst (λ d. KnowsAt loses c start d) due knows.stands in
+      let r : Rests loses c.session c.clock c.begun c.txn c.later c.job start = subst (λ d. KnowsAt loses c start d) due knows.stands in
       record {
         course = course-beside loses (with_clock k.high c) refl refl refl refl knows.course;
         stands = subst (λ d. KnowsAt loses (with_clock k.high c) k d) (sym due) (record {
           counted = counted-beside r.counted;
           none_open = later.statement ∙ r.none_open;
           held = held_by-beside c.txn refl r.held;
-          outbox = outbox-beside c.txn r.outbox;
+          outbox = outbox-beside loses c.txn r.outbox;
           left = subst (λ j. IfSome j (MayFinishJob k)) (sym job) tt;
         });
       }

@@ -1,6 +1,5 @@
 -- A conflict whose push was refused blocks its call.
 use Rattle.std.proofs.Common.{◌≡◌, ℕ, Bool, true, false, cond, ◌⊎◌, inl, ◌++◌, List, Option, None, Some, refl, sym, ap, ◌∙◌, subst, All, IsTrue}
-use Rattle.std.specs.List.{list_any}
 use Rattle.std.specs.Option.{option_map}
 use Rattle.std.proofs.lemmas.List.{append_assoc}
 use Rattle.std.proofs.lemmas.List.Elements.{All-append, All-weaker}

@@ -1,5 +1,5 @@
 -- An open call comes to its end: no tries are used up where no message is lost, its puts wait on once it was told, and one that waited for proofs goes on.
-use Rattle.std.proofs.Common.{◌≡◌, ◌≢◌, ℕ, ◌≤◌, ◌==◌, Bool, true, false, cond, not, ◌&&◌, ◌||◌, List, [], ◌∷◌, ◌++◌, find, Option, None, Some, inl, refl, sym, ap, ◌∙◌, subst, arith, All, Any, Contains}
+use Rattle.std.proofs.Common.{◌≡◌, ◌≢◌, ℕ, ◌≤◌, ◌==◌, Bool, true, false, cond, not, ◌&&◌, ◌||◌, List, [], ◌∷◌, ◌++◌, find, Option, None, Some, refl, sym, ap, ◌∙◌, subst, arith, All, Any, Contains}
 use Rattle.std.specs.List.{list_all, list_any}
 use Rattle.std.proofs.lemmas.Bool.{eq-eqb, eqb-true, lt-leb}
 use Rattle.std.proofs.lemmas.List.Elements.{All-cons, All-contains, All-head, All-nil, All-tail, All-weaker}
@@ -27,6 +27,7 @@ use Rattle.pc_coord.proofs.Aside.{StaysInFlight, aside_back, aside_idle, aside_o
 use Rattle.pc_coord.proofs.Begins.{free_lay, keeps_own}
 use Rattle.pc_coord.proofs.Coming.{one_unsent}
 use Rattle.pc_coord.proofs.Dues.{answered_all, answered_idle, none_awaited}
+use Rattle.pc_coord.proofs.Lists.{and_once}
 use Rattle.pc_coord.proofs.Onward.{asked_found, back_idle, found_one, served_prove}
 use Rattle.pc_coord.proofs.Steps.{sends_way}
 use Rattle.pc_coord.proofs.Tells.{IsStaying, all_over, outbox_told}
@@ -34,7 +35,7 @@ use Rattle.pc_coord.specs.Aside.{HasAside, HasProofs, IsFreeToLay, KeepsAside, L
 use Rattle.pc_coord.specs.Coming.{goes_by_sequence}
 use Rattle.pc_coord.specs.Coordination.{Coordination, is_writing, setting_of}
 use Rattle.pc_coord.specs.Going.{HearsNow, IsForMany}
-use Rattle.pc_coord.specs.Knows.{IsHeardBesideOrPut, is_under_way}
+use Rattle.pc_coord.specs.Knows.{is_under_way, AreAllHeard}
 use Rattle.pc_flight.specs.declared.write.WriteInFlight.{WriteInFlight}
 use Rattle.pc_flight.specs.InFlight.{is_another}
 use Rattle.pc_lists.proofs.Lists.{all_from_contains, contains_in_filter}
@@ -120,14 +121,14 @@ landed_one ms m r ts step x one same = subst (λ ms. StaysBut r x (landed_first 
 -- ---- what waits
 
 -- the puts wait on once the call was told
-pub wait_on : (k : Known) (x x2 : OpenTxn) (later : List LaterPut) (answer : Answer) → IsSplit k → HasAside k x later → IsStaying answer → StaysInFlight x x2 → HasOutboxBetween (known_told answer k) x2 later
+pub wait_on : {l : Bool} (k : Known) (x x2 : OpenTxn) (later : List LaterPut) (answer : Answer) → IsSplit k → HasAside l k x later → IsStaying answer → StaysInFlight x x2 → HasOutboxBetween l (known_told answer k) x2 later
 wait_on k x x2 later answer split a is stays =
     outbox_told k split x later a answer x2 is stays.0
     (all_from_contains (λ put. (o : WaitsInOutbox k a.outbox.t x put) → Contains x2.in_flight o.w) later (λ put there o. stays.1 o.w o.there))
 
 -- so they do where no reply to its messages is waited for
-pub waits_idle : (set : Setting) (k : Known) (x x2 : OpenTxn) (p : Purpose) (ms : List Message) (b : Bool) (later : List LaterPut) (answer : Answer) → InCall set k x p ms → KeepsAside b k x p later ms → ((number : ℕ) → wave_awaits number ms ≡ false) → IsStaying answer
-    → StaysInFlight x x2 → HasOutboxBetween (known_told answer k) x2 later
+pub waits_idle : (set : Setting) (k : Known) (x x2 : OpenTxn) (p : Purpose) (ms : List Message) (b : Bool) (later : List LaterPut) (answer : Answer) → InCall set k x p ms → KeepsAside set.course.loses b k x p later ms → ((number : ℕ) → wave_awaits number ms ≡ false) → IsStaying answer
+    → StaysInFlight x x2 → HasOutboxBetween set.course.loses (known_told answer k) x2 later
 waits_idle set k x x2 p ms b later answer w a idle is stays = wait_on k x x2 later answer w.split (aside_idle b k x p later ms a idle) is stays
 
 -- ---- a span that has a key has pieces
@@ -241,9 +242,9 @@ module _ (set : Setting) (k : Known) (x : OpenTxn) (p : Purpose) (ms : List Mess
         by f some false is = is
 
     -- what waits stands aside of its own messages
-    pub own_aside : (splits : List (List ℕ)) (b : Bool) (later : List LaterPut) (made : OpenCall) → KeepsAside b k x p later ms → own_messages splits kept x ≡ Some made → KeepsAside b k x made.purpose later made.wave
+    pub own_aside : (splits : List (List ℕ)) (b : Bool) (later : List LaterPut) (made : OpenCall) → KeepsAside set.course.loses b k x p later ms → own_messages splits kept x ≡ Some made → KeepsAside set.course.loses b k x made.purpose later made.wave
     own_aside splits b later made a is =
-        let h : HasAside k x later = aside_idle b k x p later ms a (λ n. answered_idle n ms due) in
+        let h : HasAside set.course.loses k x later = aside_idle b k x p later ms a (λ n. answered_idle n ms due) in
         aside_on b k x made.purpose later later made.wave h (keeps_own k w.stages (out_of p ms) w.t x w.stands later h.outbox splits kept made is) (joined kept is) (some kept is) (free kept refl is) (unsent_all (b && is_writing made.purpose) made.wave (own_unsent_in splits kept x made is))
       where
         joined : (call : Call) → own_messages splits call x ≡ Some made → LeavesNoneWaiting made.purpose later
@@ -352,13 +353,13 @@ module _ (loses : Bool) (c : Coordination) (call : OpenCall) (x : OpenTxn) (numb
   split_heard = split2 c.session is.before c.begun (setting_of loses c) k x call.purpose call.wave is.counted is.in_call number reply h is.waited is.heard
 
   -- the reply came back to its message
-  pub heard_aside : KeepsAside c.pipelining k2 x call.purpose c.later back
+  pub heard_aside : KeepsAside loses c.pipelining k2 x call.purpose c.later back
   heard_aside =
       aside_back (setting_of loses c) k x call.purpose call.wave is.in_call c.pipelining c.later is.aside number reply h is.waited is.heard x (λ anchor. refl) (λ f there isnt. there)
       (free_on (c.pipelining && is_writing call.purpose) k k2 x refl is.aside.free)
 
   -- and a write was written by it
-  pub proved_aside : (ts step : ℕ) → MayProve call.purpose → KeepsAside c.pipelining k2 (landed_awaited number call.wave ts step x) call.purpose c.later back
+  pub proved_aside : (ts step : ℕ) → MayProve call.purpose → KeepsAside loses c.pipelining k2 (landed_awaited number call.wave ts step x) call.purpose c.later back
   proved_aside ts step may =
       let found = found_one loses c call x number reply k h is in
       let l : StaysBut h.request x (landed_awaited number call.wave ts step x) = landed_stays number call.wave found.0 h.request ts step x found.1 (asked_found loses c call x number reply k h is) in
@@ -370,27 +371,23 @@ module _ (loses : Bool) (c : Coordination) (call : OpenCall) (x : OpenTxn) (numb
     pub alone_idle : (other : ℕ) → wave_awaits other back ≡ false
     alone_idle other = back_idle (setting_of loses c) k x call.purpose call.wave is.in_call number reply m one is.waited other
 
-    pub alone_aside : (x2 : OpenTxn) → StaysBut h.request x x2 → HasAside k2 x2 c.later
+    pub alone_aside : (x2 : OpenTxn) → StaysBut h.request x x2 → HasAside loses k2 x2 c.later
     alone_aside x2 stays =
         aside_over (setting_of loses c) k x call.purpose call.wave is.in_call c.pipelining c.later is.aside number reply h is.waited is.heard
-        (lone number call.wave m one is.waited) x2 stays.0 stays.1
+        (λ quiet. lone number call.wave m one is.waited) x2 stays.0 stays.1
 
     -- so its answer may be told, and what waits does so still
-    pub alone_waits : (answer : Answer) (x2 : OpenTxn) → IsStaying answer → StaysBut h.request x x2 → HasOutboxBetween (known_told answer k2) x2 c.later
+    pub alone_waits : (answer : Answer) (x2 : OpenTxn) → IsStaying answer → StaysBut h.request x x2 → HasOutboxBetween loses (known_told answer k2) x2 c.later
     alone_waits answer x2 staying stays = wait_on k2 x2 x2 c.later answer split_heard (alone_aside x2 stays) staying ((λ anchor. refl), (λ f there. there))
 
     -- all but puts was heard
-    pub alone_over : All (IsHeardBesideOrPut k2) k2.sent
+    pub alone_over : AreAllHeard loses k2
     alone_over = all_over k2 split_heard x c.later (alone_aside x (stays_but h.request x x ((λ anchor. refl), (λ f there. there))))
 
 pub prove_many : (p : Purpose) → MayProve p → IsForMany p
 prove_many (purposes.Prove call all) may = tt
 prove_many (purposes.Stage n) may = tt
 prove_many p may = absurd may
-
-and_once : (b : Bool) → (b && true) ≡ false → b ≡ false
-and_once true e = absurd cc
-and_once false e = refl
 
 -- a write whose reply is waited for is not told at once
 pub not_at_once : (loses : Bool) (c : Coordination) (call : OpenCall) (x : OpenTxn) (number : ℕ) (reply : Reply) (k : Known) (h : Heard) → HearsNow loses c call x number reply k h → call.purpose ≡ purposes.Write → c.pipelining ≡ false

@@ -5,7 +5,6 @@ use Rattle.std.proofs.lemmas.Bool.{eq-eqb, eqb-true}
 use Rattle.std.proofs.lemmas.List.Elements.{All-append, All-cons, All-contains, All-head, All-map, All-nil, All-tail, All-weaker}
 use Rattle.std.proofs.lemmas.Option.{same_Some}
 use Rattle.pc_base.specs.declared.span.Span.{Span}
-use Rattle.pc_base.specs.Span.{contains, same_key}
 use Rattle.pc_base.specs.Transaction.{same_txn}
 use Rattle.pc_call.proofs.Facts.{open_is}
 use Rattle.pc_call.proofs.Lists.{all_unmapped}
@@ -18,7 +17,9 @@ use Rattle.pc_call.specs.Serving.{AreReadsOf, HasBeatenBy, InCall, IsOpenFor, La
 use Rattle.pc_call.specs.Setting.{Setting}
 use Rattle.pc_call.specs.Suiting.{SuitsFlight, SuitsFlightIn}
 use Rattle.pc_call.specs.Waiting.{BeginsBehindProofs, waits_on}
+use Rattle.pc_coord.proofs.AllAwaited.{waits_true}
 use Rattle.pc_coord.proofs.Aside.{awaited_in, out_once}
+use Rattle.pc_coord.proofs.Lists.{and_once, every}
 use Rattle.pc_coord.proofs.Ongoing.{commit_behind}
 use Rattle.pc_coord.specs.Awaiting.{IsAwaitedNext}
 use Rattle.pc_coord.specs.Coordination.{Coordination, SendsNoMore, awaits_number, is_writing, setting_of}
@@ -30,10 +31,10 @@ use Rattle.pc_flight.specs.InFlight.{in_flight_as}
 use Rattle.pc_follows.specs.EarlyProof.{ProvesNothingEarly}
 use Rattle.pc_follows.specs.Heartbeats.{HasBeaten}
 use Rattle.pc_follows.specs.OwnStages.{IsPutStaged, IsStillOut, ListsUnrefused}
-use Rattle.pc_follows.specs.PipelinedPuts.{HearsOnlyItsPuts, IsFull, IsPutWaitedFor, WaitsFor}
+use Rattle.pc_follows.specs.PipelinedPuts.{HearsOnlyItsPuts, IsPutWaitedFor, WaitsFor}
 use Rattle.pc_follows.specs.Proving.{AreAwaitedOnWay, HeardNoPut, IsInProvingWave}
 use Rattle.pc_lists.proofs.Lists.{all_from_contains, contains_cons, contains_in_filter, contains_map, contains_nil}
-use Rattle.pc_lists.proofs.Same.{same_key-self, same_txn-self}
+use Rattle.pc_lists.proofs.Same.{same_txn-self}
 use Rattle.pc_proto.specs.declared.call.Call.{Call}
 use Rattle.pc_proto.specs.declared.call.Call.TheVariants as calls
 use Rattle.pc_proto.specs.declared.request.Request.{Request}
@@ -59,10 +60,6 @@ use Rattle.pc_world.specs.StageFate.{IsStageWith, SentStage, stage_request}
 use Rattle.pc_world.specs.Tell.Refusal.{MayBlock, is_heard}
 
 -- ---- lists
-
-every : {X : Type 0} (P : X → Type 0) → ((x : X) → P x) → (xs : List X) → All P xs
-every P each [] = All-nil P
-every P each (x ∷ xs) = All-cons P x xs (each x) (every P each xs)
 
 any_more : {X : Type 0} (P Q : X → Type 0) → ((x : X) → P x → Q x) → (xs : List X) → Any P xs → Any Q xs
 any_more P Q f xs (n, x, low, same, is) = (n, x, low, same, f x is)
@@ -98,17 +95,6 @@ none_heard n m (h ∷ hs) same none = by (none_heard n m hs same (All-tail (λ (
     by later true e = absurd (All-head (λ (h : Heard). h.number ≢ n) h hs none (eqb-true h.number m.number e ∙ same))
     by later false e = ap (λ b. not (b || is_heard hs m)) e ∙ later
 
-or_left : (a b : Bool) → a ≡ true → (a || b) ≡ true
-or_left a b e = ap (λ a. a || b) e
-
-or_right : (a b : Bool) → b ≡ true → (a || b) ≡ true
-or_right true b e = refl
-or_right false b e = e
-
-and_once : (b : Bool) → (b && true) ≡ false → b ≡ false
-and_once true e = absurd cc
-and_once false e = refl
-
 -- ---- calls
 
 no_put_staged : (k : Known) (r : Request) → is_put r ≡ false → IsPutStaged k r
@@ -137,16 +123,6 @@ write_no_commit key (Some value) is = cc
 own_waits : (k : Known) (key own : List ℕ) (value : Option (List ℕ)) → own ≡ key → WaitsFor k key (write_call own value)
 own_waits k key own None same = inl same
 own_waits k key own (Some value) same = inl same
-
--- a call that waits for a key, as its session has it, waits for it among what is in flight
-waits_back : (k : Known) (call : Call) (all : Bool) (key : List ℕ) → BeginsBehindProofs call → (IsFull k → (own : List ℕ) (value : Option (List ℕ)) → call ≡ write_call own value → all ≡ true) → WaitsFor k key call → waits_on call all key ≡ true
-waits_back k (calls.Get own) all key begins fills on = or_right all (same_key own key) (ap (λ y. same_key own y) (sym on) ∙ same_key-self own)
-waits_back k (calls.Scan span) all key begins fills on = or_right all (contains span key) on
-waits_back k (calls.Put own value) all key begins fills (inl on) = or_right all (same_key key own) (ap (λ y. same_key y own) (sym on) ∙ same_key-self own)
-waits_back k (calls.Put own value) all key begins fills (inr full) = or_left all (same_key key own) (fills full own (Some value) refl)
-waits_back k (calls.Delete own) all key begins fills (inl on) = or_right all (same_key key own) (ap (λ y. same_key y own) (sym on) ∙ same_key-self own)
-waits_back k (calls.Delete own) all key begins fills (inr full) = or_left all (same_key key own) (fills full own None refl)
-waits_back k call all key begins fills on = absurd begins
 
 -- without pipelining one write is in flight where a call writes
 one_flight : (key : List ℕ) (value : Option (List ℕ)) (flight : List WriteInFlight) → SuitsFlight (write_call key value) flight → (f g : WriteInFlight) → Contains flight f → Contains flight g → f ≡ g
@@ -274,7 +250,7 @@ module _ (set : Setting) (k : Known) (x : OpenTxn) (p : Purpose) (ms : List Mess
             beaten = b;
             each = λ g in_flight on.
                 own_out call all ms s.again g
-                (All-contains (λ f. waits_on call all f.key ≡ true → Any (IsOpenFor f) ms) x.in_flight g s.each in_flight (waits_back k call all g.key s.begins s.fills (subst (λ call. WaitsFor k g.key call) s.asked on)));
+                (All-contains (λ f. waits_on call all f.key ≡ true → Any (IsOpenFor f) ms) x.in_flight g s.each in_flight (waits_true k call all g.key s.begins s.fills (subst (λ call. WaitsFor k g.key call) s.asked on)));
             staged = λ commits. absurd (commit_behind call (sym s.asked ∙ commits) s.begins);
           })) ms s.again
       by purposes.Read b plain s = of_asked (map (λ (m : Message). m.request) ms) refl (of_reads w.s.call (map (λ (m : Message). m.request) ms) s.asked)

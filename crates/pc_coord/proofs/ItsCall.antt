@@ -1,5 +1,5 @@
 -- A message that is waited for is of a kind that is sent for the open call.
-use Rattle.std.proofs.Common.{◌<◌, ◌≡◌, ℕ, ◌+◌, ◌≤◌, Bool, true, false, ◌⊎◌, inl, inr, List, [], ◌∷◌, map, Option, Some, refl, sym, ap, ◌∙◌, subst, All, Any, Contains, IsTrue}
+use Rattle.std.proofs.Common.{◌<◌, ◌≡◌, ℕ, ◌+◌, Bool, true, false, ◌⊎◌, inl, inr, List, [], ◌∷◌, map, Option, Some, refl, sym, ap, ◌∙◌, subst, All, Any, Contains, IsTrue}
 use Rattle.std.proofs.lemmas.List.Elements.{All-append, All-cons, All-contains, All-map, All-nil, All-weaker}
 use Rattle.std.proofs.lemmas.Option.{same_Some}
 use Rattle.pc_base.specs.declared.limits.TheConstants.{MOST_CONFLICTS}
@@ -14,6 +14,7 @@ use Rattle.pc_call.specs.Serving.{AreReadsOf, InCall, LaysLast, LaysNext, SendsA
 use Rattle.pc_call.specs.Setting.{Setting}
 use Rattle.pc_call.specs.Suiting.{SuitsFlightIn}
 use Rattle.pc_coord.proofs.Aside.{awaited_in}
+use Rattle.pc_coord.proofs.Lists.{every}
 use Rattle.pc_coord.specs.Coordination.{Coordination, awaits_number, setting_of}
 use Rattle.pc_coord.specs.declared.due.Due.{Due}
 use Rattle.pc_coord.specs.declared.due.Due.TheVariants as dues
@@ -34,7 +35,6 @@ use Rattle.pc_txn.specs.Opened.{meta_now, next_put, own_get, own_put, own_scan, 
 use Rattle.pc_txn.specs.Queries.{own_query}
 use Rattle.pc_wave.proofs.Hearing.{awaits_as}
 use Rattle.pc_wave.specs.declared.message.Message.{Message}
-use Rattle.pc_wave.specs.declared.message.Progress.TheVariants as progresses
 use Rattle.pc_wave.specs.Messages.{has_answer, progress_has_answer, wave_awaits}
 use Rattle.pc_wave.specs.Standing.{IsAsFar, IsOnItsWay, MessageStands}
 use Rattle.pc_world.specs.Known.{Known}
@@ -44,10 +44,6 @@ use Rattle.pc_world.specs.RangeOf.{pieces}
 use Rattle.pc_world.specs.Send.Recovery.{IsBlockedWrite}
 use Rattle.pc_world.specs.Tell.Data.{sent_before}
 use Rattle.pc_world.specs.Tell.Refusal.{MayBlock}
-
-every : {X : Type 0} (P : X → Type 0) → ((x : X) → P x) → (xs : List X) → All P xs
-every P each [] = All-nil P
-every P each (x ∷ xs) = All-cons P x xs (each x) (every P each xs)
 
 module _ (set : Setting) (k : Known) (x : OpenTxn) (p : Purpose) (ms : List Message) (w : InCall set k x p ms) where
   abbrev IsOfCall : Request → Type 0

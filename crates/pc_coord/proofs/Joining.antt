@@ -1,5 +1,5 @@
 -- What waits did so before, and what joins a wave goes out beside a message that is to be sent.
-use Rattle.std.proofs.Common.{◌<◌, ◌≡◌, ℕ, ◌+◌, ◌≤◌, ◌==◌, Bool, true, false, ◌||◌, ◌&&◌, not, List, [], ◌∷◌, Some, Result, Ok, Err, OnOk, refl, sym, ap, ◌∙◌, subst, All}
+use Rattle.std.proofs.Common.{◌<◌, ◌≡◌, ℕ, ◌==◌, Bool, true, false, ◌||◌, List, [], ◌∷◌, Result, Ok, Err, OnOk, refl, sym, ap, ◌∙◌, subst, All}
 use Rattle.std.specs.List.{list_any}
 use Rattle.std.proofs.lemmas.Bool.{eqb-true}
 use Rattle.std.proofs.lemmas.List.Elements.{All-contains, All-head, All-tail}
@@ -17,14 +17,14 @@ use Rattle.pc_coord.proofs.Fresh.{unsent_idle}
 use Rattle.pc_coord.proofs.Outbox.{has_own}
 use Rattle.pc_coord.specs.Aside.{KeepsAside}
 use Rattle.pc_coord.specs.Coming.{GoesOnBy, IsIdle, IsLeftOf, JoinsBeside}
-use Rattle.pc_coord.specs.Coordination.{Coordination, SendsNoMore, awaits_number, calling, finishing}
+use Rattle.pc_coord.specs.Coordination.{Coordination, SendsNoMore, awaits_number, finishing}
 use Rattle.pc_coord.specs.declared.due.Due.{Due}
 use Rattle.pc_coord.specs.declared.due.Due.TheVariants as dues
 use Rattle.pc_proto.specs.declared.answer.Answer.{Answer}
 use Rattle.pc_txn.specs.declared.txn.OpenTxn.{OpenTxn}
 use Rattle.pc_wave.proofs.Hearing.{awaits_as}
 use Rattle.pc_wave.specs.declared.message.Message.{Message}
-use Rattle.pc_wave.specs.Messages.{awaits_at, is_to_send, wave_awaits}
+use Rattle.pc_wave.specs.Messages.{is_to_send, wave_awaits}
 use Rattle.pc_wave.specs.Standing.{IsAsFar, IsOnItsWay, MessageStands}
 use Rattle.pc_world.specs.Known.{Known}
 use Rattle.pc_world.specs.Known.Traffic.{request_sent}
@@ -95,7 +95,7 @@ module _ (set : Setting) (k : Known) (x : OpenTxn) (p : Purpose) (ms : List Mess
           cc
       by rest false isnt e = rest e
 
-  pub same_joins : (b : Bool) (later : List LaterPut) → KeepsAside b k x p later ms → (new : Coordination) (call : OpenCall) → new.due ≡ dues.Call call → call.wave ≡ ms → JoinsBeside later new.due
+  pub same_joins : (b : Bool) (later : List LaterPut) → KeepsAside set.course.loses b k x p later ms → (new : Coordination) (call : OpenCall) → new.due ≡ dues.Call call → call.wave ≡ ms → JoinsBeside later new.due
   same_joins b later a new call made same n was waits = absurd (none_waited a.outbox.has.t later a.outbox.has.stands a.outbox.apart n was (sym (ap (awaits_number n) made ∙ ap (wave_awaits n) same) ∙ waits))
 
 -- ---- what waits then

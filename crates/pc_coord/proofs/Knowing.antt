@@ -1,5 +1,5 @@
 -- A coordinator knows what its session knows, by what is due.
-use Rattle.std.proofs.Common.{◌≡◌, ℕ, ◌≤◌, nat_lt, Bool, true, false, not, ◌&&◌, ◌||◌, List, [], ◌∷◌, Option, Some, None, IfSome, refl, sym, ap, ◌∙◌, subst, All}
+use Rattle.std.proofs.Common.{◌≡◌, ℕ, ◌≤◌, nat_lt, Bool, true, false, not, ◌&&◌, ◌||◌, List, [], ◌∷◌, Option, Some, None, IfSome, refl, sym, ap, ◌∙◌, subst}
 use Rattle.std.proofs.lemmas.Bool.{eq-eqb}
 use Rattle.std.specs.Bool.{MatchBool}
 use Rattle.std.proofs.lemmas.Option.{same_Some}
@@ -29,7 +29,7 @@ use Rattle.pc_coord.specs.declared.due.Due.{Due}
 use Rattle.pc_coord.specs.declared.due.Due.TheVariants as dues
 use Rattle.pc_coord.specs.declared.job.Job.{Job}
 use Rattle.pc_coord.specs.Going.{BeginsNothing, StandsReady}
-use Rattle.pc_coord.specs.Knows.{IsHeardBesideOrPut, IsTellable, KeepsCourse, Knows, KnowsAt, MayFinishJob, Rests, is_under_way, messages_left}
+use Rattle.pc_coord.specs.Knows.{IsTellable, KeepsCourse, Knows, KnowsAt, MayFinishJob, Rests, is_under_way, messages_left, AreAllHeard}
 use Rattle.pc_coord.specs.Ranged.{IsRanged}
 use Rattle.pc_coord.specs.Suiting.{SuitsNext}
 use Rattle.pc_proto.specs.declared.answer.Answer.{Answer}
@@ -51,10 +51,10 @@ use Rattle.pc_world.specs.Tell.Begin.{MayTellBegun}
 -- what holds at any time holds beside any other transaction, due and outbox
 pub course_with : (loses : Bool) (c now : Coordination) (k : Known) → now.tries ≡ c.tries → now.splits ≡ c.splits → now.pipelining ≡ c.pipelining → MayWait now.pipelining now.later → KeepsCourse loses c k → KeepsCourse loses now k
 course_with loses c now k tries splits pipelining may o = record {
-  quiet = o.quiet;
   tried = subst (λ n. 1 ≤ n) (sym tries) o.tried;
   rising = subst AreRising (sym splits) o.rising;
   ranged = subst (λ s. IsRanged s k) (sym splits) o.ranged;
+  one_range = o.one_range;
   may_wait = may;
   unstaged = λ is. o.unstaged (sym pipelining ∙ is);
 }
@@ -86,7 +86,7 @@ ready_with loses c k later r may = record {
 }
 
 -- more is due of a call's messages
-pub calls_knows : (loses : Bool) (c : Coordination) (k : Known) (call : OpenCall) (x : OpenTxn) → StandsReady loses c k → InCall (setting_of loses c) k x call.purpose call.wave → KeepsAside c.pipelining k x call.purpose c.later call.wave → is_under_way (step_of call.wave)
+pub calls_knows : (loses : Bool) (c : Coordination) (k : Known) (call : OpenCall) (x : OpenTxn) → StandsReady loses c k → InCall (setting_of loses c) k x call.purpose call.wave → KeepsAside loses c.pipelining k x call.purpose c.later call.wave → is_under_way (step_of call.wave)
     → Knows loses (calling call x c) k
 calls_knows loses c k call x r w aside on = record {
   course = course_with loses c (calling call x c) k refl refl refl r.course.may_wait r.course;
@@ -126,7 +126,7 @@ pub no_job : (job : Option Job) (k : Known) → job ≡ None → IfSome job (May
 no_job job k none = subst (λ j. IfSome j (MayFinishJob k)) (sym none) tt
 
 -- an answer is due, after which the transaction stays open
-pub tells_knows : (loses : Bool) (c : Coordination) (k : Known) (answer : Answer) (x : OpenTxn) → StandsReady loses c k → MayTellOpen (setting_of loses c) c.session k answer x → HasOutboxBetween (known_told answer k) x c.later → BeginsNothing k
+pub tells_knows : (loses : Bool) (c : Coordination) (k : Known) (answer : Answer) (x : OpenTxn) → StandsReady loses c k → MayTellOpen (setting_of loses c) c.session k answer x → HasOutboxBetween loses (known_told answer k) x c.later → BeginsNothing k
     → Knows loses (telling answer (Some x) c.job c) k
 tells_knows loses c k answer x r m outbox none =
     let k2 = known_told answer k in
@@ -136,7 +136,7 @@ tells_knows loses c k answer x r m outbox none =
       stands = record {
         may = tellable m.may (ap messages_left r.handed ∙ sym m.left) m.suits;
         after =
-            subst (λ k. Rests c.session c.clock c.begun (Some x) c.later c.job k) (sym (told_is answer k))
+            subst (λ k. Rests loses c.session c.clock c.begun (Some x) c.later c.job k) (sym (told_is answer k))
             (record { counted = counted-told c.session c.clock c.begun k r.counted answer e.0 e.1; none_open = refl; held = m.after; outbox = outbox; left = no_job c.job k2 r.handed });
       };
     }
@@ -154,7 +154,7 @@ job_may k None may = tt
 job_may k (Some l) may = may
 
 -- an answer is due that ends the transaction
-pub over_knows : (loses : Bool) (c : Coordination) (k : Known) (over : Over) → StandsReady loses c k → MayTellOver (setting_of loses c) c.session k over → All (IsHeardBesideOrPut k) k.sent → BeginsNothing k → Knows loses (finishing over c) k
+pub over_knows : (loses : Bool) (c : Coordination) (k : Known) (over : Over) → StandsReady loses c k → MayTellOver (setting_of loses c) c.session k over → AreAllHeard loses k → BeginsNothing k → Knows loses (finishing over c) k
 over_knows loses c k over r m heard none =
     let k2 = known_told over.answer k in
     let e = none_begun c.splits (actors.Session c.session) k over.answer m.may.may none in
@@ -163,7 +163,7 @@ over_knows loses c k over r m heard none =
       stands = record {
         may = tellable m.may (job_messages over.left ∙ m.left) (λ s is. tt);
         after =
-            subst (λ k. Rests c.session c.clock c.begun None [] (job_left over.left) k) (sym (told_is over.answer k))
+            subst (λ k. Rests loses c.session c.clock c.begun None [] (job_left over.left) k) (sym (told_is over.answer k))
             (record { counted = counted-told c.session c.clock c.begun k r.counted over.answer e.0 e.1; none_open = refl; held = m.closed; outbox = (refl, heard); left = job_may k2 over.left m.settles });
       };
     }
@@ -208,11 +208,11 @@ served_begins set k x p ms w = λ s is. subst (λ s. is_begin s.call ≡ false) 
 pub asked_begins : (k : Known) (s : Statement) → k.statement ≡ Some s → is_begin s.call ≡ false → BeginsNothing k
 asked_begins k s opened isnt other is = subst (λ s. is_begin s.call ≡ false) (same_Some s other (sym opened ∙ is)) isnt
 
-rests_at : (loses : Bool) (c : Coordination) (k : Known) (due : Due) → KnowsAt loses c k due → k.statement ≡ None → Rests c.session c.clock c.begun c.txn c.later c.job k
+rests_at : (loses : Bool) (c : Coordination) (k : Known) (due : Due) → KnowsAt loses c k due → k.statement ≡ None → Rests loses c.session c.clock c.begun c.txn c.later c.job k
 rests_at loses c k dues.Nothing h none = h
 rests_at loses c k (dues.Call call) h none = let e = sym h.in_call.opened ∙ none in absurd cc
 rests_at loses c k (dues.Tell answer) h none = let e = sym h.may.may.opened ∙ none in absurd cc
 
 -- where no statement is open, nothing is due
-pub rests : (loses : Bool) (c : Coordination) (k : Known) → Knows loses c k → k.statement ≡ None → Rests c.session c.clock c.begun c.txn c.later c.job k
+pub rests : (loses : Bool) (c : Coordination) (k : Known) → Knows loses c k → k.statement ≡ None → Rests loses c.session c.clock c.begun c.txn c.later c.job k
 rests loses c k knows none = rests_at loses c k c.due knows.stands none

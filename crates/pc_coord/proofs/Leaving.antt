@@ -1,5 +1,5 @@
 -- A commit gives up, and leaves its transaction open.
-use Rattle.std.proofs.Common.{◌≡◌, ◌≢◌, ℕ, Bool, true, false, List, [], ◌∷◌, None, Some, refl, sym, ap, ◌∙◌, subst, All, Contains, IfOk, OnOk, Ok, Err, Result}
+use Rattle.std.proofs.Common.{◌≡◌, ◌≢◌, ℕ, Bool, true, false, List, [], ◌∷◌, None, Some, refl, sym, ap, ◌∙◌, subst, Contains, IfOk, OnOk, Ok, Err, Result}
 use Rattle.std.proofs.lemmas.Option.{same_Some}
 use Rattle.pc_base.specs.declared.transaction.TxnId.{TxnId}
 use Rattle.pc_call.proofs.Facts.{open_is}
@@ -36,7 +36,6 @@ use Rattle.pc_coord.specs.Ends.{later_left}
 use Rattle.pc_coord.specs.Going.{BeginsNothing, StandsReady}
 use Rattle.pc_coord.specs.Kinds.{written_at}
 use Rattle.pc_coord.specs.Knows.{Knows}
-use Rattle.pc_flight.specs.declared.write.WriteInFlight.{WriteInFlight}
 use Rattle.pc_proto.specs.declared.answer.Answer.{Answer}
 use Rattle.pc_proto.specs.declared.answer.Answer.TheVariants as answers
 use Rattle.pc_proto.specs.declared.call.Call.{Call}
@@ -85,17 +84,17 @@ module _ (loses : Bool) (c : Coordination) (k : Known) (x : OpenTxn) (answer : A
     }
 
   -- none of its puts waits where the transaction restarts
-  restarts_waiting : (key : List ℕ) (ts : ℕ) → HasAside k x c.later → HasOutboxBetween (known_told (answers.Restart key ts) k) (restarted_by key ts x) []
+  restarts_waiting : (key : List ℕ) (ts : ℕ) → HasAside loses k x c.later → HasOutboxBetween loses (known_told (answers.Restart key ts) k) (restarted_by key ts x) []
   restarts_waiting key ts h =
       let opened = open_is k g.t g.open_in in
       let replied = replies_to k.sent_now k.heard_now in
       outbox_restarts k g.split x (restarted_by key ts x) c.later h g.t (txn_told (answers.Restart key ts) replied g.t) opened g.gives_up.stands.puts key ts (told_opened k.is_open (answers.Restart key ts) replied k.txns g.t opened) refl refl
 
   -- else they wait on
-  pub leaves_waiting : HasAside k x c.later → HasOutboxBetween (known_told answer k) (given_up answer x) (later_left answer c.later)
+  pub leaves_waiting : HasAside loses k x c.later → HasOutboxBetween loses (known_told answer k) (given_up answer x) (later_left answer c.later)
   leaves_waiting h = by answer refl g.gives_up.why
     where
-      by : (a : Answer) → answer ≡ a → IsWhy k a → HasOutboxBetween (known_told a k) (given_up a x) (later_left a c.later)
+      by : (a : Answer) → answer ≡ a → IsWhy k a → HasOutboxBetween loses (known_told a k) (given_up a x) (later_left a c.later)
       by (answers.Restart key ts) is why = restarts_waiting key ts h
       by (answers.Blocked holder) is why = wait_on k x (given_up (answers.Blocked holder) x) c.later (answers.Blocked holder) g.split h tt ((λ anchor. refl), (λ f there. there))
       by (answers.Moved ts) is why = wait_on k x (given_up (answers.Moved ts) x) c.later (answers.Moved ts) g.split h tt ((λ anchor. refl), (λ f there. there))
@@ -111,7 +110,7 @@ may_left b answer later may = may
 
 -- a commit that gives up is told so, and its transaction stays open
 pub left_open : (loses : Bool) (c mid new : Coordination) (k : Known) (x x2 : OpenTxn) (answer : Answer) → mid ≡ record c { later = later_left answer c.later } → x2 ≡ given_up answer x → new ≡ telling answer (Some x2) mid.job mid → StandsReady loses c k
-    → GivesUpBy loses k x answer → HasAside k x c.later → is_over x.staging ≡ true → SuitsFlightIn c.pipelining calls.Commit x.in_flight → Knows loses new k
+    → GivesUpBy loses k x answer → HasAside loses k x c.later → is_over x.staging ≡ true → SuitsFlightIn c.pipelining calls.Commit x.in_flight → Knows loses new k
 left_open loses c mid new k x x2 answer cleared left made r g h over suits =
     let c2 : Coordination = record c { later = later_left answer c.later } in
     tell_ok loses c2 new k answer (given_up answer x) (made ∙ (ap (λ (y : OpenTxn). telling answer (Some y) mid.job mid) left ∙ ap (λ (m : Coordination). telling answer (Some (given_up answer x)) m.job m) cleared))

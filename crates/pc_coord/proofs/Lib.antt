@@ -15,7 +15,11 @@ pub mod Joining
 pub mod Knowing
 pub mod Learned
 pub mod Leaving
+pub mod Lists
+pub mod Lost
+pub mod LostWave
 pub mod Meeting
+pub mod OneRange
 pub mod OneRecord
 pub mod Ongoing
 pub mod Onward
@@ -32,3 +36,4 @@ pub mod Tells
 pub mod Told
 pub mod Tying
 pub mod Unpiped
+pub mod UsedUp

@@ -84,8 +84,8 @@ module _ (loses : Bool) (c : Coordination) (k : Known) (p : Pair Event) (id : Tx
   now : TellsNow loses c k answers.NotYet
   now = subst (KnowsAt loses c k) is.due knows.stands
 
-  before : Rests c.session c.clock c.begun c.txn c.later c.job (known_told answers.NotYet k)
-  before = subst (λ k. Rests c.session c.clock c.begun c.txn c.later c.job k) (told_is answers.NotYet k) now.after
+  before : Rests loses c.session c.clock c.begun c.txn c.later c.job (known_told answers.NotYet k)
+  before = subst (λ k. Rests loses c.session c.clock c.begun c.txn c.later c.job k) (told_is answers.NotYet k) now.after
 
   abbrev k2 : Known
   k2 = known_met id ts k
@@ -101,7 +101,7 @@ module _ (loses : Bool) (c : Coordination) (k : Known) (p : Pair Event) (id : Tx
       let P : Call → Type 0 = λ call. MatchBool (needs_txn call && not k2.is_open) (answers.Learnt ≡ answers.NoTxn) (MatchBool (is_begin call && nat_lt GREATEST_READING s.reading) (answers.Learnt ≡ answers.Clock s.reading) (IsLearnTold true k2 call)) in
       subst P (sym called) (met_there id k.met_now)
 
-  outbox : (txn : Option OpenTxn) → txn ≡ None → IsOutboxOf txn c.later (known_told answers.NotYet k) → IsOutboxOf txn c.later (known_told answers.Learnt k2)
+  outbox : (txn : Option OpenTxn) → txn ≡ None → IsOutboxOf loses txn c.later (known_told answers.NotYet k) → IsOutboxOf loses txn c.later (known_told answers.Learnt k2)
   outbox None none o = o
   outbox (Some x) none o = absurd cc
 
@@ -111,10 +111,10 @@ module _ (loses : Bool) (c : Coordination) (k : Known) (p : Pair Event) (id : Tx
       let m = now.may.may in
       record {
         course = record {
-          quiet = knows.course.quiet;
           tried = knows.course.tried;
           rising = knows.course.rising;
           ranged = record { heard = knows.course.ranged.heard; sent = knows.course.ranged.sent; reads = knows.course.ranged.reads };
+          one_range = knows.course.one_range;
           may_wait = knows.course.may_wait;
           unstaged = knows.course.unstaged;
         };
@@ -123,7 +123,7 @@ module _ (loses : Bool) (c : Coordination) (k : Known) (p : Pair Event) (id : Tx
               tellable (record {
                 may = record { s = m.s; opened = m.opened; told = row m.s (asked m.s m.opened) };
                 written = tt;
-                aborts = tt;
+                aborts = λ quiet. tt;
                 rolled_back = tt;
                 restarts = tt;
                 eighth = any_eighth loses k2 answers.Learnt (none_heard k2 answers.Learnt is.quiet);
@@ -131,7 +131,7 @@ module _ (loses : Bool) (c : Coordination) (k : Known) (p : Pair Event) (id : Tx
                 beats = λ quiet. closed_beats k2 answers.Learnt is.closed;
               }) now.may.left (λ s opened. subst (λ txn. SuitsNext c.pipelining answers.Learnt s.call txn) (sym closed) tt);
           after =
-              subst (λ k. Rests c.session (max c.clock ts) c.begun c.txn c.later c.job k) (sym (told_is answers.Learnt k2))
+              subst (λ k. Rests loses c.session (max c.clock ts) c.begun c.txn c.later c.job k) (sym (told_is answers.Learnt k2))
               (record {
                 counted = record {
                   clock = omega (arith, before.counted.clock);

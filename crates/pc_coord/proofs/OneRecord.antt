@@ -1,15 +1,14 @@
 -- Of the messages of an open call that are waited for, at most one speaks of a record, and a heartbeat is alone.
-use Rattle.std.proofs.Common.{◌≡◌, ◌≢◌, ℕ, Bool, true, false, List, [], ◌∷◌, inl, inr, map, Option, None, Some, refl, sym, ap, ◌∙◌, subst, arith, All, Contains, ◌<◌}
+use Rattle.std.proofs.Common.{◌≡◌, ◌≢◌, ℕ, Bool, true, List, [], ◌∷◌, inl, inr, map, None, Some, refl, sym, ap, ◌∙◌, subst, arith, All, Contains, ◌<◌}
 use Rattle.std.proofs.lemmas.List.Elements.{All-cons, All-contains, All-map, All-nil, All-weaker}
 use Rattle.std.proofs.lemmas.Option.{same_Some}
 use Rattle.pc_base.specs.declared.limits.TheConstants.{MOST_CONFLICTS}
-use Rattle.pc_base.specs.declared.span.Span.{Span}
-use Rattle.pc_call.specs.declared.call.OpenCall.{OpenCall}
 use Rattle.pc_call.specs.declared.purpose.Purpose.{Purpose}
 use Rattle.pc_call.specs.declared.purpose.Purpose.TheVariants as purposes
 use Rattle.pc_call.specs.Serving.{AreReadsOf, InCall, SendsAgain, Serves, StageStands}
 use Rattle.pc_call.specs.Setting.{Setting}
 use Rattle.pc_coord.proofs.Aside.{awaited_in, lone, one_number}
+use Rattle.pc_coord.proofs.Lists.{every}
 use Rattle.pc_coord.proofs.Onward.{IsAlone, alone}
 use Rattle.pc_coord.proofs.Staging.{only_one, parts_of}
 use Rattle.pc_coord.proofs.Steps.{calls}
@@ -22,7 +21,6 @@ use Rattle.pc_call.proofs.Lists.{all_unmapped}
 use Rattle.pc_proto.specs.declared.call.Call.{Call}
 use Rattle.pc_proto.specs.declared.call.Call.TheVariants as calls
 use Rattle.pc_proto.specs.declared.request.Request.{Request}
-use Rattle.pc_proto.specs.declared.request.Request.TheVariants as requests
 use Rattle.pc_proto.specs.Requests.{subject}
 use Rattle.pc_reads.specs.ReadsStanding.{refresh_to}
 use Rattle.pc_txn.specs.declared.txn.OpenTxn.{OpenTxn}
@@ -34,10 +32,6 @@ use Rattle.pc_wave.specs.Standing.{IsAsFar, IsOnItsWay, MessageStands}
 use Rattle.pc_world.specs.Known.{Known}
 use Rattle.pc_world.specs.Known.Traffic.{request_sent}
 use Rattle.pc_world.specs.RangeOf.{pieces}
-
-every : {X : Type 0} (P : X → Type 0) → ((x : X) → P x) → (xs : List X) → All P xs
-every P all [] = All-nil P
-every P all (x ∷ xs) = All-cons P x xs (all x) (every P all xs)
 
 module _ (set : Setting) (k : Known) (x : OpenTxn) (p : Purpose) (ms : List Message) (w : InCall set k x p ms) where
   -- The message speaks of no record.

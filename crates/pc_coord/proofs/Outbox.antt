@@ -1,15 +1,13 @@
 -- The puts that wait in the outbox wait on beside what their session sends, hears and tells.
-use Rattle.std.proofs.Common.{◌≡◌, ◌≢◌, ℕ, zero, suc, ◌+◌, ◌-◌, ◌≤◌, ◌<◌, ◌==◌, Bool, true, false, cond, ◌&&◌, ◌||◌, ◌⊎◌, inl, inr, List, [], ◌∷◌, ◌++◌, find, length, take, Option, None, Some, refl, sym, ap, ◌∙◌, subst, arith, All, Any, Contains, IsTrue, length-append}
-use Rattle.std.specs.List.{list_any}
+use Rattle.std.proofs.Common.{◌≡◌, ◌≢◌, ℕ, zero, suc, ◌+◌, ◌-◌, ◌≤◌, ◌==◌, Bool, true, false, ◌||◌, ◌⊎◌, inl, inr, List, [], ◌∷◌, ◌++◌, length, take, Some, refl, sym, ap, ◌∙◌, subst, arith, All, Any, Contains, IsTrue, length-append}
 use Rattle.std.proofs.lemmas.Bool.{and_parts, eq-eqb}
 use Rattle.std.proofs.lemmas.List.{take-append-le}
-use Rattle.std.proofs.lemmas.List.Elements.{All-append, All-cons, All-contains, All-head, All-nil, All-tail, All-weaker}
-use Rattle.std.proofs.lemmas.Option.{same_Some}
+use Rattle.std.proofs.lemmas.List.Elements.{All-append, All-cons, All-head, All-nil, All-tail, All-weaker}
 use Rattle.pc_base.specs.declared.transaction.TxnId.{TxnId}
 use Rattle.pc_base.specs.Transaction.{same_txn}
 use Rattle.pc_call.specs.declared.later.LaterPut.{LaterPut}
-use Rattle.pc_call.specs.Outbox.{IsApartFrom, IsHeardOrLeft, IsLeftPut, IsOnWayAs, IsReplyToMessage, IsSentAs, IsThePut, OutboxStands, WaitsInOutbox, has_put}
-use Rattle.pc_call.specs.Stages.{HasOutbox, HasOutboxBetween, KeepsOutbox, WaitsBeside}
+use Rattle.pc_call.specs.Outbox.{IsHeardOrLeft, IsOnWayAs, IsReplyToMessage, IsSentAs, IsThePut, OutboxStands, WaitsInOutbox, has_put}
+use Rattle.pc_call.specs.Stages.{HasOutbox, HasOutboxBetween, KeepsOutbox}
 use Rattle.pc_flight.specs.declared.write.WriteInFlight.{WriteInFlight}
 use Rattle.pc_follows.specs.PipelinedPuts.{heard_before}
 use Rattle.pc_lists.proofs.Anywhere.{any_kept}
@@ -154,14 +152,14 @@ same_sent k k2 sent_more sent now =
     ap (λ n. take n k2.sent) same ∙ ap (take (length k.sent - length k.sent_now)) sent ∙ take-append-le (length k.sent - length k.sent_now) k.sent sent_more low
 
 -- where no reply to these messages is waited for, none is on its way
-pub keeps_idle : (k : Known) (x : OpenTxn) (later : List LaterPut) (ms : List Message) → KeepsOutbox k x later ms → ((number : ℕ) → wave_awaits number ms ≡ false) → HasOutbox k x later
+pub keeps_idle : {l : Bool} (k : Known) (x : OpenTxn) (later : List LaterPut) (ms : List Message) → KeepsOutbox l k x later ms → ((number : ℕ) → wave_awaits number ms ≡ false) → HasOutbox l k x later
 keeps_idle k x later ms o idle = record {
   t = o.has.t;
   opened = o.has.opened;
   stands = o.has.stands;
-  left =
+  left = λ quiet.
       left_on o.has.t o.has.t refl refl (heard_before k) (heard_before k) k.heard_now k.heard_now later ms [] (λ m is. is) (λ m is. is)
-      (λ m q there on. let e : false ≡ true = sym (idle m.number) ∙ awaits_in m.number ms q there on.waited in absurd cc) (sent_before k) o.has.left;
+      (λ m q there on. let e : false ≡ true = sym (idle m.number) ∙ awaits_in m.number ms q there on.waited in absurd cc) (sent_before k) (o.has.left quiet);
 }
 
 -- ---- messages beside
@@ -187,8 +185,8 @@ module _ (k k2 : Known) (sent_more : List Sent) (heard_more : List Heard) (more 
       )))
 
 -- beside an open call
-pub keeps_beside : (k k2 : Known) (sent_more : List Sent) (heard_more : List Heard) → HasMore k k2 sent_more heard_more → open_txn k2 ≡ open_txn k → (x : OpenTxn) (later : List LaterPut) (ms : List Message)
-    → All (λ m. goes_beside m.request ≡ true) sent_more → All (λ h. goes_beside h.request ≡ true) heard_more → All (λ h. length k.sent + 1 ≤ h.number) heard_more → KeepsOutbox k x later ms → KeepsOutbox k2 x later ms
+pub keeps_beside : {l : Bool} (k k2 : Known) (sent_more : List Sent) (heard_more : List Heard) → HasMore k k2 sent_more heard_more → open_txn k2 ≡ open_txn k → (x : OpenTxn) (later : List LaterPut) (ms : List Message)
+    → All (λ m. goes_beside m.request ≡ true) sent_more → All (λ h. goes_beside h.request ≡ true) heard_more → All (λ h. length k.sent + 1 ≤ h.number) heard_more → KeepsOutbox l k x later ms → KeepsOutbox l k2 x later ms
 keeps_beside k k2 sent_more heard_more more opened x later ms sent heard new o = record {
   has = record {
     t = o.has.t;
@@ -196,12 +194,12 @@ keeps_beside k k2 sent_more heard_more more opened x later ms sent heard new o =
     stands =
         wait_beside k k2 sent_more heard_more more o.has.t x later (All-weaker (λ m. goes_beside m.request ≡ true) (λ m. is_put m.request ≡ false) (λ m is. beside_no_put m.request is) sent_more sent)
         (All-weaker (λ h. goes_beside h.request ≡ true) (λ h. is_put h.request ≡ false) (λ h is. beside_no_put h.request is) heard_more heard) new o.has.stands;
-    left =
+    left = λ quiet.
         let same = same_before k k2 sent_more heard_more more in
         let kept : (m : Sent) → Any (IsReplyToMessage m) k.heard_now → Any (IsReplyToMessage m) k2.heard_now = λ m some. subst (λ hs. Any (IsReplyToMessage m) hs) (sym more.heard_now) (any_kept (IsReplyToMessage m) k.heard_now heard_more some) in
         subst (λ ms0. All (IsHeardOrLeft (heard_before k2) k2.heard_now o.has.t later ms) ms0) (sym (same_sent k k2 sent_more more.sent more.sent_now))
         (left_on o.has.t o.has.t refl refl (heard_before k) (heard_before k2) k.heard_now k2.heard_now later ms ms (λ m is. subst (λ hs. IsTrue (is_heard hs m)) (sym same) is) kept
-        (λ m q there on. inl (there.0, q, there.1, there.2, on)) (sent_before k) o.has.left);
+        (λ m q there on. inl (there.0, q, there.1, there.2, on)) (sent_before k) (o.has.left quiet));
   };
   apart = o.apart;
 }
@@ -218,17 +216,17 @@ pub still_heard : (m : Sent) (hs more hs2 : List Heard) → hs2 ≡ hs ++ more �
 still_heard m hs more hs2 is heard = subst (λ hs. IsTrue (is_heard hs m)) (sym is) (heard_more_still m hs more heard)
 
 -- and between calls, where a message that does not go beside was heard
-pub between_beside : (k k2 : Known) (sent_more : List Sent) (heard_more : List Heard) → HasMore k k2 sent_more heard_more → open_txn k2 ≡ open_txn k → (x : OpenTxn) (later : List LaterPut)
+pub between_beside : {l : Bool} (k k2 : Known) (sent_more : List Sent) (heard_more : List Heard) → HasMore k k2 sent_more heard_more → open_txn k2 ≡ open_txn k → (x : OpenTxn) (later : List LaterPut)
     → All (λ m. is_put m.request ≡ false) sent_more → All (λ h. is_put h.request ≡ false) heard_more → All (λ h. length k.sent + 1 ≤ h.number) heard_more
-    → All (λ m. (goes_beside m.request ≡ true) ⊎ IsTrue (is_heard k2.heard m)) sent_more → HasOutboxBetween k x later → HasOutboxBetween k2 x later
+    → All (λ m. (goes_beside m.request ≡ true) ⊎ IsTrue (is_heard k2.heard m)) sent_more → HasOutboxBetween l k x later → HasOutboxBetween l k2 x later
 between_beside k k2 sent_more heard_more more opened x later sent heard new done o = record {
   t = o.t;
   opened = opened ∙ o.opened;
   stands = wait_beside k k2 sent_more heard_more more o.t x later sent heard new o.stands;
-  left =
+  left = λ quiet.
       let P : Sent → Type 0 = IsHeardOrLeft k2.heard [] o.t later [] in
       subst (λ ms. All P ms) (sym more.sent)
       (All-append P k.sent sent_more
-      (left_on o.t o.t refl refl k.heard k2.heard [] [] later [] [] (λ m is. still_heard m k.heard heard_more k2.heard more.heard is) (λ m is. is) (λ m q there on. absurd (omega (arith, there.1))) k.sent o.left)
+      (left_on o.t o.t refl refl k.heard k2.heard [] [] later [] [] (λ m is. still_heard m k.heard heard_more k2.heard more.heard is) (λ m is. is) (λ m q there on. absurd (omega (arith, there.1))) k.sent (o.left quiet))
       (All-weaker (λ m. (goes_beside m.request ≡ true) ⊎ IsTrue (is_heard k2.heard m)) P (λ m is. elim is [ inl beside ↦ inr (inl beside) | inr was ↦ inl was ]) sent_more done));
 }

@@ -1,5 +1,5 @@
 -- A call is asked where no transaction is open: it begins one, or is told that there is none.
-use Rattle.std.proofs.Common.{◌≡◌, ℕ, ◌+◌, ◌*◌, ◌/◌, ◌^◌, ◌<◌, ◌≤◌, nat_lt, Bool, true, false, not, cond, ◌&&◌, length, List, [], ◌∷◌, Some, None, refl, sym, ap, ◌∙◌, subst, arith, All}
+use Rattle.std.proofs.Common.{◌≡◌, ℕ, ◌+◌, ◌*◌, ◌/◌, ◌^◌, ◌<◌, ◌≤◌, nat_lt, Bool, true, false, not, cond, ◌&&◌, length, List, [], ◌∷◌, Some, None, refl, sym, ap, ◌∙◌, subst, arith}
 use Rattle.std.specs.Bool.{MatchBool}
 use Rattle.std.proofs.lemmas.Bool.{le-ltb, lt-ltb, ltb-false, ltb-true}
 use Rattle.std.proofs.lemmas.List.Elements.{All-nil}
@@ -21,7 +21,7 @@ use Rattle.pc_coord.proofs.Ranged.{ranged_asked}
 use Rattle.pc_coord.proofs.Tells.{outbox_begins}
 use Rattle.pc_coord.specs.Coordination.{Coordination, beginning, telling, with_clock}
 use Rattle.pc_coord.specs.Going.{StandsReady}
-use Rattle.pc_coord.specs.Knows.{IsHeardBesideOrPut, IsHeld, IsOutboxOf, KeepsCourse, Knows, Rests, messages_left}
+use Rattle.pc_coord.specs.Knows.{IsHeld, IsOutboxOf, KeepsCourse, Knows, Rests, messages_left, AreAllHeard}
 use Rattle.pc_coord.specs.Suiting.{SuitsNext}
 use Rattle.pc_proto.specs.declared.answer.Answer.{Answer}
 use Rattle.pc_proto.specs.declared.answer.Answer.TheVariants as answers
@@ -104,11 +104,11 @@ suits_begun : (pipelining : Bool) (id : TxnId) (ts : ℕ) (call : Call) → Suit
 suits_begun true id ts call = tt
 suits_begun false id ts call = refl
 
-module _ (loses : Bool) (c : Coordination) (k : Known) (r : StandsReady loses c k) (closed : k.is_open ≡ false) (unheld : c.txn ≡ None) (empty : c.later ≡ []) (over : All (IsHeardBesideOrPut k) k.sent) where
+module _ (loses : Bool) (c : Coordination) (k : Known) (r : StandsReady loses c k) (closed : k.is_open ≡ false) (unheld : c.txn ≡ None) (empty : c.later ≡ []) (over : AreAllHeard loses k) where
   course_asked : (now : Coordination) (call : Call) (reading : ℕ) → now.tries ≡ c.tries → now.splits ≡ c.splits → now.pipelining ≡ c.pipelining → now.later ≡ c.later → KeepsCourse loses now (known_asked call reading k)
   course_asked now call reading tries splits pipelining later =
       let o : KeepsCourse loses now k = course_with loses c now k tries splits pipelining (subst (λ b. MayWait b now.later) (sym pipelining) (subst (λ l. MayWait c.pipelining l) (sym later) r.course.may_wait)) r.course in
-      record { quiet = o.quiet; tried = o.tried; rising = o.rising; ranged = ranged_asked now.splits k o.ranged call reading; may_wait = o.may_wait; unstaged = o.unstaged }
+      record { tried = o.tried; rising = o.rising; ranged = ranged_asked now.splits k o.ranged call reading; one_range = o.one_range; may_wait = o.may_wait; unstaged = o.unstaged }
 
   -- a call is told where no transaction is open
   told_outside : (call : Call) (reading : ℕ) (answer : Answer) → IsSimple answer → MayTellIn c.splits (actors.Session c.session) (known_asked call reading k) (record { call = call; reading = reading }) answer
@@ -122,7 +122,7 @@ module _ (loses : Bool) (c : Coordination) (k : Known) (r : StandsReady loses c 
               tellable (record {
                 may = record { s = record { call = call; reading = reading }; opened = refl; told = told };
                 written = simple.written c.pipelining k2;
-                aborts = simple.aborts k2;
+                aborts = λ quiet. simple.aborts k2;
                 rolled_back = simple.rolled_back k2;
                 restarts = simple.restarts k2;
                 eighth = any_eighth loses k2 answer (simple.eighth k2 refl);
@@ -130,12 +130,12 @@ module _ (loses : Bool) (c : Coordination) (k : Known) (r : StandsReady loses c 
                 beats = λ quiet. closed_beats k2 answer closed;
               }) (ap messages_left r.handed ∙ sym (simple.left k2)) (λ s is. subst (λ txn. SuitsNext c.pipelining answer s.call txn) (sym unheld) tt);
           after =
-              subst (λ k. Rests c.session c.clock c.begun c.txn c.later c.job k) (sym (told_is answer k2))
+              subst (λ k. Rests loses c.session c.clock c.begun c.txn c.later c.job k) (sym (told_is answer k2))
               (record {
                 counted = counted-told c.session c.clock c.begun k2 (counted-asked c.session c.clock c.begun k r.counted call reading) answer high begun;
                 none_open = refl;
                 held = subst (λ txn. IsHeld txn (known_told answer k2)) (sym unheld) (stays ∙ closed);
-                outbox = subst (λ txn. IsOutboxOf txn c.later (known_told answer k2)) (sym unheld) (empty, over);
+                outbox = subst (λ txn. IsOutboxOf loses txn c.later (known_told answer k2)) (sym unheld) (empty, over);
                 left = no_job c.job (known_told answer k2) r.handed;
               });
         };
@@ -218,7 +218,7 @@ module _ (loses : Bool) (c : Coordination) (k : Known) (r : StandsReady loses c 
                     (record { priority = priority; asked = refl; next = (refl, ap (λ n. n + 1) r.counted.begun); at = ap (clock_now reading) r.counted.clock });
               };
               written = tt;
-              aborts = tt;
+              aborts = λ quiet. tt;
               rolled_back = tt;
               restarts = tt;
               eighth = any_eighth loses k2 answer (none_heard k2 answer refl);
@@ -226,19 +226,19 @@ module _ (loses : Bool) (c : Coordination) (k : Known) (r : StandsReady loses c 
               beats = λ quiet. closed_beats k2 answer closed;
             }) (ap messages_left r.handed) (λ s is. suits_begun c.pipelining id ts s.call);
         after =
-            subst (λ k. Rests c.session ts (c.begun + 1) (Some x) c.later c.job k) (sym (told_is answer k2))
+            subst (λ k. Rests loses c.session ts (c.begun + 1) (Some x) c.later c.job k) (sym (told_is answer k2))
             (record {
               counted = counted;
               none_open = refl;
               held = held;
-              outbox = subst (λ l. HasOutboxBetween k3 x l) (sym empty) (outbox_begins k3 t x c.session k.begun (length k.sent) refl over r.counted.sent (omega (arith, new)));
+              outbox = subst (λ l. HasOutboxBetween loses k3 x l) (sym empty) (outbox_begins k3 t x c.session k.begun (length k.sent) refl over r.counted.sent (omega (arith, new)));
               left = no_job c.job k3 r.handed;
             });
       };
     }
 
 -- a begin at the timestamp that the clock gave
-pub begun_knows : (loses : Bool) (c now : Coordination) (k : Known) (priority : Priority) (reading ts : ℕ) → StandsReady loses c k → k.is_open ≡ false → c.txn ≡ None → c.later ≡ [] → All (IsHeardBesideOrPut k) k.sent → now ≡ with_clock ts c → ts ≡ clock_now reading c.clock
+pub begun_knows : (loses : Bool) (c now : Coordination) (k : Known) (priority : Priority) (reading ts : ℕ) → StandsReady loses c k → k.is_open ≡ false → c.txn ≡ None → c.later ≡ [] → AreAllHeard loses k → now ≡ with_clock ts c → ts ≡ clock_now reading c.clock
     → reading ≤ GREATEST_READING → Knows loses (beginning priority reading ts now) (known_asked (calls.Begin priority) reading k)
 begun_knows loses c now k priority reading ts r closed unheld empty over given at within =
     subst (λ n. Knows loses (beginning priority reading ts n) (known_asked (calls.Begin priority) reading k)) (sym given)

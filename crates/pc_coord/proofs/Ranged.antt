@@ -135,10 +135,6 @@ ranged-beside c splits start k later r = record {
   reads = mapped_reads splits start.txns k.txns later.txns.reads r.reads;
 }
 
-every : {X : Type 0} (P : X → Type 0) → ((x : X) → P x) → (xs : List X) → All P xs
-every P all [] = All-nil P
-every P all (x ∷ xs) = All-cons P x xs (all x) (every P all xs)
-
 module _ (set : Setting) (k : Known) (x : OpenTxn) (p : Purpose) (ms : List Message) (rising : AreRising set.splits) (ranged : IsRanged set.splits k) (w : InCall set k x p ms) where
   abbrev LiesForOne : Message → Type 0
   LiesForOne m = IsForOne set.splits m.request

@@ -10,7 +10,7 @@ use Rattle.pc_call.specs.Rounding.{GoesOnBeside, IsPushedOnce, MakesRound, Refus
 use Rattle.pc_coord.proofs.Beside.{heard_goes-beside, more-beside, other-beside, sent_goes-beside, unqueried-beside}
 use Rattle.pc_coord.specs.Beside.{IsLaterBeside}
 use Rattle.pc_coord.specs.Coordination.{Coordination}
-use Rattle.pc_coord.specs.Rounds.{AreAskedOnce, EndsWithReply, IsBehindPush, IsRefusedRound, IsSettledRound, LeavesRoundOn}
+use Rattle.pc_coord.specs.Rounds.{EndsWithReply, IsBehindPush, IsRefusedRound, IsSettledRound, LeavesRoundOn}
 use Rattle.pc_follows.specs.RoundOrder.{with_waiting}
 use Rattle.pc_follows.specs.RoundsMade.{RoundCount, is_open_one, no_rounds, one_over, rounds_after, rounds_by, rounds_made, with_conflict}
 use Rattle.pc_lists.proofs.Counts.{count-append, count-cons, one_if}

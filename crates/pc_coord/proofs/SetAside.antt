@@ -1,10 +1,10 @@
 -- A put that is told written at once waits in the outbox.
-use Rattle.std.proofs.Common.{◌≡◌, ◌≢◌, ◌⊎◌, ℕ, zero, suc, ◌+◌, ◌≤◌, ◌<◌, ◌==◌, Bool, true, false, cond, ◌&&◌, ◌||◌, inl, inr, List, [], ◌∷◌, ◌++◌, find, length, Option, None, Some, unwrap_or, refl, sym, ap, ◌∙◌, subst, arith, All, Any, Contains, IsTrue}
+use Rattle.std.proofs.Common.{◌≡◌, ◌≢◌, ◌⊎◌, ℕ, zero, suc, ◌+◌, ◌≤◌, ◌<◌, ◌==◌, Bool, true, false, cond, ◌&&◌, ◌||◌, inl, inr, List, [], ◌∷◌, ◌++◌, find, length, map, Option, None, Some, unwrap_or, refl, sym, ap, ◌∙◌, subst, arith, All, Any, Contains, IsTrue}
 use Rattle.std.specs.List.{list_all, list_any}
 use Rattle.std.specs.Option.{option_map, option_or}
 use Rattle.std.proofs.lemmas.Bool.{eq-eqb, eqb-true}
 use Rattle.std.proofs.lemmas.List.{append-nil, length-append}
-use Rattle.std.proofs.lemmas.List.Elements.{All-cons, All-contains, All-head, All-nil, All-push, All-tail, All-weaker, Contains-push}
+use Rattle.std.proofs.lemmas.List.Elements.{All-contains, All-head, All-nil, All-push, All-tail, All-weaker, Contains-push}
 use Rattle.std.proofs.lemmas.Option.{same_Some}
 use Rattle.pc_base.specs.Span.{same_key}
 use Rattle.pc_base.specs.Transaction.{same_txn}
@@ -30,6 +30,7 @@ use Rattle.pc_coord.specs.Coordination.{Coordination, is_writing, setting_of}
 use Rattle.pc_flight.specs.declared.write.WriteInFlight.{WriteInFlight}
 use Rattle.pc_lists.proofs.Same.{same_key-self, same_txn-self}
 use Rattle.pc_proto.specs.declared.answer.Answer.TheVariants as answers
+use Rattle.pc_proto.specs.declared.meta.TxnMeta.{TxnMeta}
 use Rattle.pc_proto.specs.declared.request.Request.{Request}
 use Rattle.pc_proto.specs.declared.request.Request.TheVariants as requests
 use Rattle.pc_proto.specs.Requests.{is_put, is_put_of}
@@ -38,16 +39,16 @@ use Rattle.pc_txn.proofs.Laying.{seq_low}
 use Rattle.pc_txn.proofs.Writes.{below_last}
 use Rattle.pc_txn.specs.Counted.{IsCounted, IsOwnHeard, IsOwnSent}
 use Rattle.pc_txn.specs.declared.txn.OpenTxn.{OpenTxn}
-use Rattle.pc_txn.specs.Opened.{next_put, put_at, with_next_write}
+use Rattle.pc_txn.specs.Opened.{meta_now, next_put, put_at, with_next_write}
 use Rattle.pc_txn.specs.Writing.{PutsUpTo, WasAskedAt}
 use Rattle.pc_wave.proofs.Sending.{sends_first}
 use Rattle.pc_wave.specs.declared.message.Message.{Message}
 use Rattle.pc_wave.specs.declared.step.Step.TheVariants as steps
 use Rattle.pc_wave.specs.Messages.{first_changed, first_in_conflict, has_answer, is_to_send, sent_under, step_of}
 use Rattle.pc_world.specs.Known.{Known, call_in, call_of, next_number}
-use Rattle.pc_world.specs.Known.Traffic.{Heard, Sent, replies_to, request_sent}
+use Rattle.pc_world.specs.Known.Traffic.{Heard, Sent, replies_to}
 use Rattle.pc_world.specs.Known.Transactions.{Txn, anchor_sent, txn_sent, txn_told}
-use Rattle.pc_world.specs.Known.Writes.{Write, last_seq_of, with_put, writes_sent}
+use Rattle.pc_world.specs.Known.Writes.{Write, asked_again, last_seq_of, with_put, writes_sent}
 
 -- ---- the last message that was sent
 
@@ -73,7 +74,7 @@ none_yet seq (w ∷ writes) low = ap (λ b. b || list_any (λ w. w.seq == seq) w
     by true is = let e = eqb-true w.seq seq is in let less = All-head (λ w. w.seq < seq) w writes low in absurd (omega (arith, e, less))
     by false is = is
 
-asked_new : (t : Txn) (meta : _) (seq ts : ℕ) (key : List ℕ) (value : Option (List ℕ)) → same_txn meta.id t.id ≡ true → (meta.epoch == t.epoch) ≡ true → last_seq_of t.writes < seq → WasAskedAt (txn_sent (requests.Put meta seq ts key value) t) seq ts
+asked_new : (t : Txn) (meta : TxnMeta) (seq ts : ℕ) (key : List ℕ) (value : Option (List ℕ)) → same_txn meta.id t.id ≡ true → (meta.epoch == t.epoch) ≡ true → last_seq_of t.writes < seq → WasAskedAt (txn_sent (requests.Put meta seq ts key value) t) seq ts
 asked_new t meta seq ts key value own now less =
     let P : Write → Type 0 = λ w. (w.seq ≡ seq) × Contains w.asked ts in
     let new : Write = record { key = key; seq = seq; value = value; asked = ts ∷ []; proofs = [] } in
@@ -81,14 +82,14 @@ asked_new t meta seq ts key value own now less =
     let is : writes_sent t.id t.epoch (requests.Put meta seq ts key value) t.writes ≡ t.writes ++ new ∷ [] =
     ap (λ b. cond (b && (meta.epoch == t.epoch)) (with_put seq ts key value t.writes) t.writes) own
     ∙ ap (λ b. cond (true && b) (with_put seq ts key value t.writes) t.writes) now
-    ∙ ap (λ b. cond b _ (t.writes ++ new ∷ [])) none in
+    ∙ ap (λ b. cond b (map (asked_again seq ts) t.writes) (t.writes ++ new ∷ [])) none in
     subst (λ ws. Any P ws) (sym is) (last_any P t.writes new (refl, (0, omega arith, refl)))
 
 or_is : (o : Option (List ℕ)) (key : List ℕ) → option_or o (Some key) ≡ Some (unwrap_or o key)
 or_is None key = refl
 or_is (Some anchor) key = refl
 
-module _ (loses : Bool) (c : Coordination) (k : Known) (x : OpenTxn) (p : Purpose) (ms : List Message) (w : InCall (setting_of loses c) k x p ms) (a : KeepsAside c.pipelining k x p c.later ms) (counted : IsCounted c.session c.clock c.begun k)
+module _ (loses : Bool) (c : Coordination) (k : Known) (x : OpenTxn) (p : Purpose) (ms : List Message) (w : InCall (setting_of loses c) k x p ms) (a : KeepsAside loses c.pipelining k x p c.later ms) (counted : IsCounted c.session c.clock c.begun k)
     (writes : p ≡ purposes.Write) (once : (c.pipelining && is_writing p) ≡ true) (number range : ℕ) (request : Request) (due : step_of ms ≡ steps.Send request) (next : number ≡ next_number k) where
   abbrev ks : Known
   ks = known_sent number range request k
@@ -187,7 +188,7 @@ module _ (loses : Bool) (c : Coordination) (k : Known) (x : OpenTxn) (p : Purpos
     low = omega (arith, ap (λ x. x.write_ts) w.stands.same, ap (λ (t : Txn). t.write_ts) same_t);
     asked =
         subst (λ r. WasAskedAt (txn_sent r t) (x.seq + 1) x.write_ts) (sym req)
-        (asked_new t _ (x.seq + 1) x.write_ts s.key s.value own_id (eq-eqb x.epoch t.epoch epoch_is) (omega (arith, seq_is)));
+        (asked_new t (meta_now x anchor) (x.seq + 1) x.write_ts s.key s.value own_id (eq-eqb x.epoch t.epoch epoch_is) (omega (arith, seq_is)));
     numbered = omega (arith, next, length-append k.sent (m2 ∷ []));
     sent = ap (option_map (λ s. s.request)) (found_last number k.sent m2 low_sent refl);
     once =
@@ -198,7 +199,7 @@ module _ (loses : Bool) (c : Coordination) (k : Known) (x : OpenTxn) (p : Purpos
     unput = All-weaker (λ h. PutsUpTo w.t (last_seq_of w.t.writes) h.request) (λ h. IsTrue (is_put_of ts.id ts.epoch (x.seq + 1) h.request) → ⊥) (λ h up is. puts_low h.request up is) k.heard w.stands.put_heard;
   }
 
-  h : HasAside k x c.later
+  h : HasAside loses k x c.later
   h = aside_idle c.pipelining k x p c.later ms a (λ n. unsent_idle n ms (subst (λ b. AreUnsent b ms) once a.unsent))
 
   -- what waited before waits on
@@ -251,19 +252,19 @@ module _ (loses : Bool) (c : Coordination) (k : Known) (x : OpenTxn) (p : Purpos
       by (inl waits) = inl (any_front (IsSentAs m) c.later (put ∷ []) waits)
       by (inr other) = inr other
 
-  left_then : All (IsHeardOrLeft k3.heard [] t3 later2 []) k3.sent
-  left_then =
-      let o : HasOutboxBetween (known_told answers.Written k) x c.later = wait_on k x x c.later answers.Written w.split h tt ((λ anchor. refl), (λ f there. there)) in
+  left_then : loses ≡ false → All (IsHeardOrLeft k3.heard [] t3 later2 []) k3.sent
+  left_then quiet =
+      let o : HasOutboxBetween loses (known_told answers.Written k) x c.later = wait_on k x x c.later answers.Written w.split h tt ((λ anchor. refl), (λ f there. there)) in
       let same : o.t ≡ txn_told answers.Written (replies_to k.sent_now k.heard_now) t = same_Some o.t (txn_told answers.Written (replies_to k.sent_now k.heard_now) t) (sym o.opened ∙ told_open answers.Written k t tt a.outbox.has.opened) in
       All-push (IsHeardOrLeft k.heard [] t3 later2 []) k.sent m2
       (All-weaker (IsHeardOrLeft k.heard [] t3 c.later []) (IsHeardOrLeft k.heard [] t3 later2 []) more_left k.sent
-      (left_on o.t t3 (sym (ap (λ (t : Txn). t.id) same)) (sym (ap (λ (t : Txn). t.epoch) same)) k.heard k.heard [] [] c.later [] [] (λ m is. is) (λ m is. is) (λ m q there on. absurd (omega (arith, there.1))) k.sent o.left))
+      (left_on o.t t3 (sym (ap (λ (t : Txn). t.id) same)) (sym (ap (λ (t : Txn). t.epoch) same)) k.heard k.heard [] [] c.later [] [] (λ m is. is) (λ m is. is) (λ m q there on. absurd (omega (arith, there.1))) k.sent (o.left quiet)))
       (inr (inr (record { put = ap is_put req; waits = λ seq is. inl (last_any (IsSentAs m2) c.later put (record { numbered = refl; asked = refl })) })))
 
   -- so the put is set aside
-  pub set_aside : HasOutboxBetween (known_told answers.Written ks) xs (c.later ++ later_sent number (first_changed is_to_send (sent_under number) ms))
+  pub set_aside : HasOutboxBetween loses (known_told answers.Written ks) xs (c.later ++ later_sent number (first_changed is_to_send (sent_under number) ms))
   set_aside =
-      subst (λ ps. HasOutboxBetween k3 xs (c.later ++ ps)) (sym (later_one (setting_of loses c) k x p ms w writes number request due))
+      subst (λ ps. HasOutboxBetween loses k3 xs (c.later ++ ps)) (sym (later_one (setting_of loses c) k x p ms w writes number request due))
       (record { t = t3; opened = told_open answers.Written ks ts tt (open_sent k number range request t a.outbox.has.opened); stands = waits_then; left = left_then })
 
   -- no write of its key was in flight

@@ -1,5 +1,5 @@
 -- Where no put waits, and no message of the call is on its way, no reply to the messages of a stage is waited for.
-use Rattle.std.proofs.Common.{◌<◌, ◌≡◌, ◌≢◌, ℕ, ◌+◌, ◌≤◌, ◌==◌, Bool, true, false, cond, ◌||◌, ◌⊎◌, inl, inr, List, [], ◌∷◌, find, Option, None, Some, refl, sym, ap, ◌∙◌, subst, arith, All, Any, Contains, IsTrue}
+use Rattle.std.proofs.Common.{◌<◌, ◌≡◌, ◌≢◌, ℕ, ◌==◌, Bool, true, false, cond, ◌||◌, ◌⊎◌, inl, inr, List, [], ◌∷◌, find, Some, refl, sym, ap, ◌∙◌, subst, arith, All, Any, Contains, IsTrue}
 use Rattle.std.specs.Option.{option_map}
 use Rattle.std.proofs.lemmas.Bool.{eqb-true}
 use Rattle.std.proofs.lemmas.List.Elements.{All-append, All-cons, All-contains, All-head, All-nil, All-tail, All-weaker}
@@ -53,7 +53,7 @@ none_left m (inl waits) = absurd (omega (arith, waits.2))
 none_left m (inr (inl out)) = absurd (omega (arith, out.2))
 none_left m (inr (inr replied)) = absurd (omega (arith, replied.2))
 
-module _ (set : Setting) (k : Known) (x : OpenTxn) (p : Purpose) (ms : List Message) (w : InCall set k x p ms) (n : ℕ) (stages : p ≡ purposes.Stage n) (a : HasAside k x []) where
+module _ (set : Setting) (k : Known) (x : OpenTxn) (p : Purpose) (ms : List Message) (w : InCall set k x p ms) (n : ℕ) (stages : p ≡ purposes.Stage n) (quiet : set.course.loses ≡ false) (a : HasAside set.course.loses k x []) where
   s : ServesStage set.course n k w.s w.t x w.stages ms
   s = served_stage set k x p ms w n stages
 
@@ -98,7 +98,7 @@ module _ (set : Setting) (k : Known) (x : OpenTxn) (p : Purpose) (ms : List Mess
       let o = awaited_in number ms waits in
       let st : MessageStands set.course k o.0 = All-contains (MessageStands set.course k) ms o.0 w.wave.stand o.1 in
       let far : IsOnItsWay set.course k number o.0.request × (o.0.conflicts < MOST_CONFLICTS) = subst (λ p. IsAsFar set.course k o.0.request o.0.conflicts p) (awaits_as number o.0.progress o.2) st.as_far in
-      let q = sent_all (IsHeardOrLeft k.heard [] a.outbox.t [] []) number o.0.request k.sent far.0.out.said (all_left k w.split x [] a) in
+      let q = sent_all (IsHeardOrLeft k.heard [] a.outbox.t [] []) number o.0.request k.sent far.0.out.said (all_left k w.split x [] a quiet) in
       none_sent o.0 q.0 o.1 q.2 st.no_round (unheard_stays number q.0 k.heard q.1 far.0.unheard) q.3
 
   pub staged_idle : (number : ℕ) → wave_awaits number ms ≡ false

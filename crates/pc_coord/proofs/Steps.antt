@@ -1,5 +1,6 @@
 -- A coordinator is asked, sends, hears, and settles a round: what holds before its call goes on.
-use Rattle.std.proofs.Common.{◌≡◌, ℕ, ◌≤◌, max, nat_lt, Bool, true, false, cond, ◌||◌, ◌&&◌, ◌⊎◌, inl, inr, List, [], ◌∷◌, find, Option, Some, None, refl, sym, ap, ◌∙◌, subst, arith, OnOk, Ok, Err, Result, All, IsTrue}
+use Rattle.std.proofs.Common.{◌≡◌, ℕ, max, nat_lt, Bool, true, false, cond, ◌||◌, ◌&&◌, ◌⊎◌, inl, inr, List, [], ◌∷◌, find, Option, Some, None, refl, sym, ap, ◌∙◌, subst, arith, OnOk, Ok, Err, Result, All, IsTrue}
+use Rattle.std.proofs.lemmas.Bool.{or_left, or_right}
 use Rattle.std.specs.List.{list_all, list_any}
 use Rattle.std.proofs.lemmas.List.Elements.{All-append, All-cons, All-head, All-nil, All-tail, All-weaker}
 use Rattle.std.proofs.lemmas.Option.{same_Some}
@@ -25,7 +26,7 @@ use Rattle.pc_coord.proofs.Rounds.{makes_round, refuses_round}
 use Rattle.pc_coord.proofs.Aside.{free_on}
 use Rattle.pc_coord.specs.Aside.{IsHeardOrOut, KeepsAside}
 use Rattle.pc_coord.specs.Beside.{IsLaterBeside}
-use Rattle.pc_coord.specs.Coordination.{Coordination, SendsNoMore, awaits_number, is_writing, next_at, next_by, next_in, next_of, request_next, setting_of, with_clock}
+use Rattle.pc_coord.specs.Coordination.{Coordination, HasSentWave, awaits_number, is_writing, next_at, next_by, next_in, next_of, request_next, setting_of, with_clock}
 use Rattle.pc_coord.specs.declared.due.Due.{Due}
 use Rattle.pc_coord.specs.declared.due.Due.TheVariants as dues
 use Rattle.pc_coord.specs.declared.next.Next.{Next}
@@ -34,7 +35,7 @@ use Rattle.pc_coord.specs.declared.round.Round.{Round}
 use Rattle.pc_coord.specs.declared.round.Round.TheVariants as rounds
 use Rattle.pc_coord.specs.Events.{HearsAwaited}
 use Rattle.pc_coord.specs.Going.{HasHadRound, HearsNow, StandsReady}
-use Rattle.pc_coord.specs.Knows.{HasCallDue, IsHeardBesideOrPut, IsHeld, IsOutboxOf, Knows, KnowsAt, is_under_way}
+use Rattle.pc_coord.specs.Knows.{HasCallDue, IsHeld, IsOutboxOf, Knows, KnowsAt, is_under_way, AreAllHeard}
 use Rattle.pc_coord.specs.Rounds.{EndsRound}
 use Rattle.pc_coord.specs.Suiting.{Suits}
 use Rattle.pc_history.specs.declared.pair.Pair.{Pair}
@@ -54,10 +55,11 @@ use Rattle.pc_wave.specs.declared.step.Step.{Step}
 use Rattle.pc_wave.specs.declared.step.Step.TheVariants as steps
 use Rattle.pc_wave.specs.Messages.{awaits_at, first_in_conflict, has_answer, is_in_conflict, is_out, is_pending, is_to_send, progress_awaits, progress_has_answer, progress_in_conflict, progress_out, progress_to_send, step_by, step_of, wave_awaits}
 use Rattle.pc_wave.specs.Standing.{goes_beside}
-use Rattle.pc_world.specs.Known.{Known, call_in, learn, open_txn, reading_in, reading_of}
+use Rattle.pc_world.specs.Known.{Known, learn, open_txn, reading_in, reading_of}
 use Rattle.pc_world.specs.Known.Traffic.{Heard, Sent, request_sent}
 use Rattle.pc_world.specs.Known.Transactions.{Txn}
 use Rattle.pc_world.specs.Local.{is_outside}
+use Rattle.pc_coord.proofs.OneRange.{one_range_heard}
 
 pub on_ok : (r : Result (Unit {0}) NoMemory) (P Q : Type 0) → (P → Q) → OnOk r P → OnOk r Q
 on_ok (Ok u) P Q f p = f p
@@ -81,12 +83,12 @@ pub standing : (loses : Bool) (c : Coordination) (k : Known) (x : OpenTxn) → K
 standing loses c k x knows none held = subst (λ txn. IsHeld txn k) held (rests loses c k knows none).held
 
 -- its puts wait in the outbox
-pub waiting : (loses : Bool) (c : Coordination) (k : Known) (x : OpenTxn) → Knows loses c k → k.statement ≡ None → c.txn ≡ Some x → HasOutboxBetween k x c.later
-waiting loses c k x knows none held = subst (λ txn. IsOutboxOf txn c.later k) held (rests loses c k knows none).outbox
+pub waiting : (loses : Bool) (c : Coordination) (k : Known) (x : OpenTxn) → Knows loses c k → k.statement ≡ None → c.txn ≡ Some x → HasOutboxBetween loses k x c.later
+waiting loses c k x knows none held = subst (λ txn. IsOutboxOf loses txn c.later k) held (rests loses c k knows none).outbox
 
 -- or where none is open, of all that was sent only puts are not heard
-pub waiting_none : (loses : Bool) (c : Coordination) (k : Known) → Knows loses c k → k.statement ≡ None → c.txn ≡ None → (c.later ≡ []) × All (IsHeardBesideOrPut k) k.sent
-waiting_none loses c k knows none unheld = subst (λ txn. IsOutboxOf txn c.later k) unheld (rests loses c k knows none).outbox
+pub waiting_none : (loses : Bool) (c : Coordination) (k : Known) → Knows loses c k → k.statement ≡ None → c.txn ≡ None → (c.later ≡ []) × AreAllHeard loses k
+waiting_none loses c k knows none unheld = subst (λ txn. IsOutboxOf loses txn c.later k) unheld (rests loses c k knows none).outbox
 
 pub suiting : (c : Coordination) (x : OpenTxn) (call : Call) → Suits c.pipelining call c.txn → c.txn ≡ Some x → SuitsFlightIn c.pipelining call x.in_flight
 suiting c x call suits held = subst (λ txn. Suits c.pipelining call txn) held suits
@@ -107,13 +109,6 @@ awaits_out_at n progresses.ToSend e = absurd cc
 awaits_out_at n (progresses.Sent number) e = refl
 awaits_out_at n (progresses.Met number conflict) e = absurd cc
 awaits_out_at n (progresses.Answered number reply) e = absurd cc
-
-or_left : (a b : Bool) → a ≡ true → (a || b) ≡ true
-or_left a b e = ap (λ a. a || b) e
-
-or_right : (a b : Bool) → b ≡ true → (a || b) ≡ true
-or_right true b e = refl
-or_right false b e = e
 
 pub awaits_out : (n : ℕ) (ms : List Message) → wave_awaits n ms ≡ true → list_any is_out ms ≡ true
 awaits_out n [] e = absurd cc
@@ -276,8 +271,8 @@ module _ (loses : Bool) (c : Coordination) (k : Known) (x : OpenTxn) (call : Ope
   pub in_call : InCall (setting_of loses c) k x call.purpose call.wave
   in_call = subst (λ x. InCall (setting_of loses c) k x call.purpose call.wave) same_x now.in_call
 
-  pub aside : KeepsAside c.pipelining k x call.purpose c.later call.wave
-  aside = subst (λ x. KeepsAside c.pipelining k x call.purpose c.later call.wave) same_x now.aside
+  pub aside : KeepsAside loses c.pipelining k x call.purpose c.later call.wave
+  aside = subst (λ x. KeepsAside loses c.pipelining k x call.purpose c.later call.wave) same_x now.aside
 
   asked_at : (k2 : Known) → k2.statement ≡ k.statement → (reading : ℕ) → reading_of k2 ≡ Some reading → reading ≡ c.reading
   asked_at k2 same reading is = same_Some reading c.reading (sym is ∙ ap reading_in same ∙ now.asked_at)
@@ -312,7 +307,7 @@ module _ (loses : Bool) (c : Coordination) (k : Known) (x : OpenTxn) (call : Ope
       in_call = in_call;
       aside = aside;
       waited = waits;
-      whole = subst SendsNoMore due is.whole;
+      whole = subst HasSentWave due is.whole;
       heard = record { numbered = refl; asked = out.1; told = refl; kind = is.kind out.0 out.1; past = is.past out.0 out.1; shown = is.shown out.0 out.1 };
       alive = is.alive out.0 out.1;
       missed = is.missed out.0 out.1;
@@ -320,10 +315,10 @@ module _ (loses : Bool) (c : Coordination) (k : Known) (x : OpenTxn) (call : Ope
       after = is.after out.0 out.1;
       ready = record {
         course = record {
-          quiet = knows.course.quiet;
           tried = knows.course.tried;
           rising = knows.course.rising;
           ranged = ranged_heard c.splits k knows.course.ranged h out.1;
+          one_range = λ lossy. one_range_heard k h (knows.course.one_range lossy);
           may_wait = knows.course.may_wait;
           unstaged = knows.course.unstaged;
         };
@@ -381,7 +376,7 @@ module _ (loses : Bool) (c : Coordination) (start k : Known) (x : OpenTxn) (call
   had_round round reply ends = absurd ends
 
   -- what stood aside does so still, once its message goes again or as it was
-  pub aside_settles : KeepsAside c.pipelining k x call.purpose c.later call.wave
+  pub aside_settles : KeepsAside loses c.pipelining k x call.purpose c.later call.wave
   aside_settles =
       let a = aside loses c start x call knows held due in
       let t = a.outbox.has.t in
@@ -390,10 +385,10 @@ module _ (loses : Bool) (c : Coordination) (start k : Known) (x : OpenTxn) (call
             keeps_beside start k later.sent_more later.heard_more (more-beside c start k later) later.txns.first x c.later call.wave (sent_goes-beside c start k later opened) (heard_goes-beside c start k later opened) later.heard_first a.outbox;
         joined = a.joined;
         some = a.some;
-        heard =
+        heard = λ quiet.
             let P : Sent → Type 0 = IsHeardOrOut k call.wave in
             subst (λ ms. All P ms) (sym later.sent_now)
-            (All-append P start.sent_now later.sent_more (All-weaker (IsHeardOrOut start call.wave) P (λ m is. still m is) start.sent_now a.heard)
+            (All-append P start.sent_now later.sent_more (All-weaker (IsHeardOrOut start call.wave) P (λ m is. still m is) start.sent_now (a.heard quiet))
             (All-weaker (λ m. IsTrue (goes_beside m.request)) P (λ m is. inr (inl is)) later.sent_more (sent_goes-beside c start k later opened)));
         others = λ u is.
             let P : Sent → Type 0 = λ m. goes_beside m.request ≡ true → is_query_of u.id m.request ≡ false in

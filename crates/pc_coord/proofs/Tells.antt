@@ -1,5 +1,5 @@
 -- The outbox once a call was asked, and once it was told its answer.
-use Rattle.std.proofs.Common.{◌≡◌, ℕ, zero, suc, ◌+◌, ◌-◌, ◌≤◌, ◌==◌, Bool, true, false, cond, ◌&&◌, ◌||◌, ◌⊎◌, inl, inr, List, [], ◌∷◌, ◌++◌, filter, length, take, Option, None, Some, refl, sym, ap, ◌∙◌, subst, arith, All, Any, Contains, IsTrue, length-append}
+use Rattle.std.proofs.Common.{◌≡◌, ℕ, zero, suc, ◌+◌, ◌-◌, ◌≤◌, ◌==◌, Bool, true, false, cond, ◌||◌, ◌⊎◌, inl, inr, List, [], ◌∷◌, ◌++◌, length, take, Some, refl, sym, ap, ◌∙◌, subst, arith, All, Any, Contains, IsTrue, length-append}
 use Rattle.std.proofs.Math.Seq.{take-append_seam}
 use Rattle.std.proofs.lemmas.Bool.{and_parts, eq-eqb, eqb-true}
 use Rattle.std.proofs.lemmas.List.{append-nil}
@@ -7,18 +7,16 @@ use Rattle.std.proofs.lemmas.List.Elements.{All-append, All-cons, All-head, All-
 use Rattle.std.proofs.lemmas.Option.{same_Some}
 use Rattle.pc_base.specs.declared.transaction.TxnId.{TxnId}
 use Rattle.pc_base.specs.Transaction.{same_txn}
-use Rattle.pc_call.proofs.Facts.{before_is, open_is}
+use Rattle.pc_call.proofs.Facts.{before_is}
 use Rattle.pc_call.specs.declared.later.LaterPut.{LaterPut}
 use Rattle.pc_call.specs.Learned.{known_asked, known_told}
-use Rattle.pc_call.specs.Outbox.{IsHeardOrLeft, IsLeftPut, IsOnWayAs, IsReplyToMessage, IsSentAs, OutboxStands, WaitsInOutbox, has_put}
-use Rattle.pc_call.specs.Serving.{IsOpenIn, IsSplit}
-use Rattle.pc_call.specs.Stages.{HasOutbox, HasOutboxBetween}
-use Rattle.pc_call.specs.Telling.{StandsOpen}
+use Rattle.pc_call.specs.Outbox.{IsHeardOrLeft, IsOnWayAs, IsReplyToMessage, IsSentAs, WaitsInOutbox, has_put}
+use Rattle.pc_call.specs.Serving.{IsSplit}
+use Rattle.pc_call.specs.Stages.{HasOutboxBetween}
 use Rattle.pc_coord.proofs.Aside.{StaysInFlight}
-use Rattle.pc_coord.proofs.Outbox.{GoesOnAs, all_wait, any_to, left_on, put_has, still_heard}
-use Rattle.pc_coord.specs.Aside.{AsksForOthers, HasAside, IsHeardOrOut}
-use Rattle.pc_coord.specs.Knows.{IsHeardBesideOrPut}
-use Rattle.pc_flight.specs.declared.write.WriteInFlight.{WriteInFlight}
+use Rattle.pc_coord.proofs.Outbox.{GoesOnAs, all_wait, left_on, still_heard}
+use Rattle.pc_coord.specs.Aside.{HasAside, IsHeardOrOut}
+use Rattle.pc_coord.specs.Knows.{IsHeardBesideOrPut, AreAllHeard}
 use Rattle.pc_follows.specs.PipelinedPuts.{heard_before}
 use Rattle.pc_lists.proofs.Lists.{all_from_contains}
 use Rattle.pc_lists.proofs.Same.{same_txn-is}
@@ -27,13 +25,12 @@ use Rattle.pc_proto.specs.declared.answer.Answer.TheVariants as answers
 use Rattle.pc_proto.specs.declared.call.Call.{Call}
 use Rattle.pc_proto.specs.declared.request.Request.{Request}
 use Rattle.pc_proto.specs.declared.request.Request.TheVariants as requests
-use Rattle.pc_proto.specs.Requests.{is_put, is_put_of}
+use Rattle.pc_proto.specs.Requests.{is_put_of}
 use Rattle.pc_txn.specs.Counted.{IsOwnSent, IsOwnWrite}
 use Rattle.pc_txn.specs.declared.txn.OpenTxn.{OpenTxn}
 use Rattle.pc_txn.specs.Opened.{meta_now}
 use Rattle.pc_txn.specs.Standing.{is_query_of}
 use Rattle.pc_txn.specs.Writing.{PutsUpTo}
-use Rattle.pc_wave.specs.declared.message.Message.{Message}
 use Rattle.pc_wave.specs.Standing.{goes_beside}
 use Rattle.pc_world.specs.Known.{Known, first_if, open_txn, told_first}
 use Rattle.pc_world.specs.Known.Traffic.{Heard, Sent, replies_to}
@@ -109,7 +106,7 @@ module _ (k : Known) (split : IsSplit k) where
   pub all_sent : (P : Sent → Type 0) → All P (sent_before k) → All P k.sent_now → All P k.sent
   all_sent P before now = subst (λ ms. All P ms) (sym split.sent) (All-append P split.sent_first k.sent_now (subst (λ ms. All P ms) (before_is k split) before) now)
 
-  module _ (x : OpenTxn) (later : List LaterPut) (a : HasAside k x later) where
+  module _ {l : Bool} (x : OpenTxn) (later : List LaterPut) (a : HasAside l k x later) where
     abbrev t : Txn
     t = a.outbox.t
 
@@ -119,8 +116,8 @@ module _ (k : Known) (split : IsSplit k) where
     now_over m (inr (inr out)) = absurd (omega (arith, out.2))
 
     -- all but puts was heard
-    pub all_over : All (IsHeardBesideOrPut k) k.sent
-    all_over = all_sent (IsHeardBesideOrPut k) (All-weaker (IsHeardOrLeft (heard_before k) k.heard_now t later []) (IsHeardBesideOrPut k) before (sent_before k) a.outbox.left) (All-weaker (IsHeardOrOut k []) (IsHeardBesideOrPut k) now k.sent_now a.heard)
+    pub all_over : AreAllHeard l k
+    all_over quiet = all_sent (IsHeardBesideOrPut k) (All-weaker (IsHeardOrLeft (heard_before k) k.heard_now t later []) (IsHeardBesideOrPut k) before (sent_before k) (a.outbox.left quiet)) (All-weaker (IsHeardOrOut k []) (IsHeardBesideOrPut k) now k.sent_now (a.heard quiet))
       where
         before : (m : Sent) → IsHeardOrLeft (heard_before k) k.heard_now t later [] m → IsHeardBesideOrPut k m
         before m (inl was) = inl (was_before m was)
@@ -163,14 +160,14 @@ module _ (k : Known) (split : IsSplit k) where
             }))
 
     -- what was sent and not heard waits
-    pub all_left : All (IsHeardOrLeft k.heard [] t later []) k.sent
-    all_left =
-        all_sent (IsHeardOrLeft k.heard [] t later []) (All-weaker (IsHeardOrLeft (heard_before k) k.heard_now t later []) (IsHeardOrLeft k.heard [] t later []) left_over (sent_before k) a.outbox.left)
-        (All-weaker (IsHeardOrOut k []) (IsHeardOrLeft k.heard [] t later []) (λ m is. elim (now_over m is) [ inl was ↦ inl was | inr beside ↦ inr (inl beside) ]) k.sent_now a.heard)
+    pub all_left : l ≡ false → All (IsHeardOrLeft k.heard [] t later []) k.sent
+    all_left quiet =
+        all_sent (IsHeardOrLeft k.heard [] t later []) (All-weaker (IsHeardOrLeft (heard_before k) k.heard_now t later []) (IsHeardOrLeft k.heard [] t later []) left_over (sent_before k) (a.outbox.left quiet))
+        (All-weaker (IsHeardOrOut k []) (IsHeardOrLeft k.heard [] t later []) (λ m is. elim (now_over m is) [ inl was ↦ inl was | inr beside ↦ inr (inl beside) ]) k.sent_now (a.heard quiet))
 
     -- the puts wait on once the call was told, where the transaction stays
     pub outbox_told : (answer : Answer) (x2 : OpenTxn) → IsStaying answer → ((anchor : List ℕ) → meta_now x2 anchor ≡ meta_now x anchor) → All (λ put. (o : WaitsInOutbox k t x put) → Contains x2.in_flight o.w) later
-        → HasOutboxBetween (known_told answer k) x2 later
+        → HasOutboxBetween l (known_told answer k) x2 later
     outbox_told answer x2 stays meta there =
         let k2 = known_told answer k in
         let t2 = txn_told answer (replies_to k.sent_now k.heard_now) t in
@@ -183,17 +180,17 @@ module _ (k : Known) (split : IsSplit k) where
               (All-weaker (λ put. (o : WaitsInOutbox k t x put) → Contains x2.in_flight o.w)
               (λ put. (o : WaitsInOutbox k t x put) → Contains x2.in_flight o.w × All (λ (m : Sent). has_put o.w.seq m.request ≡ false) [] × All (λ (h : Heard). (h.number ≡ put.number → ⊥) × (has_put o.w.seq h.request ≡ false)) [])
               (λ put there o. (there o, All-nil (λ (m : Sent). has_put o.w.seq m.request ≡ false), All-nil (λ (h : Heard). (h.number ≡ put.number → ⊥) × (has_put o.w.seq h.request ≡ false)))) later there);
-          left =
-              left_on t t2 on.id on.epoch k.heard k.heard [] [] later [] [] (λ m is. is) (λ m is. is) (λ m q there on. absurd (omega (arith, there.1))) k.sent all_left;
+          left = λ quiet.
+              left_on t t2 on.id on.epoch k.heard k.heard [] [] later [] [] (λ m is. is) (λ m is. is) (λ m q there on. absurd (omega (arith, there.1))) k.sent (all_left quiet);
         }
 
 -- where all but puts was heard, and none is of the open transaction's epoch, nothing waits
-pub outbox_new : (k : Known) (t : Txn) (x : OpenTxn) → open_txn k ≡ Some t → All (IsHeardBesideOrPut k) k.sent → All (λ m. (seq : ℕ) → IsTrue (is_put_of t.id t.epoch seq m.request) → ⊥) k.sent → HasOutboxBetween k x []
+pub outbox_new : {l : Bool} (k : Known) (t : Txn) (x : OpenTxn) → open_txn k ≡ Some t → AreAllHeard l k → All (λ m. (seq : ℕ) → IsTrue (is_put_of t.id t.epoch seq m.request) → ⊥) k.sent → HasOutboxBetween l k x []
 outbox_new k t x opened over none = record {
   t = t;
   opened = opened;
   stands = tt;
-  left = both k.sent over none;
+  left = λ quiet. both k.sent (over quiet) none;
 }
   where
     one : (m : Sent) → ((seq : ℕ) → IsTrue (is_put_of t.id t.epoch seq m.request) → ⊥) → IsHeardBesideOrPut k m → IsHeardOrLeft k.heard [] t [] [] m
@@ -208,8 +205,8 @@ outbox_new k t x opened over none = record {
         (both ms (All-tail (IsHeardBesideOrPut k) m ms a) (All-tail (λ m. (seq : ℕ) → IsTrue (is_put_of t.id t.epoch seq m.request) → ⊥) m ms b))
 
 -- so it is once the transaction restarts
-pub outbox_restarts : (k : Known) (split : IsSplit k) (x x2 : OpenTxn) (later : List LaterPut) (a : HasAside k x later) (t t2 : Txn) → open_txn k ≡ Some t → All (λ m. PutsUpTo t (last_seq_of t.writes) m.request) k.sent
-    → (key : List ℕ) (ts : ℕ) → open_txn (known_told (answers.Restart key ts) k) ≡ Some t2 → t2.id ≡ t.id → t2.epoch ≡ t.epoch + 1 → HasOutboxBetween (known_told (answers.Restart key ts) k) x2 []
+pub outbox_restarts : {l : Bool} (k : Known) (split : IsSplit k) (x x2 : OpenTxn) (later : List LaterPut) (a : HasAside l k x later) (t t2 : Txn) → open_txn k ≡ Some t → All (λ m. PutsUpTo t (last_seq_of t.writes) m.request) k.sent
+    → (key : List ℕ) (ts : ℕ) → open_txn (known_told (answers.Restart key ts) k) ≡ Some t2 → t2.id ≡ t.id → t2.epoch ≡ t.epoch + 1 → HasOutboxBetween l (known_told (answers.Restart key ts) k) x2 []
 outbox_restarts k split x x2 later a t t2 opened puts key ts opened2 id epoch =
     outbox_new (known_told (answers.Restart key ts) k) t2 x2 opened2 (all_over k split x later a)
     (All-weaker (λ m. PutsUpTo t (last_seq_of t.writes) m.request) (λ m. (seq : ℕ) → IsTrue (is_put_of t2.id t2.epoch seq m.request) → ⊥)
@@ -225,7 +222,7 @@ put_number id epoch seq session begun count m own later is = by m.request own.ow
     by r low is = absurd cc
 
 -- or begins
-pub outbox_begins : (k : Known) (t : Txn) (x : OpenTxn) (session begun count : ℕ) → open_txn k ≡ Some t → All (IsHeardBesideOrPut k) k.sent → All (IsOwnSent session begun count) k.sent → begun + 1 ≤ t.id.number → HasOutboxBetween k x []
+pub outbox_begins : {l : Bool} (k : Known) (t : Txn) (x : OpenTxn) (session begun count : ℕ) → open_txn k ≡ Some t → AreAllHeard l k → All (IsOwnSent session begun count) k.sent → begun + 1 ≤ t.id.number → HasOutboxBetween l k x []
 outbox_begins k t x session begun count opened over own later =
     outbox_new k t x opened over (All-weaker (IsOwnSent session begun count) (λ m. (seq : ℕ) → IsTrue (is_put_of t.id t.epoch seq m.request) → ⊥) (λ m own seq is. put_number t.id t.epoch seq session begun count m own later is) k.sent own)
 
@@ -234,7 +231,7 @@ take_all [] = refl
 take_all (x ∷ xs) = ap (λ ys. x ∷ ys) (take_all xs)
 
 -- a call is asked: the puts wait on
-pub aside_asked : (call : Call) (reading : ℕ) (k : Known) (x x2 : OpenTxn) (later : List LaterPut) → StaysInFlight x x2 → HasOutboxBetween k x later → HasAside (known_asked call reading k) x2 later
+pub aside_asked : {l : Bool} (call : Call) (reading : ℕ) (k : Known) (x x2 : OpenTxn) (later : List LaterPut) → StaysInFlight x x2 → HasOutboxBetween l k x later → HasAside l (known_asked call reading k) x2 later
 aside_asked call reading k x x2 later stays o =
     let k2 = known_asked call reading k in
     let on : GoesOnAs o.t o.t x x2 = record { id = refl; epoch = refl; anchored = λ anchor is. is; up = omega arith; asked = λ seq ts is. is; meta = stays.0 } in
@@ -246,11 +243,11 @@ aside_asked call reading k x x2 later stays o =
             all_wait k k2 [] [] (sym (append-nil k.sent)) (sym (append-nil k.heard)) o.t o.t x x2 on later o.stands
             (all_from_contains (λ put. (o2 : WaitsInOutbox k o.t x put) → Contains x2.in_flight o2.w × All (λ (m : Sent). has_put o2.w.seq m.request ≡ false) [] × All (λ (h : Heard). (h.number ≡ put.number → ⊥) × (has_put o2.w.seq h.request ≡ false)) []) later
             (λ put there o2. (stays.1 o2.w o2.there, All-nil (λ (m : Sent). has_put o2.w.seq m.request ≡ false), All-nil (λ (h : Heard). (h.number ≡ put.number → ⊥) × (has_put o2.w.seq h.request ≡ false)))));
-        left =
+        left = λ quiet.
             subst (λ ms. All (IsHeardOrLeft (heard_before k2) [] o.t later []) ms) (sym (ap (λ n. take n k.sent) (less (length k.sent)) ∙ take_all k.sent))
-            (subst (λ hs. All (IsHeardOrLeft hs [] o.t later []) k.sent) (sym (ap (λ n. take n k.heard) (less (length k.heard)) ∙ take_all k.heard)) o.left);
+            (subst (λ hs. All (IsHeardOrLeft hs [] o.t later []) k.sent) (sym (ap (λ n. take n k.heard) (less (length k.heard)) ∙ take_all k.heard)) (o.left quiet));
       };
-      heard = All-nil (IsHeardOrOut k2 []);
+      heard = λ quiet. All-nil (IsHeardOrOut k2 []);
       others = λ t is. All-nil (λ (m : Sent). goes_beside m.request ≡ true → is_query_of t.id m.request ≡ false);
     }
   where

@@ -2,7 +2,7 @@
 use Rattle.std.proofs.Common.{◌≡◌, ℕ, ◌≤◌, Bool, true, false, ◌&&◌, ◌||◌, if◌then◌else◌, List, [], ◌∷◌, Option, Some, None, IfOk, IfSome, Ok, Err, Result, refl, sym, ap, ◌∙◌, subst, arith, is_some, IsTrue, All}
 use Rattle.std.proofs.lemmas.List.Elements.{All-nil}
 use Rattle.std.specs.List.{list_any}
-use Rattle.std.proofs.lemmas.Bool.{eq-eqb}
+use Rattle.std.proofs.lemmas.Bool.{eq-eqb, or_right}
 use Rattle.std.proofs.lemmas.Option.{same_Some}
 use Rattle.pc_base.specs.declared.memory.NoMemory.{NoMemory}
 use Rattle.pc_base.specs.Rising.{AreRising}
@@ -50,13 +50,13 @@ use Rattle.pc_world.specs.Known.Transactions.{Txn}
 use Rattle.pc_world.specs.RangeOf.{IsForOne}
 
 -- a coordinator that is new knows that nothing was done
-pub new_knows : (loses : Bool) (c : Coordination) → loses ≡ false → 1 ≤ c.tries → AreRising c.splits → c.clock ≡ 0 → c.begun ≡ 0 → c.txn ≡ None → c.later ≡ [] → c.due ≡ dues.Nothing → c.job ≡ None → Knows loses c nothing_known
-new_knows loses c quiet tried rising clock begun txn later due job = record {
+pub new_knows : (loses : Bool) (c : Coordination) → 1 ≤ c.tries → AreRising c.splits → c.clock ≡ 0 → c.begun ≡ 0 → c.txn ≡ None → c.later ≡ [] → c.due ≡ dues.Nothing → c.job ≡ None → Knows loses c nothing_known
+new_knows loses c tried rising clock begun txn later due job = record {
   course = record {
-    quiet = quiet;
     tried = tried;
     rising = rising;
     ranged = record { heard = All-nil (λ (h : Heard). IsForOne c.splits h.request); sent = All-nil (λ (m : Sent). IsForOne c.splits m.request); reads = All-nil (ReadsInOne c.splits) };
+    one_range = λ lossy one other there. absurd (omega (arith, there.1));
     may_wait = subst (λ l. MayWait c.pipelining l) (sym later) (none_waits c.pipelining);
     unstaged = λ isnt. All-nil (λ (m : Sent). is_stage m.request ≡ false);
   };
@@ -72,7 +72,7 @@ new_knows loses c quiet tried rising clock begun txn later due job = record {
     };
     none_open = refl;
     held = subst (λ t. IsHeld t nothing_known) (sym txn) refl;
-    outbox = subst (λ t. IsOutboxOf t c.later nothing_known) (sym txn) (later, All-nil (IsHeardBesideOrPut nothing_known));
+    outbox = subst (λ t. IsOutboxOf loses t c.later nothing_known) (sym txn) (later, λ quiet. All-nil (IsHeardBesideOrPut nothing_known));
     left = subst (λ j. IfSome j (MayFinishJob nothing_known)) (sym job) tt;
   });
 }
@@ -88,7 +88,7 @@ has_txn_ok loses c k b is knows none = by c.txn (rests loses c k knows none).hel
 -- what the last transaction left is handed out
 pub job_knows : (loses : Bool) (c : Coordination) (k : Known) → Knows loses c k → c.due ≡ dues.Nothing → Knows loses (without_job c) k
 job_knows loses c k knows due =
-    let r : Rests c.session c.clock c.begun c.txn c.later c.job k = subst (λ d. KnowsAt loses c k d) due knows.stands in
+    let r : Rests loses c.session c.clock c.begun c.txn c.later c.job k = subst (λ d. KnowsAt loses c k d) due knows.stands in
     record {
       course = course_with loses c (without_job c) k refl refl refl knows.course.may_wait knows.course;
       stands = subst (λ d. KnowsAt loses (without_job c) k d) (sym due) (record { counted = r.counted; none_open = r.none_open; held = r.held; outbox = r.outbox; left = tt });
@@ -96,7 +96,7 @@ job_knows loses c k knows due =
 
 pub job_may : (loses : Bool) (c : Coordination) (k : Known) (job : Option Job) → job ≡ c.job → Knows loses c k → c.due ≡ dues.Nothing → IfSome job (MayFinishJob k)
 job_may loses c k job made knows due =
-    let r : Rests c.session c.clock c.begun c.txn c.later c.job k = subst (λ d. KnowsAt loses c k d) due knows.stands in
+    let r : Rests loses c.session c.clock c.begun c.txn c.later c.job k = subst (λ d. KnowsAt loses c k d) due knows.stands in
     subst (λ j. IfSome j (MayFinishJob k)) (sym made) r.left
 
 tells_by : (reader : Option ℕ) (at_once : Bool) (step : Step) (answer : Answer) → next_by reader at_once step ≡ nexts.Tell answer → ⊥
@@ -111,8 +111,8 @@ tells_in : (pipelining : Bool) (txn : Option OpenTxn) (call : OpenCall) (answer 
 tells_in pipelining None call answer e = cc
 tells_in pipelining (Some x) call answer e = tells_by (reader_of call.purpose x) (pipelining && is_writing call.purpose) (step_of call.wave) answer e
 
-told_at : (loses : Bool) (c : Coordination) (k : Known) (due : Due) (answer : Answer) → KnowsAt loses c k due → next_at c.pipelining c.txn due ≡ nexts.Tell answer → Rests c.session c.clock c.begun c.txn c.later c.job (learned (events.Tell answer) k)
-told_at loses c k (dues.Tell told) answer h e = let same : told ≡ answer = cc in subst (λ a. Rests c.session c.clock c.begun c.txn c.later c.job (learned (events.Tell a) k)) same h.after
+told_at : (loses : Bool) (c : Coordination) (k : Known) (due : Due) (answer : Answer) → KnowsAt loses c k due → next_at c.pipelining c.txn due ≡ nexts.Tell answer → Rests loses c.session c.clock c.begun c.txn c.later c.job (learned (events.Tell answer) k)
+told_at loses c k (dues.Tell told) answer h e = let same : told ≡ answer = cc in subst (λ a. Rests loses c.session c.clock c.begun c.txn c.later c.job (learned (events.Tell a) k)) same h.after
 told_at loses c k (dues.Call call) answer h e = absurd (tells_in c.pipelining c.txn call answer e)
 told_at loses c k dues.Nothing answer h e = absurd cc
 
@@ -122,15 +122,15 @@ told_knows loses c k p answer knows is =
     let e = learn_own (events.Tell answer) k p is.is in
     record {
       course = subst (λ k. KeepsCourse loses (with_nothing_due c) k) (sym (e ∙ told_is answer k)) (record {
-        quiet = knows.course.quiet;
         tried = knows.course.tried;
         rising = knows.course.rising;
         ranged = ranged_told c.splits k knows.course.ranged answer;
+        one_range = knows.course.one_range;
         may_wait = knows.course.may_wait;
         unstaged = knows.course.unstaged;
       });
       stands =
-          subst (λ k. Rests c.session c.clock c.begun c.txn c.later c.job k) (sym e)
+          subst (λ k. Rests loses c.session c.clock c.begun c.txn c.later c.job k) (sym e)
           (told_at loses c k c.due answer knows.stands is.due);
     }
 
@@ -139,10 +139,6 @@ out_awaits progresses.ToSend e = absurd cc
 out_awaits (progresses.Sent number) e = (number, eq-eqb number number refl)
 out_awaits (progresses.Met number conflict) e = absurd cc
 out_awaits (progresses.Answered number reply) e = absurd cc
-
-or_right : (a b : Bool) → b ≡ true → (a || b) ≡ true
-or_right true b e = refl
-or_right false b e = e
 
 -- where a message is out, it is waited for under its number
 some_out : (ms : List Message) → list_any is_out ms ≡ true → (n : ℕ) × (wave_awaits n ms ≡ true)

@@ -1,5 +1,5 @@
 -- What each step of a coordinator comes to, by what it makes of the coordinator.
-use Rattle.std.proofs.Common.{◌≡◌, ℕ, Bool, true, false, ◌&&◌, ◌||◌, ◌==◌, inl, inr, List, [], ◌∷◌, length, Option, Some, None, refl, sym, ap, ◌∙◌, subst, arith, OnOk, Result, Ok, Err, All, ◌⊎◌}
+use Rattle.std.proofs.Common.{◌≡◌, ℕ, Bool, true, false, ◌||◌, ◌==◌, inl, inr, List, [], ◌∷◌, length, Option, Some, None, refl, sym, ap, ◌∙◌, subst, arith, OnOk, Result, Ok, Err, ◌⊎◌}
 use Rattle.std.specs.Option.{option_map}
 use Rattle.std.proofs.lemmas.Bool.{eq-eqb, eqb-true}
 use Rattle.std.proofs.lemmas.List.Elements.{All-push}
@@ -40,7 +40,7 @@ use Rattle.pc_coord.specs.declared.next.Next.TheVariants as nexts
 use Rattle.pc_coord.specs.Events.{IsAsked, ShowsUncommitted}
 use Rattle.pc_coord.specs.Going.{BeginsNothing, StandsReady}
 use Rattle.pc_coord.specs.Kinds.{begins_at, conflict_due, decision_in, decision_of, status_in, told_outside, written_at}
-use Rattle.pc_coord.specs.Knows.{IsHeardBesideOrPut, Knows, KnowsAt, is_under_way}
+use Rattle.pc_coord.specs.Knows.{Knows, KnowsAt, is_under_way, AreAllHeard}
 use Rattle.pc_coord.specs.Suiting.{Suits}
 use Rattle.pc_history.specs.declared.pair.Pair.{Pair}
 use Rattle.pc_proto.specs.declared.answer.Answer.{Answer}
@@ -68,26 +68,33 @@ use Rattle.pc_world.specs.Known.{Known, learn, next_number, reading_in, reading_
 use Rattle.pc_world.specs.Known.Statements.{Statement}
 use Rattle.pc_world.specs.Known.Traffic.{Sent}
 use Rattle.pc_world.specs.Local.{is_outside, is_round}
+use Rattle.pc_coord.specs.Ranged.{GoesWhereItWent}
+use Rattle.pc_coord.proofs.OneRange.{one_range_sent}
 
 -- an answer is due, and the transaction stays open
-pub tell_ok : (loses : Bool) (c new : Coordination) (k : Known) (answer : Answer) (x : OpenTxn) → new ≡ telling answer (Some x) c.job c → StandsReady loses c k → MayTellOpen (setting_of loses c) c.session k answer x → HasOutboxBetween (known_told answer k) x c.later
+pub tell_ok : (loses : Bool) (c new : Coordination) (k : Known) (answer : Answer) (x : OpenTxn) → new ≡ telling answer (Some x) c.job c → StandsReady loses c k → MayTellOpen (setting_of loses c) c.session k answer x → HasOutboxBetween loses (known_told answer k) x c.later
     → BeginsNothing k → Knows loses new k
 tell_ok loses c new k answer x made r m outbox none = subst (λ n. Knows loses n k) (sym made) (tells_knows loses c k answer x r m outbox none)
 
 -- an answer is due that ends it
-pub finish_ok : {T E : Type 0} (loses : Bool) (result : Result T E) (c new : Coordination) (k : Known) (over : Over) → OnOk result (new ≡ finishing over c) → StandsReady loses c k → MayTellOver (setting_of loses c) c.session k over → All (IsHeardBesideOrPut k) k.sent
+pub finish_ok : {T E : Type 0} (loses : Bool) (result : Result T E) (c new : Coordination) (k : Known) (over : Over) → OnOk result (new ≡ finishing over c) → StandsReady loses c k → MayTellOver (setting_of loses c) c.session k over → AreAllHeard loses k
     → BeginsNothing k → OnOk result (Knows loses new k)
 finish_ok loses (Ok value) c new k over made r m heard none = subst (λ n. Knows loses n k) (sym made) (over_knows loses c k over r m heard none)
 finish_ok loses (Err error) c new k over made r m heard none = tt
 
+-- nothing is said of what is refused
+pub err_over : {T E : Type 0} (r : Result T E) (P : Type 0) (e : E) → r ≡ Err e → OnOk r P
+err_over (Ok value) P e is = absurd cc
+err_over (Err error) P e is = tt
+
 -- more is due of the call's messages
-pub call_ok : (loses : Bool) (c new : Coordination) (k : Known) (call : OpenCall) (x : OpenTxn) → new ≡ calling call x c → StandsReady loses c k → InCall (setting_of loses c) k x call.purpose call.wave → KeepsAside c.pipelining k x call.purpose c.later call.wave
+pub call_ok : (loses : Bool) (c new : Coordination) (k : Known) (call : OpenCall) (x : OpenTxn) → new ≡ calling call x c → StandsReady loses c k → InCall (setting_of loses c) k x call.purpose call.wave → KeepsAside loses c.pipelining k x call.purpose c.later call.wave
     → is_under_way (step_of call.wave) → Knows loses new k
 call_ok loses c new k call x made r w aside on = subst (λ n. Knows loses n k) (sym made) (calls_knows loses c k call x r w aside on)
 
 -- by messages that take their puts from the outbox
 pub goes_ok : (loses : Bool) (c mid new : Coordination) (k : Known) (later : List LaterPut) (call : OpenCall) (x : OpenTxn) → mid ≡ record c { later = later } → new ≡ calling call x mid → StandsReady loses c k → InCall (setting_of loses c) k x call.purpose call.wave
-    → HasAside k x c.later → KeepsOutbox k x later call.wave → TakesFrom c.later later call.wave → LeavesNoneWaiting call.purpose later → is_writing call.purpose ≡ false → AreToSendOrOnWay call.wave → (call.wave ≡ [] → ⊥) → Knows loses new k
+    → HasAside loses k x c.later → KeepsOutbox loses k x later call.wave → TakesFrom c.later later call.wave → LeavesNoneWaiting call.purpose later → is_writing call.purpose ≡ false → AreToSendOrOnWay call.wave → (call.wave ≡ [] → ⊥) → Knows loses new k
 goes_ok loses c mid new k later call x is made r w aside o takes joined plain go some =
     let c2 : Coordination = record c { later = later } in
     subst (λ n. Knows loses n k) (sym (made ∙ ap (calling call x) is))
@@ -149,7 +156,7 @@ pub begins_knows : (loses : Bool) (new : Coordination) (k : Known) (call : Call)
     → OnOk r (Knows loses new (known_asked call reading k))
 begins_knows loses new k call reading priority r is ok = subst (λ call. OnOk r (Knows loses new (known_asked call reading k))) (sym (begins_is call priority is)) ok
 
-outside_by : (loses : Bool) (c : Coordination) (k : Known) (call : Call) (reading : ℕ) → StandsReady loses c k → k.is_open ≡ false → c.txn ≡ None → c.later ≡ [] → All (IsHeardBesideOrPut k) k.sent → is_round call ≡ false → begins_at call ≡ None
+outside_by : (loses : Bool) (c : Coordination) (k : Known) (call : Call) (reading : ℕ) → StandsReady loses c k → k.is_open ≡ false → c.txn ≡ None → c.later ≡ [] → AreAllHeard loses k → is_round call ≡ false → begins_at call ≡ None
     → Knows loses (telling (told_outside call) c.txn c.job c) (known_asked call reading k)
 outside_by loses c k (calls.Begin p) reading r closed unheld empty over no_round is = absurd cc
 outside_by loses c k (calls.Learn id) reading r closed unheld empty over no_round is = not_yet loses c k r closed unheld empty over id reading
@@ -163,7 +170,7 @@ outside_by loses c k calls.Rollback reading r closed unheld empty over no_round 
 
 -- any other call where no transaction is open
 pub outside_knows : (loses : Bool) (c new : Coordination) (k : Known) (call : Call) (reading : ℕ) (answer : Answer) → new ≡ telling answer c.txn c.job c → answer ≡ told_outside call → begins_at call ≡ None → StandsReady loses c k → k.is_open ≡ false → c.txn ≡ None
-    → c.later ≡ [] → All (IsHeardBesideOrPut k) k.sent → is_round call ≡ false → Knows loses new (known_asked call reading k)
+    → c.later ≡ [] → AreAllHeard loses k → is_round call ≡ false → Knows loses new (known_asked call reading k)
 outside_knows loses c new k call reading answer made said is r closed unheld empty over no_round =
     subst (λ n. Knows loses n (known_asked call reading k)) (sym (made ∙ ap (λ a. telling a c.txn c.job c) said)) (outside_by loses c k call reading r closed unheld empty over no_round is)
 
@@ -173,19 +180,19 @@ asking reading c = record c { txn = None; reading = reading }
 
 -- a call is asked where no transaction is open
 pub asked_outside : (loses : Bool) (old mid new : Coordination) (k : Known) (p : Pair Event) (call : Call) (reading : ℕ) (r : Result (Unit {0}) NoMemory) → mid ≡ asking reading old → old.txn ≡ None → Knows loses old k → IsAsked old call reading k p
-    → ((k : Known) → StandsReady loses mid k → k.statement ≡ None → k.is_open ≡ false → mid.txn ≡ None → mid.later ≡ [] → All (IsHeardBesideOrPut k) k.sent → is_round call ≡ false → OnOk r (Knows loses new (known_asked call reading k))) → OnOk r (Knows loses new (known_asked call reading k))
+    → ((k : Known) → StandsReady loses mid k → k.statement ≡ None → k.is_open ≡ false → mid.txn ≡ None → mid.later ≡ [] → AreAllHeard loses k → is_round call ≡ false → OnOk r (Knows loses new (known_asked call reading k))) → OnOk r (Knows loses new (known_asked call reading k))
 asked_outside loses old mid new k p call reading r left none knows is on =
     let o = waiting_none loses old k knows is.none_open none in
     on k (subst (λ n. StandsReady loses n k) (sym left) (ready loses old k None reading knows is.none_open is.handed)) is.none_open (closed loses old k knows is.none_open none) (ap (λ c. c.txn) left) (ap (λ c. c.later) left ∙ o.0) o.1 is.no_round
 
 -- or while one is
 pub asked_inside : (loses : Bool) (old mid new : Coordination) (k : Known) (p : Pair Event) (call : Call) (reading : ℕ) (x : OpenTxn) (r : Result (Unit {0}) NoMemory) → mid ≡ asking reading old → old.txn ≡ Some x → Knows loses old k → IsAsked old call reading k p
-    → ((k : Known) → StandsReady loses mid k → k.statement ≡ None → StandsOpen k x → HasOutboxBetween k x mid.later → reading ≡ mid.reading → Suits mid.pipelining call (Some x) → is_outside call ≡ false → is_round call ≡ false → OnOk r (Knows loses new (known_asked call reading k)))
+    → ((k : Known) → StandsReady loses mid k → k.statement ≡ None → StandsOpen k x → HasOutboxBetween loses k x mid.later → reading ≡ mid.reading → Suits mid.pipelining call (Some x) → is_outside call ≡ false → is_round call ≡ false → OnOk r (Knows loses new (known_asked call reading k)))
     → OnOk r (Knows loses new (known_asked call reading k))
 asked_inside loses old mid new k p call reading x r left held knows is on =
     let o = standing loses old k x knows is.none_open held in
     on k (subst (λ n. StandsReady loses n k) (sym left) (ready loses old k None reading knows is.none_open is.handed)) is.none_open o
-    (subst (λ l. HasOutboxBetween k x l) (sym (ap (λ c. c.later) left)) (waiting loses old k x knows is.none_open held)) (sym (ap (λ c. c.reading) left))
+    (subst (λ l. HasOutboxBetween loses k x l) (sym (ap (λ c. c.later) left)) (waiting loses old k x knows is.none_open held)) (sym (ap (λ c. c.reading) left))
     (subst (λ b. Suits b call (Some x)) (sym (ap (λ c. c.pipelining) left)) (suiting old x call is.suits held)) (inside k x call o is.outside) is.no_round
 
 -- then the session knows that it asked
@@ -244,14 +251,14 @@ pub rounds_open : (c : Coordination) (number : ℕ) (conflict : Reply) (reader :
 rounds_open c number conflict reader next none = rounds_open_at c.pipelining c.txn c.due number conflict reader next none
 
 -- after a message was sent, the coordinator is ready
-pub ready_sent : (loses : Bool) (c : Coordination) (k : Known) (x : OpenTxn) (call : OpenCall) (number range : ℕ) (request : Request) → StandsReady loses c k → InCall (setting_of loses c) k x call.purpose call.wave → step_of call.wave ≡ steps.Send request → number ≡ next_number k
+pub ready_sent : (loses : Bool) (c : Coordination) (k : Known) (x : OpenTxn) (call : OpenCall) (number range : ℕ) (request : Request) → StandsReady loses c k → InCall (setting_of loses c) k x call.purpose call.wave → step_of call.wave ≡ steps.Send request → number ≡ next_number k → (loses ≡ true → GoesWhereItWent range request k.sent)
     → StandsReady loses c (known_sent number range request k)
-ready_sent loses c k x call number range request r w step next = record {
+ready_sent loses c k x call number range request r w step next went = record {
   course = record {
-    quiet = r.course.quiet;
     tried = r.course.tried;
     rising = r.course.rising;
     ranged = ranged_sent c.splits k r.course.ranged number range request (sends_one (setting_of loses c) k x call.purpose call.wave r.course.rising r.course.ranged w request step);
+    one_range = λ lossy. one_range_sent k number range request (went lossy) (r.course.one_range lossy);
     may_wait = r.course.may_wait;
     unstaged = λ isnt. All-push (λ (m : Sent). is_stage m.request ≡ false) k.sent (record { number = number; range = range; request = request }) (r.course.unstaged isnt) (sends_plain c.session (setting_of loses c) k x call.purpose call.wave w isnt request step);
   };
@@ -367,10 +374,10 @@ refused_holder start k own conflict answer refuses none is = refused_by start k 
 pub ready_asked : (loses : Bool) (c : Coordination) (k : Known) (call : Call) (reading : ℕ) → reading ≡ c.reading → StandsReady loses c k → StandsReady loses c (known_asked call reading k)
 ready_asked loses c k call reading at r = record {
   course = record {
-    quiet = r.course.quiet;
     tried = r.course.tried;
     rising = r.course.rising;
     ranged = ranged_asked c.splits k r.course.ranged call reading;
+    one_range = r.course.one_range;
     may_wait = r.course.may_wait;
     unstaged = r.course.unstaged;
   };

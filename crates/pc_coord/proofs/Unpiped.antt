@@ -1,5 +1,5 @@
 -- Without pipelining no open call stages, asks for a write of a stage, or gives up behind a last heartbeat: its conflicts have their rounds one by one.
-use Rattle.std.proofs.Common.{◌≡◌, ℕ, Bool, true, false, List, refl, sym, ap, ◌∙◌, subst, All, Any}
+use Rattle.std.proofs.Common.{◌≡◌, Bool, true, false, List, refl, sym, ap, ◌∙◌, All}
 use Rattle.std.proofs.lemmas.List.Elements.{All-contains}
 use Rattle.pc_base.specs.declared.transaction.TxnId.{TxnId}
 use Rattle.pc_call.specs.declared.call.OpenCall.{OpenCall}
@@ -17,7 +17,7 @@ use Rattle.pc_proto.specs.Requests.{is_stage}
 use Rattle.pc_staging.specs.Standing.{WasStageSent}
 use Rattle.pc_world.specs.Known.{Known}
 use Rattle.pc_world.specs.Known.Traffic.{Sent}
-use Rattle.pc_world.specs.StageFate.{IsStageWith, SentStage, SomeStage, stage_request}
+use Rattle.pc_world.specs.StageFate.{IsDead, IsLate, IsStageWith, SentStage, SomeStage}
 
 none_sent : (sent : List Sent) (id : TxnId) (s : SentStage) → WasStageSent sent id s → All (λ m. is_stage m.request ≡ false) sent → ⊥
 none_sent sent id s was none =
@@ -50,7 +50,7 @@ unpiped_goes loses c k call knows due off = by call.purpose w.serves
     by : (p : Purpose) → Serves (setting_of loses c) k w.s w.t n.x w.stages p call.wave → goes_by_sequence p ≡ false
     by (purposes.Stage refusals) s = let e : false ≡ true = sym off ∙ s.piped in cc
     by (purposes.Query refusals holder puts) s = absurd (none_sent k.sent w.t.id s.one (All-contains (WasStageSent k.sent w.t.id) w.stages s.one w.stands.staging.sent s.kept) none)
-    by (purposes.LastBeat answer reading) s = absurd (no_stage k.sent w.t.id _ s.doubt none)
+    by (purposes.LastBeat answer reading) s = absurd (no_stage k.sent w.t.id (λ s. IsLate k.heard s × (IsDead k.heard s → ⊥)) s.doubt none)
     by (purposes.Beat kept reading) s = refl
     by (purposes.Prove kept all) s = refl
     by purposes.Read s = refl

@@ -51,18 +51,18 @@ abbrev pub AreUnsent : Bool → List Message → Type 0
 AreUnsent false messages = ⊤
 AreUnsent true messages = All (λ m. is_to_send m ≡ true) messages
 
--- These puts wait in the outbox beside the messages of the open call, of which each that went out was heard or is on its way.
-pub record KeepsAside (pipelining : Bool) (k : Known) (x : OpenTxn) (purpose : Purpose) (later : List LaterPut) (messages : List Message) : Type 0 where
-  pub outbox : KeepsOutbox k x later messages
+-- These puts wait in the outbox beside the messages of the open call, of which, where nothing is lost, each that went out was heard or is on its way.
+pub record KeepsAside (loses pipelining : Bool) (k : Known) (x : OpenTxn) (purpose : Purpose) (later : List LaterPut) (messages : List Message) : Type 0 where
+  pub outbox : KeepsOutbox loses k x later messages
   pub joined : LeavesNoneWaiting purpose later
   pub some : HasProofs purpose messages
-  pub heard : All (IsHeardOrOut k messages) k.sent_now
+  pub heard : loses ≡ false → All (IsHeardOrOut k messages) k.sent_now
   pub others : AsksForOthers k
   pub free : IsFreeToLay (pipelining && is_writing purpose) k x
   pub unsent : AreUnsent (pipelining && is_writing purpose) messages
 
 -- So they wait where no message of the open call is on its way.
-pub record HasAside (k : Known) (x : OpenTxn) (later : List LaterPut) : Type 0 where
-  pub outbox : HasOutbox k x later
-  pub heard : All (IsHeardOrOut k []) k.sent_now
+pub record HasAside (loses : Bool) (k : Known) (x : OpenTxn) (later : List LaterPut) : Type 0 where
+  pub outbox : HasOutbox loses k x later
+  pub heard : loses ≡ false → All (IsHeardOrOut k []) k.sent_now
   pub others : AsksForOthers k

@@ -25,6 +25,7 @@ use Rattle.pc_wave.specs.declared.step.Step.{Step}
 use Rattle.pc_wave.specs.declared.step.Step.TheVariants as steps
 use Rattle.pc_wave.specs.Messages.{is_to_send, step_of, wave_awaits}
 use Rattle.pc_world.specs.Known.Transactions.{begun}
+use Rattle.pc_call.specs.Serving.{IsOutOrLost}
 
 -- A coordinator: its session, how often in a row a request may be sent without an answer, whether writes are pipelined, and the keys at which the
 -- ranges are cut; the greatest timestamp heard or given; how many transactions were begun; the open transaction, and its puts that wait in the outbox; the reading
@@ -93,6 +94,11 @@ awaits_number number (dues.Tell answer) = false
 abbrev pub SendsNoMore : Due → Type 0
 SendsNoMore (dues.Call call) = All (λ m. is_to_send m ≡ false) call.wave
 SendsNoMore _ = ⊤
+
+-- All messages of the wave that is due went out; what was lost since, and is no stage, is to be sent again.
+abbrev pub HasSentWave : Due → Type 0
+HasSentWave (dues.Call call) = All IsOutOrLost call.wave
+HasSentWave _ = ⊤
 
 -- It has heard timestamps up to this one.
 abbrev pub with_clock : ℕ → Coordination → Coordination

@@ -4,7 +4,7 @@ use Rattle.pc_base.specs.declared.actor.ActorId.{ActorId}
 use Rattle.pc_base.specs.declared.entry.Entry.{Entry}
 use Rattle.pc_call.specs.Missing.{IsAboveMisses}
 use Rattle.pc_call.specs.GivingUp.{IsAfterAllHeard}
-use Rattle.pc_coord.specs.Coordination.{Coordination, SendsNoMore, awaits_number, next_of, request_next}
+use Rattle.pc_coord.specs.Coordination.{Coordination, HasSentWave, awaits_number, next_of, request_next}
 use Rattle.pc_coord.specs.declared.next.Next.TheVariants as nexts
 use Rattle.pc_coord.specs.Suiting.{Suits}
 use Rattle.pc_history.specs.declared.pair.Pair.{Pair}
@@ -60,12 +60,12 @@ abbrev pub IsAnsweredAlive : Known → Request → Reply → Type 0
 IsAnsweredAlive k (requests.Beat meta ts now) reply = (t : Txn) → open_txn k ≡ Some t → meta.id ≡ t.id → IsUncommitted t.id k.sent k.heard → ShowsUncommitted reply
 IsAnsweredAlive k _ reply = ⊤
 
--- The reply that was waited for was heard, once all messages of the wave were sent, and in the order of their numbers: the entry names an evaluation that answered so, as the message
+-- The reply that was waited for was heard, once all messages of the wave were sent, but for what was lost since, and in the order of their numbers: the entry names an evaluation that answered so, as the message
 -- may be answered, by no record in a later epoch than the session has reached, by none that stages as no stage of the session does, and to a heartbeat by
 -- no commit; the reply to a heartbeat was evaluated after all that was heard before; and a write that was missed before is above that.
 pub record HearsAwaited (c : Coordination) (number step : ℕ) (reply : Reply) (k : Known) (p : Pair Event) : Type 0 where
   pub waited : awaits_number number c.due ≡ true
-  pub whole : SendsNoMore c.due
+  pub whole : HasSentWave c.due
   pub event : p.entry.event ≡ events.Hear number step
   pub evaluation : Entry Event
   pub actor : ActorId

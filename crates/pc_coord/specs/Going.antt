@@ -8,7 +8,7 @@ use Rattle.pc_call.specs.GivingUp.{IsAfterAllHeard}
 use Rattle.pc_call.specs.Missing.{IsAboveMisses}
 use Rattle.pc_call.specs.Learned.{known_heard}
 use Rattle.pc_call.specs.Rounding.{GoesOnBeside, MakesRound, RefusesRound}
-use Rattle.pc_call.specs.Serving.{InCall}
+use Rattle.pc_call.specs.Serving.{InCall, IsOutOrLost}
 use Rattle.pc_call.specs.Stages.{IsFirstOut}
 use Rattle.pc_coord.specs.Aside.{KeepsAside}
 use Rattle.pc_coord.specs.Coordination.{Coordination, setting_of}
@@ -53,9 +53,9 @@ pub record HearsNow (loses : Bool) (c : Coordination) (call : OpenCall) (x : Ope
   pub before : ℕ
   pub counted : IsCounted c.session before c.begun k
   pub in_call : InCall (setting_of loses c) k x call.purpose call.wave
-  pub aside : KeepsAside c.pipelining k x call.purpose c.later call.wave
+  pub aside : KeepsAside loses c.pipelining k x call.purpose c.later call.wave
   pub waited : wave_awaits number call.wave ≡ true
-  pub whole : All (λ m. is_to_send m ≡ false) call.wave
+  pub whole : All IsOutOrLost call.wave
   pub heard : IsHeardTo k number reply h
   pub alive : IsAnsweredAlive k h.request reply
   pub missed : IsAboveMisses k.heard h.request h.reply

@@ -18,7 +18,7 @@ use Rattle.pc_coord.specs.declared.due.Due.TheVariants as dues
 use Rattle.pc_coord.specs.declared.job.Job.{Job}
 use Rattle.pc_coord.specs.declared.next.Next.{Next}
 use Rattle.pc_coord.specs.declared.next.Next.TheVariants as nexts
-use Rattle.pc_coord.specs.Ranged.{IsRanged}
+use Rattle.pc_coord.specs.Ranged.{IsRanged, WentToOneRange}
 use Rattle.pc_coord.specs.Suiting.{SuitsNext}
 use Rattle.pc_proto.specs.declared.answer.Answer.{Answer}
 use Rattle.pc_proto.specs.declared.call.Call.TheVariants as calls
@@ -83,17 +83,21 @@ IsHeld (Some x) k = StandsOpen k x
 abbrev pub IsHeardBesideOrPut : Known → Sent → Type 0
 IsHeardBesideOrPut k m = IsTrue (is_heard k.heard m) ⊎ (goes_beside m.request ≡ true) ⊎ (is_put m.request ≡ true)
 
--- Puts of the open transaction alone wait in the outbox, and of all that was sent only puts are not heard.
-abbrev pub IsOutboxOf : Option OpenTxn → List LaterPut → Known → Type 0
-IsOutboxOf None later k = (later ≡ []) × All (IsHeardBesideOrPut k) k.sent
-IsOutboxOf (Some x) later k = HasOutboxBetween k x later
+-- Where nothing is lost, of all that was sent only puts are not heard.
+abbrev pub AreAllHeard : Bool → Known → Type 0
+AreAllHeard loses k = loses ≡ false → All (IsHeardBesideOrPut k) k.sent
+
+-- Puts of the open transaction alone wait in the outbox, and where nothing is lost only puts are not heard of all that was sent.
+abbrev pub IsOutboxOf : Bool → Option OpenTxn → List LaterPut → Known → Type 0
+IsOutboxOf loses None later k = (later ≡ []) × AreAllHeard loses k
+IsOutboxOf loses (Some x) later k = HasOutboxBetween loses k x later
 
 -- No statement is open, the coordinator's transaction is the session's, and what the last one left may be done.
-pub record Rests (session clock begun : ℕ) (txn : Option OpenTxn) (later : List LaterPut) (job : Option Job) (k : Known) : Type 0 where
+pub record Rests (loses : Bool) (session clock begun : ℕ) (txn : Option OpenTxn) (later : List LaterPut) (job : Option Job) (k : Known) : Type 0 where
   pub counted : IsCounted session clock begun k
   pub none_open : k.statement ≡ None
   pub held : IsHeld txn k
-  pub outbox : IsOutboxOf txn later k
+  pub outbox : IsOutboxOf loses txn later k
   pub left : IfSome job (MayFinishJob k)
 
 -- More is due of the messages: one is to be sent, or delivered, or its conflict is to have its round.
@@ -112,7 +116,7 @@ pub record HasCallDue (loses : Bool) (c : Coordination) (k : Known) (call : Open
   pub held : c.txn ≡ Some x
   pub in_call : InCall (setting_of loses c) k x call.purpose call.wave
   pub asked_at : reading_of k ≡ Some c.reading
-  pub aside : KeepsAside c.pipelining k x call.purpose c.later call.wave
+  pub aside : KeepsAside loses c.pipelining k x call.purpose c.later call.wave
   pub on : is_under_way (step_of call.wave)
   pub handed : c.job ≡ None
 
@@ -120,7 +124,7 @@ pub record HasCallDue (loses : Bool) (c : Coordination) (k : Known) (call : Open
 pub record IsTellable (loses : Bool) (c : Coordination) (k : Known) (answer : Answer) : Type 0 where
   pub may : MayTell c.splits (actors.Session c.session) k answer
   pub written : TellsWritten c.pipelining k (events.Tell answer)
-  pub aborts : AbortsFirst k (events.Tell answer)
+  pub aborts : loses ≡ false → AbortsFirst k (events.Tell answer)
   pub rolled_back : TellsRollbacks k (events.Tell answer)
   pub restarts : RefreshesReads k (events.Tell answer)
   pub eighth : (s : Statement) → k.statement ≡ Some s → TellsAfterEighth loses k s answer
@@ -132,21 +136,21 @@ pub record IsTellable (loses : Bool) (c : Coordination) (k : Known) (answer : An
 -- The answer may be told, and once it is no statement is open.
 pub record TellsNow (loses : Bool) (c : Coordination) (k : Known) (answer : Answer) : Type 0 where
   pub may : IsTellable loses c k answer
-  pub after : Rests c.session c.clock c.begun c.txn c.later c.job (learned (events.Tell answer) k)
+  pub after : Rests loses c.session c.clock c.begun c.txn c.later c.job (learned (events.Tell answer) k)
 
 -- How the coordinator stands beside what its session knows, by what is due.
 abbrev pub KnowsAt : Bool → Coordination → Known → Due → Type 0
-KnowsAt loses c k dues.Nothing = Rests c.session c.clock c.begun c.txn c.later c.job k
+KnowsAt loses c k dues.Nothing = Rests loses c.session c.clock c.begun c.txn c.later c.job k
 KnowsAt loses c k (dues.Call call) = HasCallDue loses c k call
 KnowsAt loses c k (dues.Tell answer) = TellsNow loses c k answer
 
--- What holds at any time: some try is allowed; the keys at which the ranges are cut rise, and each message was for one range; without pipelining no put waits, and no
--- stage was sent. So far no message is lost.
+-- What holds at any time: some try is allowed; the keys at which the ranges are cut rise, and each message was for one range; where messages may be lost, those of one
+-- request went to one range; without pipelining no put waits, and no stage was sent.
 pub record KeepsCourse (loses : Bool) (c : Coordination) (k : Known) : Type 0 where
-  pub quiet : loses ≡ false
   pub tried : 1 ≤ c.tries
   pub rising : AreRising c.splits
   pub ranged : IsRanged c.splits k
+  pub one_range : loses ≡ true → WentToOneRange k
   pub may_wait : MayWait c.pipelining c.later
   pub unstaged : c.pipelining ≡ false → All (λ m. is_stage m.request ≡ false) k.sent
 

@@ -17,3 +17,4 @@ pub mod Pusher
 pub mod Ranged
 pub mod Rounds
 pub mod Suiting
+pub mod UsedUp

@@ -18,7 +18,7 @@ ghost use Rattle.pc_coord.specs.Suiting.{Suits};
 ghost use Rattle.pc_coord.specs.Going.{StandsReady, caused};
 ghost use Rattle.pc_coord.specs.Aside.{HasAside};
 ghost use Rattle.pc_coord.specs.Coming.{AwaitsOutbox, IsLeftOf};
-ghost use Rattle.pc_coord.specs.Knows.{IsHeardBesideOrPut, Knows};
+ghost use Rattle.pc_coord.specs.Knows.{AreAllHeard, Knows};
 ghost use Rattle.pc_proto.specs.declared.call.Call.TheVariants as calls;
 ghost use Rattle.pc_proto.specs.declared.why.Why.TheVariants as whys;
 ghost use Rattle.pc_txn.specs.Opened.{own_abort};
@@ -41,7 +41,7 @@ use std::mem;
 impl<'a> Coordinator<'a> {
     /// A call is asked where no transaction is open.
     pub(crate) fn ask_outside(&mut self, call: &Call, reading: u64) -> Result<(), NoMemory>
-        ensures knows { (loses : Bool) (k : Known) → StandsReady loses self.old k → k.statement ≡ None → k.is_open ≡ false → self.old.txn ≡ None → self.old.later ≡ [] → All (IsHeardBesideOrPut k) k.sent → is_round call.now ≡ false → OnOk result (Knows loses self.new (known_asked call.now reading k)) }
+        ensures knows { (loses : Bool) (k : Known) → StandsReady loses self.old k → k.statement ≡ None → k.is_open ≡ false → self.old.txn ≡ None → self.old.later ≡ [] → AreAllHeard loses k → is_round call.now ≡ false → OnOk result (Knows loses self.new (known_asked call.now reading k)) }
         ensures waits { OnOk result (AwaitsOutbox self.old.later self.new.due) }
         ensures learns { (id : TxnId) → call.now ≡ calls.Learn id → OnOk result (self.new.due ≡ dues.Tell answers.NotYet) }
         ensures left { OnOk result (IsLeftOf self.old.later self.new.later) }
@@ -68,7 +68,7 @@ impl<'a> Coordinator<'a> {
 
     /// A transaction begins at the clock's time. Refused where the session's numbers or timestamps are used up.
     fn begin(&mut self, priority: Priority, reading: u64) -> Result<(), NoMemory>
-        ensures knows { (loses : Bool) (k : Known) → StandsReady loses self.old k → k.statement ≡ None → k.is_open ≡ false → self.old.txn ≡ None → self.old.later ≡ [] → All (IsHeardBesideOrPut k) k.sent → OnOk result (Knows loses self.new (known_asked (calls.Begin priority) reading k)) }
+        ensures knows { (loses : Bool) (k : Known) → StandsReady loses self.old k → k.statement ≡ None → k.is_open ≡ false → self.old.txn ≡ None → self.old.later ≡ [] → AreAllHeard loses k → OnOk result (Knows loses self.new (known_asked (calls.Begin priority) reading k)) }
         ensures waits { OnOk result (AwaitsOutbox self.old.later self.new.due) }
         ensures left { OnOk result (IsLeftOf self.old.later self.new.later) }
         ensures session { self.new.session ≡ self.old.session }
@@ -120,7 +120,7 @@ impl<'a> Coordinator<'a> {
         reading: u64,
         mut txn: OpenTxn,
     ) -> Result<(), NoMemory>
-        ensures knows { (loses : Bool) (k : Known) → StandsReady loses self.old k → k.statement ≡ None → StandsOpen k txn → HasOutboxBetween k txn self.old.later → reading ≡ self.old.reading → Suits self.old.pipelining call (Some txn) → is_outside call ≡ false → is_round call ≡ false → OnOk result (Knows loses self.new (known_asked call reading k)) }
+        ensures knows { (loses : Bool) (k : Known) → StandsReady loses self.old k → k.statement ≡ None → StandsOpen k txn → HasOutboxBetween loses k txn self.old.later → reading ≡ self.old.reading → Suits self.old.pipelining call (Some txn) → is_outside call ≡ false → is_round call ≡ false → OnOk result (Knows loses self.new (known_asked call reading k)) }
         ensures waits { is_outside call ≡ false → is_round call ≡ false → OnOk result (AwaitsOutbox self.old.later self.new.due) }
         ensures left { OnOk result (IsLeftOf self.old.later self.new.later) }
         ensures session { self.new.session ≡ self.old.session }
@@ -135,7 +135,7 @@ impl<'a> Coordinator<'a> {
     }
 
     fn roll_back(&mut self, txn: OpenTxn, why: Why) -> Result<(), NoMemory>
-        ensures knows { (loses : Bool) (k : Known) (s : Statement) → StandsReady loses self.old k → IsFresh loses k txn s why → HasAside k txn self.old.later → s.call ≡ calls.Rollback → OnOk result (Knows loses self.new k) }
+        ensures knows { (loses : Bool) (k : Known) (s : Statement) → StandsReady loses self.old k → IsFresh loses k txn s why → HasAside loses k txn self.old.later → s.call ≡ calls.Rollback → OnOk result (Knows loses self.new k) }
         ensures waits { OnOk result (AwaitsOutbox self.old.later self.new.due) }
         ensures left { OnOk result (IsLeftOf self.old.later self.new.later) }
         ensures session { self.new.session ≡ self.old.session }
@@ -149,7 +149,7 @@ impl<'a> Coordinator<'a> {
     }
 
     fn abort(&mut self, txn: OpenTxn, why: Why) -> Result<(), NoMemory>
-        ensures knows { (loses : Bool) (k : Known) (s : Statement) → StandsReady loses self.old k → IsFresh loses k txn s why → HasAside k txn self.old.later → s.call ≡ calls.Rollback → OnOk result (Knows loses self.new k) }
+        ensures knows { (loses : Bool) (k : Known) (s : Statement) → StandsReady loses self.old k → IsFresh loses k txn s why → HasAside loses k txn self.old.later → s.call ≡ calls.Rollback → OnOk result (Knows loses self.new k) }
         ensures waits { OnOk result (AwaitsOutbox self.old.later self.new.due) }
         ensures left { OnOk result (IsLeftOf self.old.later self.new.later) }
         ensures session { self.new.session ≡ self.old.session }
@@ -164,7 +164,7 @@ impl<'a> Coordinator<'a> {
 fn abort_of(alloc: Global, txn: &OpenTxn, why: Why) -> Result<OpenCall, NoMemory>
     ensures unsent { IfOk result (λ call. All (λ m. is_to_send m ≡ true) call.wave) }
     ensures made { IfOk result (λ call. (anchor : List ℕ) × (call.wave ≡ message_to_send (own_abort txn.now why anchor) ∷ [])) }
-    ensures stands { (set : Setting) (k : Known) (later : List LaterPut) (s : Statement) → HasOutbox k txn.now later → IsFresh set.course.loses k txn.now s why → SuitsFlightIn set.course.pipelines s.call txn.now.in_flight → s.call ≡ calls.Rollback → IfOk result (λ call. InCall set k txn.now call.purpose call.wave) }
+    ensures stands { (set : Setting) (k : Known) (later : List LaterPut) (s : Statement) → HasOutbox set.course.loses k txn.now later → IsFresh set.course.loses k txn.now s why → SuitsFlightIn set.course.pipelines s.call txn.now.in_flight → s.call ≡ calls.Rollback → IfOk result (λ call. InCall set k txn.now call.purpose call.wave) }
 {
     match &txn.anchor {
         Some(anchor) => OpenCall::abort(alloc, txn, anchor, why),

@@ -28,6 +28,10 @@ ghost use Rattle.pc_wave.specs.declared.step.Step.TheVariants as steps;
 ghost use Rattle.pc_wave.specs.Messages.{awaits_at, back_with, first_changed, is_to_send, sent_under, step_of};
 ghost use Rattle.pc_world.specs.Known.{Known, learn, nothing_known};
 ghost use Rattle.pc_world.specs.Known.Traffic.{request_sent};
+ghost use Rattle.pc_coord.specs.Ranged.{GoesWhereItWent};
+ghost use Rattle.pc_coord.specs.UsedUp.{ComesLost, answer_lost};
+ghost use Rattle.pc_call.specs.Losses.{wave_lost};
+ghost use Rattle.pc_coord.specs.declared.round.Round.TheVariants as rounds;
 
 use crate::due::{Due, Opened};
 use crate::job::Job;
@@ -95,7 +99,7 @@ impl<'a> Coordinator<'a> {
         requires rising { AreRising splits.now }
         requires tries { 1 ≤ tries }
         ensures made { result ≡ new_coordination session tries pipelining splits.now }
-        ensures knows { (loses : Bool) → loses ≡ false → Knows loses result nothing_known }
+        ensures knows { (loses : Bool) → Knows loses result nothing_known }
         ensures session { result.session ≡ session }
         ensures splits { result.splits ≡ splits.now }
     {
@@ -155,9 +159,9 @@ impl<'a> Coordinator<'a> {
         }
     }
 
-    /// The message that `next` gave went out under this number, the session's next one.
+    /// The message that `next` gave went out under this number, the session's next one; where messages may be lost, to the range of those of its request.
     pub fn sent(&mut self, number: u64) -> Result<(), NoMemory>
-        ensures knows { (loses : Bool) (k : Known) (p : Pair Event) (range : ℕ) (request : Request) → Knows loses self.old k → SendsDue self.old number range request k p → OnOk result (Knows loses self.new (learn p k)) }
+        ensures knows { (loses : Bool) (k : Known) (p : Pair Event) (range : ℕ) (request : Request) → Knows loses self.old k → SendsDue self.old number range request k p → (loses ≡ true → GoesWhereItWent range request k.sent) → OnOk result (Knows loses self.new (learn p k)) }
         ensures waits { (request : Request) (other : ℕ) → next_of self.old ≡ nexts.Send request → OnOk result (awaits_number other self.new.due ≡ (number == other || awaits_number other self.old.due)) }
         ensures comes { (o : Opened) (request : Request) → opened_by self.old.txn self.old.due ≡ Some o → next_of self.old ≡ nexts.Send request → OnOk result (self.new.due ≡ dues.Call (record o.call { wave = first_changed is_to_send (sent_under number) o.call.wave })) }
         ensures kept { (request : Request) → next_of self.old ≡ nexts.Send request → OnOk result (self.new.later ≡ self.old.later) }
@@ -178,9 +182,9 @@ impl<'a> Coordinator<'a> {
     /// for want of memory, and where the session's sequences or epochs are used up.
     pub fn heard(&mut self, number: u64, step: u64, reply: &Reply) -> Result<(), NoMemory>
         ensures knows { (loses : Bool) (k : Known) (p : Pair Event) → Knows loses self.old k → HearsAwaited self.old number step reply.now k p → OnOk result (Knows loses self.new (learn p k)) }
-        ensures waits { (loses : Bool) (k : Known) (p : Pair Event) → Knows loses self.old k → HearsAwaited self.old number step reply.now k p → OnOk result (AwaitsAfter number self.old self.new.due) }
+        ensures waits { (loses : Bool) (k : Known) (p : Pair Event) → loses ≡ false → Knows loses self.old k → HearsAwaited self.old number step reply.now k p → OnOk result (AwaitsAfter number self.old self.new.due) }
         ensures left { (number : ℕ) → OnOk result (has_waited number self.new.later ≡ true → has_waited number self.old.later ≡ true) }
-        ensures goes_on { (loses : Bool) (k : Known) (p : Pair Event) (o : Opened) (other : ℕ) → Knows loses self.old k → HearsAwaited self.old number step reply.now k p → opened_by self.old.txn self.old.due ≡ Some o → (awaits_number other self.old.due && not (number == other)) ≡ true → OnOk result (GoesOnBy (first_changed (awaits_at number) (back_with number reply.now) o.call.wave) self.new.due) }
+        ensures goes_on { (loses : Bool) (k : Known) (p : Pair Event) (o : Opened) (other : ℕ) → loses ≡ false → Knows loses self.old k → HearsAwaited self.old number step reply.now k p → opened_by self.old.txn self.old.due ≡ Some o → (awaits_number other self.old.due && not (number == other)) ≡ true → OnOk result (GoesOnBy (first_changed (awaits_at number) (back_with number reply.now) o.call.wave) self.new.due) }
         ensures joins { (loses : Bool) (k : Known) (p : Pair Event) (request : Request) (other : ℕ) → Knows loses self.old k → HearsAwaited self.old number step reply.now k p → request_sent number k.sent ≡ Some request → is_heartbeat request ≡ false → has_waited other self.old.later ≡ true → OnOk result (awaits_number other self.new.due ≡ true → SendsNoMore self.new.due → ⊥) }
         ensures ends { (o : Opened) (answer : Answer) (asked : ℕ) (next : OpenCall) → opened_by self.old.txn self.old.due ≡ Some o → o.call.purpose ≡ purposes.LastBeat answer asked → OnOk result (self.new.due ≡ dues.Call next → ⊥) }
         ensures comes { (loses : Bool) (k : Known) (p : Pair Event) (o : Opened) → Knows loses self.old k → HearsAwaited self.old number step reply.now k p → opened_by self.old.txn self.old.due ≡ Some o → goes_by_sequence o.call.purpose ≡ false → OnOk result (ComesOf (first_changed (awaits_at number) (back_with number reply.now) o.call.wave) self.new.due) }
@@ -201,6 +205,7 @@ impl<'a> Coordinator<'a> {
     pub fn lost(&mut self, number: u64) -> Result<(), NoMemory>
         ensures knows { (loses : Bool) (k : Known) → loses ≡ true → Knows loses self.old k → LosesAwaited self.old number k → OnOk result (Knows loses self.new k) }
         ensures waits { (loses : Bool) (k : Known) → loses ≡ true → Knows loses self.old k → LosesAwaited self.old number k → OnOk result (AwaitsAfter number self.old self.new.due) }
+        ensures used_up { (o : Opened) → opened_by self.old.txn self.old.due ≡ Some o → OnOk result (ComesLost self.old.tries o.txn o.call.purpose (wave_lost number self.old.tries o.txn o.call.wave) self.new.due) }
         ensures session { self.new.session ≡ self.old.session }
         ensures splits { self.new.splits ≡ self.old.splits }
         ensures pipelines { self.new.pipelining ≡ self.old.pipelining }
@@ -230,6 +235,7 @@ impl<'a> Coordinator<'a> {
         ensures quiet { (loses : Bool) (c : Coordination) (start k : Known) (conflict : Reply) (reader : Option ℕ) (other : ℕ) → loses ≡ false → Knows loses c start → self.old ≡ with_clock k.high c → next_of c ≡ nexts.Conflict number conflict reader → IsLaterBeside c start k → EndsRound loses conflict round start k → OnOk result (awaits_number other self.new.due ≡ false) }
         ensures left { (number : ℕ) → OnOk result (has_waited number self.new.later ≡ true → has_waited number self.old.later ≡ true) }
         ensures comes { (o : Opened) (conflict : Reply) → opened_by self.old.txn self.old.due ≡ Some o → step_of o.call.wave ≡ steps.Round number conflict → goes_by_sequence o.call.purpose ≡ false → OnOk result (ComesOfRound round number conflict o.call.wave self.new.due) }
+        ensures used_up { (o : Opened) (faults : ℕ) → opened_by self.old.txn self.old.due ≡ Some o → round ≡ rounds.Lost faults → OnOk result (self.new.due ≡ dues.Tell (answer_lost faults o.txn o.call.purpose)) }
         ensures session { self.new.session ≡ self.old.session }
         ensures splits { self.new.splits ≡ self.old.splits }
         ensures pipelines { self.new.pipelining ≡ self.old.pipelining }

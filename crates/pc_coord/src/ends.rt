@@ -13,10 +13,10 @@ ghost use Rattle.pc_call.specs.Learned.{known_heard};
 ghost use Rattle.pc_call.specs.Rounding.{GoesOnBeside};
 ghost use Rattle.pc_call.specs.Serving.{InCall};
 ghost use Rattle.pc_coord.specs.Aside.{HasAside, KeepsAside};
-ghost use Rattle.pc_coord.specs.Coming.{AwaitsOutbox, ComesOf, IsIdle, IsLeftOf, goes_by_sequence};
+ghost use Rattle.pc_coord.specs.Coming.{AwaitsOutbox, ComesOf, IsIdle, IsLeftOf, goes_by_sequence, AwaitsBy};
 ghost use Rattle.pc_coord.specs.declared.due.Due.TheVariants as dues;
 ghost use Rattle.pc_coord.specs.Ends.{later_left};
-ghost use Rattle.pc_coord.specs.Going.{HearsNow, StandsReady};
+ghost use Rattle.pc_coord.specs.Going.{HearsNow, StandsReady, BeginsNothing};
 ghost use Rattle.pc_base.specs.declared.transaction.TxnId.{TxnId};
 ghost use Rattle.pc_proto.specs.declared.answer.Answer.TheVariants as answers;
 ghost use Rattle.pc_wave.specs.declared.message.Message.{Message};
@@ -27,13 +27,16 @@ ghost use Rattle.pc_proto.specs.declared.answer.Answer.{Answer};
 ghost use Rattle.pc_proto.specs.declared.reply.Reply.{Reply};
 ghost use Rattle.pc_staging.specs.Kept.{is_over};
 ghost use Rattle.pc_wave.specs.Messages.{is_in_conflict, is_to_send, message_to_send, step_of, wave_awaits};
-ghost use Rattle.pc_txn.specs.Counted.{IsCounted};
 ghost use Rattle.pc_txn.specs.Silence.{own_beat};
 ghost use Rattle.pc_world.specs.Known.{Known};
 ghost use Rattle.pc_world.specs.Known.Statements.{Statement};
 ghost use Rattle.pc_world.specs.Known.Traffic.{Heard};
 ghost use Rattle.pc_world.specs.Tell.Refusal.{WasLost};
 ghost use Rattle.pc_call.specs.declared.call.OpenCall.{OpenCall};
+ghost use Rattle.pc_call.specs.Unanswered.{MayGiveUpLost};
+ghost use Rattle.pc_call.specs.Losses.{wave_lost};
+ghost use Rattle.pc_proto.specs.declared.why.Why.{Why};
+ghost use Rattle.pc_coord.specs.UsedUp.{ComesLost, answer_lost};
 
 use crate::coordinator::Coordinator;
 use crate::kinds::{Decision, decision_of};
@@ -51,7 +54,7 @@ impl<'a> Coordinator<'a> {
         txn: OpenTxn,
         holder: TxnId,
     ) -> Result<(), NoMemory>
-        ensures knows { (loses : Bool) (k : Known) → StandsReady loses self.old k → InCall (setting_of loses self.old) k txn call.purpose call.wave → KeepsAside self.old.pipelining k txn call.purpose self.old.later call.wave → MayBlockIt self.old.session (setting_of loses self.old) k txn call.purpose call.wave holder → (step_of call.wave ≡ steps.Blocked holder) → OnOk result (Knows loses self.new k) }
+        ensures knows { (loses : Bool) (k : Known) → StandsReady loses self.old k → InCall (setting_of loses self.old) k txn call.purpose call.wave → KeepsAside loses self.old.pipelining k txn call.purpose self.old.later call.wave → MayBlockIt self.old.session (setting_of loses self.old) k txn call.purpose call.wave holder → (step_of call.wave ≡ steps.Blocked holder) → OnOk result (Knows loses self.new k) }
         ensures waits { OnOk result (AwaitsOutbox self.old.later self.new.due) }
         ensures comes { step_of call.wave ≡ steps.Blocked holder → goes_by_sequence call.purpose ≡ false → OnOk result (ComesOf call.wave self.new.due) }
         ensures left { OnOk result (IsLeftOf self.old.later self.new.later) }
@@ -72,7 +75,7 @@ impl<'a> Coordinator<'a> {
     /// The open commit gives up by this answer, which leaves its transaction open: at once where nothing of it can be committed, else behind a heartbeat that
     /// shows so.
     pub(crate) fn give_up(&mut self, txn: OpenTxn, answer: Answer) -> Result<(), NoMemory>
-        ensures knows { (loses : Bool) (k : Known) → StandsReady loses self.old k → GivesUpBy loses k txn answer → HasAside k txn self.old.later → Suits self.old.pipelining calls.Commit (Some txn) → OnOk result (Knows loses self.new k) }
+        ensures knows { (loses : Bool) (k : Known) → StandsReady loses self.old k → GivesUpBy loses k txn answer → HasAside loses k txn self.old.later → Suits self.old.pipelining calls.Commit (Some txn) → OnOk result (Knows loses self.new k) }
         ensures waits { OnOk result (AwaitsOutbox self.old.later self.new.due) }
         ensures comes { (messages : List Message) → list_any is_in_conflict messages ≡ false → ((holder : TxnId) → answer ≢ answers.Blocked holder) → OnOk result (ComesOf messages self.new.due) }
         ensures left { OnOk result (IsLeftOf self.old.later self.new.later) }
@@ -91,7 +94,7 @@ impl<'a> Coordinator<'a> {
 
     /// The open commit is told this, and its transaction stays open: nothing of it can be committed.
     fn leave_open(&mut self, mut txn: OpenTxn, answer: Answer) -> Result<(), NoMemory>
-        ensures knows { (loses : Bool) (k : Known) → StandsReady loses self.old k → GivesUpBy loses k txn answer → HasAside k txn self.old.later → Suits self.old.pipelining calls.Commit (Some txn) → is_over txn.staging ≡ true → OnOk result (Knows loses self.new k) }
+        ensures knows { (loses : Bool) (k : Known) → StandsReady loses self.old k → GivesUpBy loses k txn answer → HasAside loses k txn self.old.later → Suits self.old.pipelining calls.Commit (Some txn) → is_over txn.staging ≡ true → OnOk result (Knows loses self.new k) }
         ensures told { OnOk result (self.new.due ≡ dues.Tell answer) }
         ensures left { OnOk result (IsLeftOf self.old.later self.new.later) }
         ensures session { self.new.session ≡ self.old.session }
@@ -177,8 +180,9 @@ impl<'a> Coordinator<'a> {
         txn: OpenTxn,
         number: u64,
     ) -> Result<(), NoMemory>
-        ensures knows { (loses : Bool) (k : Known) → StandsReady loses self.old k → loses ≡ true → InCall (setting_of loses self.old) k txn call.purpose call.wave → KeepsAside self.old.pipelining k txn call.purpose self.old.later call.wave → wave_awaits number call.wave ≡ true → OnOk result (Knows loses self.new k) }
-        ensures waits { (loses : Bool) (k : Known) → loses ≡ true → StandsReady loses self.old k → OnOk result (AwaitsOutbox self.old.later self.new.due) }
+        ensures knows { (loses : Bool) (k : Known) → StandsReady loses self.old k → loses ≡ true → InCall (setting_of loses self.old) k txn call.purpose call.wave → KeepsAside loses self.old.pipelining k txn call.purpose self.old.later call.wave → wave_awaits number call.wave ≡ true → OnOk result (Knows loses self.new k) }
+        ensures waits { OnOk result (AwaitsBy (wave_lost number self.old.tries txn call.wave) self.old.later self.new.due) }
+        ensures used_up { OnOk result (ComesLost self.old.tries txn call.purpose (wave_lost number self.old.tries txn call.wave) self.new.due) }
         ensures session { self.new.session ≡ self.old.session }
         ensures splits { self.new.splits ≡ self.old.splits }
         ensures pipelines { self.new.pipelining ≡ self.old.pipelining }
@@ -195,7 +199,8 @@ impl<'a> Coordinator<'a> {
         mut txn: OpenTxn,
         faults: u32,
     ) -> Result<(), NoMemory>
-        ensures knows { (loses : Bool) (start k : Known) (clock : ℕ) → StandsReady loses self.old k → IsCounted self.old.session clock self.old.begun start → InCall (setting_of loses self.old) start txn call.purpose call.wave → KeepsAside self.old.pipelining k txn call.purpose self.old.later call.wave → ((number : ℕ) → wave_awaits number call.wave ≡ false) → GoesOnBeside start k txn.id → loses ≡ true → WasLost k faults → OnOk result (Knows loses self.new k) }
+        ensures knows { (loses : Bool) (start k : Known) → StandsReady loses self.old k → loses ≡ true → ((why : Why) → call.purpose ≡ purposes.Abort why → InCall (setting_of loses self.old) k txn call.purpose call.wave) → (((why : Why) → call.purpose ≢ purposes.Abort why) → MayGiveUpLost (setting_of loses self.old) start txn) → HasAside loses k txn self.old.later → GoesOnBeside start k txn.id → BeginsNothing k → WasLost k faults → OnOk result (Knows loses self.new k) }
+        ensures used_up { OnOk result (self.new.due ≡ dues.Tell (answer_lost faults txn call.purpose)) }
         ensures waits { OnOk result (AwaitsOutbox self.old.later self.new.due) }
         ensures comes { (messages : List Message) → OnOk result (ComesOf messages self.new.due) }
         ensures left { OnOk result (IsLeftOf self.old.later self.new.later) }

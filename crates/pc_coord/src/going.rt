@@ -32,6 +32,9 @@ ghost use Rattle.pc_call.specs.Setting.{Setting};
 ghost use Rattle.pc_follows.specs.Heartbeats.{is_heartbeat};
 ghost use Rattle.pc_call.specs.declared.call.OpenCall.{OpenCall};
 ghost use Rattle.pc_proto.specs.declared.answer.Answer.{Answer};
+ghost use Rattle.pc_coord.specs.Ranged.{GoesWhereItWent};
+ghost use Rattle.pc_coord.specs.UsedUp.{ComesLost, answer_lost};
+ghost use Rattle.pc_coord.specs.declared.round.Round.TheVariants as rounds;
 
 use crate::coordinator::Coordinator;
 use crate::due::{Due, Opened};
@@ -47,13 +50,14 @@ use pc_wave::Step;
 impl<'a> Coordinator<'a> {
     /// The open call goes on by what is due of these messages, or is told what they came to.
     pub(crate) fn go_on(&mut self, call: OpenCall, txn: OpenTxn) -> Result<(), NoMemory>
-        ensures knows { (loses : Bool) (k : Known) → StandsReady loses self.old k → InCall (setting_of loses self.old) k txn call.purpose call.wave → KeepsAside self.old.pipelining k txn call.purpose self.old.later call.wave → (step_of call.wave ≡ steps.Answered → IsForMany call.purpose) → OnOk result (Knows loses self.new k) }
+        ensures knows { (loses : Bool) (k : Known) → StandsReady loses self.old k → InCall (setting_of loses self.old) k txn call.purpose call.wave → KeepsAside loses self.old.pipelining k txn call.purpose self.old.later call.wave → (step_of call.wave ≡ steps.Answered → IsForMany call.purpose) → OnOk result (Knows loses self.new k) }
         ensures waits { OnOk result (AwaitsBy call.wave self.old.later self.new.due) }
         ensures comes { goes_by_sequence call.purpose ≡ false → OnOk result (ComesOf call.wave self.new.due) }
         ensures left { OnOk result (IsLeftOf self.old.later self.new.later) }
         ensures idle { ((n : ℕ) → wave_awaits n call.wave ≡ false) → (step_of call.wave ≡ steps.Answered → ⊥) → OnOk result (IsIdle self.new.due) }
-        ensures joins { (set : Setting) (k : Known) → InCall set k txn call.purpose call.wave → KeepsAside self.old.pipelining k txn call.purpose self.old.later call.wave → OnOk result (JoinsBeside self.old.later self.new.due) }
+        ensures joins { (set : Setting) (k : Known) → InCall set k txn call.purpose call.wave → KeepsAside set.course.loses self.old.pipelining k txn call.purpose self.old.later call.wave → OnOk result (JoinsBeside self.old.later self.new.due) }
         ensures goes_on { (number : ℕ) → wave_awaits number call.wave ≡ true → OnOk result (GoesOnBy call.wave self.new.due) }
+        ensures used_up { OnOk result (ComesLost self.old.tries txn call.purpose call.wave self.new.due) }
         ensures session { self.new.session ≡ self.old.session }
         ensures splits { self.new.splits ≡ self.old.splits }
         ensures pipelines { self.new.pipelining ≡ self.old.pipelining }
@@ -114,7 +118,7 @@ impl<'a> Coordinator<'a> {
 
     /// Each of these messages was answered: a read is told, what was refreshed commits or restarts, and a call whose earlier writes are proved goes on.
     fn end(&mut self, call: OpenCall, txn: OpenTxn) -> Result<(), NoMemory>
-        ensures knows { (loses : Bool) (k : Known) → StandsReady loses self.old k → InCall (setting_of loses self.old) k txn call.purpose call.wave → KeepsAside self.old.pipelining k txn call.purpose self.old.later call.wave → step_of call.wave ≡ steps.Answered → IsForMany call.purpose → OnOk result (Knows loses self.new k) }
+        ensures knows { (loses : Bool) (k : Known) → StandsReady loses self.old k → InCall (setting_of loses self.old) k txn call.purpose call.wave → KeepsAside loses self.old.pipelining k txn call.purpose self.old.later call.wave → step_of call.wave ≡ steps.Answered → IsForMany call.purpose → OnOk result (Knows loses self.new k) }
         ensures waits { OnOk result (AwaitsOutbox self.old.later self.new.due) }
         ensures comes { step_of call.wave ≡ steps.Answered → goes_by_sequence call.purpose ≡ false → OnOk result (ComesOf call.wave self.new.due) }
         ensures left { OnOk result (IsLeftOf self.old.later self.new.later) }
@@ -142,7 +146,7 @@ impl<'a> Coordinator<'a> {
 
     /// All writes for which the call waited are proved: it goes on by its own messages.
     fn proven(&mut self, call: OpenCall, txn: OpenTxn) -> Result<(), NoMemory>
-        ensures knows { (loses : Bool) (k : Known) (kept : Call) (all : Bool) → StandsReady loses self.old k → InCall (setting_of loses self.old) k txn call.purpose call.wave → KeepsAside self.old.pipelining k txn call.purpose self.old.later call.wave → call.purpose ≡ purposes.Prove kept all → step_of call.wave ≡ steps.Answered → OnOk result (Knows loses self.new k) }
+        ensures knows { (loses : Bool) (k : Known) (kept : Call) (all : Bool) → StandsReady loses self.old k → InCall (setting_of loses self.old) k txn call.purpose call.wave → KeepsAside loses self.old.pipelining k txn call.purpose self.old.later call.wave → call.purpose ≡ purposes.Prove kept all → step_of call.wave ≡ steps.Answered → OnOk result (Knows loses self.new k) }
         ensures waits { OnOk result (AwaitsOutbox self.old.later self.new.due) }
         ensures comes { list_any is_in_conflict call.wave ≡ false → OnOk result (ComesOf call.wave self.new.due) }
         ensures left { OnOk result (IsLeftOf self.old.later self.new.later) }
@@ -160,7 +164,7 @@ impl<'a> Coordinator<'a> {
     }
 
     fn read(&mut self, call: OpenCall, mut txn: OpenTxn) -> Result<(), NoMemory>
-        ensures knows { (loses : Bool) (k : Known) → StandsReady loses self.old k → InCall (setting_of loses self.old) k txn call.purpose call.wave → KeepsAside self.old.pipelining k txn call.purpose self.old.later call.wave → call.purpose ≡ purposes.Read → step_of call.wave ≡ steps.Answered → OnOk result (Knows loses self.new k) }
+        ensures knows { (loses : Bool) (k : Known) → StandsReady loses self.old k → InCall (setting_of loses self.old) k txn call.purpose call.wave → KeepsAside loses self.old.pipelining k txn call.purpose self.old.later call.wave → call.purpose ≡ purposes.Read → step_of call.wave ≡ steps.Answered → OnOk result (Knows loses self.new k) }
         ensures waits { OnOk result (AwaitsOutbox self.old.later self.new.due) }
         ensures comes { OnOk result (ComesOf call.wave self.new.due) }
         ensures left { OnOk result (IsLeftOf self.old.later self.new.later) }
@@ -175,7 +179,7 @@ impl<'a> Coordinator<'a> {
     }
 
     fn refreshed(&mut self, call: OpenCall, txn: OpenTxn) -> Result<(), NoMemory>
-        ensures knows { (loses : Bool) (k : Known) (refusals : ℕ) (puts : List Message) → StandsReady loses self.old k → InCall (setting_of loses self.old) k txn call.purpose call.wave → KeepsAside self.old.pipelining k txn call.purpose self.old.later call.wave → call.purpose ≡ purposes.Refresh refusals puts → step_of call.wave ≡ steps.Answered → OnOk result (Knows loses self.new k) }
+        ensures knows { (loses : Bool) (k : Known) (refusals : ℕ) (puts : List Message) → StandsReady loses self.old k → InCall (setting_of loses self.old) k txn call.purpose call.wave → KeepsAside loses self.old.pipelining k txn call.purpose self.old.later call.wave → call.purpose ≡ purposes.Refresh refusals puts → step_of call.wave ≡ steps.Answered → OnOk result (Knows loses self.new k) }
         ensures waits { OnOk result (AwaitsOutbox self.old.later self.new.due) }
         ensures comes { list_any is_in_conflict call.wave ≡ false → OnOk result (ComesOf call.wave self.new.due) }
         ensures left { OnOk result (IsLeftOf self.old.later self.new.later) }
@@ -196,7 +200,7 @@ impl<'a> Coordinator<'a> {
 
     /// The message that was due went out under this number.
     pub(crate) fn send(&mut self, taken: Opened, number: u64) -> Result<(), NoMemory>
-        ensures knows { (loses : Bool) (k : Known) (range : ℕ) (request : Request) → StandsReady loses self.old k → InCall (setting_of loses self.old) k taken.txn taken.call.purpose taken.call.wave → KeepsAside self.old.pipelining k taken.txn taken.call.purpose self.old.later taken.call.wave → step_of taken.call.wave ≡ steps.Send request → number ≡ next_number k → OnOk result (Knows loses self.new (known_sent number range request k)) }
+        ensures knows { (loses : Bool) (k : Known) (range : ℕ) (request : Request) → StandsReady loses self.old k → InCall (setting_of loses self.old) k taken.txn taken.call.purpose taken.call.wave → KeepsAside loses self.old.pipelining k taken.txn taken.call.purpose self.old.later taken.call.wave → step_of taken.call.wave ≡ steps.Send request → number ≡ next_number k → (loses ≡ true → GoesWhereItWent range request k.sent) → OnOk result (Knows loses self.new (known_sent number range request k)) }
         ensures waits { (request : Request) (other : ℕ) → step_of taken.call.wave ≡ steps.Send request → (self.old.pipelining && is_writing taken.call.purpose) ≡ false → OnOk result (awaits_number other self.new.due ≡ (number == other || wave_awaits other taken.call.wave)) }
         ensures comes { (self.old.pipelining && is_writing taken.call.purpose) ≡ false → OnOk result (self.new.due ≡ dues.Call (record taken.call { wave = first_changed is_to_send (sent_under number) taken.call.wave })) }
         ensures kept { (self.old.pipelining && is_writing taken.call.purpose) ≡ false → OnOk result (self.new.later ≡ self.old.later) }
@@ -227,11 +231,11 @@ impl<'a> Coordinator<'a> {
         reply: &Reply,
     ) -> Result<(), NoMemory>
         ensures knows { (loses : Bool) (k : Known) (h : Heard) → HearsNow loses self.old call txn number reply.now k h → h.step ≡ step → OnOk result (Knows loses self.new (known_heard h k)) }
-        ensures waits { (loses : Bool) (k : Known) (h : Heard) → HearsNow loses self.old call txn number reply.now k h → OnOk result (AwaitsBy (first_changed (awaits_at number) (back_with number reply.now) call.wave) self.old.later self.new.due) }
+        ensures waits { (loses : Bool) (k : Known) (h : Heard) → loses ≡ false → HearsNow loses self.old call txn number reply.now k h → OnOk result (AwaitsBy (first_changed (awaits_at number) (back_with number reply.now) call.wave) self.old.later self.new.due) }
         ensures comes { (loses : Bool) (k : Known) (h : Heard) → HearsNow loses self.old call txn number reply.now k h → goes_by_sequence call.purpose ≡ false → OnOk result (ComesOf (first_changed (awaits_at number) (back_with number reply.now) call.wave) self.new.due) }
         ensures left { OnOk result (IsLeftOf self.old.later self.new.later) }
         ensures joins { (loses : Bool) (k : Known) (h : Heard) → HearsNow loses self.old call txn number reply.now k h → h.step ≡ step → is_heartbeat h.request ≡ false → OnOk result (JoinsBeside self.old.later self.new.due) }
-        ensures goes_on { (loses : Bool) (k : Known) (h : Heard) (other : ℕ) → HearsNow loses self.old call txn number reply.now k h → wave_awaits other (first_changed (awaits_at number) (back_with number reply.now) call.wave) ≡ true → OnOk result (GoesOnBy (first_changed (awaits_at number) (back_with number reply.now) call.wave) self.new.due) }
+        ensures goes_on { (loses : Bool) (k : Known) (h : Heard) (other : ℕ) → loses ≡ false → HearsNow loses self.old call txn number reply.now k h → wave_awaits other (first_changed (awaits_at number) (back_with number reply.now) call.wave) ≡ true → OnOk result (GoesOnBy (first_changed (awaits_at number) (back_with number reply.now) call.wave) self.new.due) }
         ensures ends { (answer : Answer) (asked : ℕ) (next : OpenCall) → call.purpose ≡ purposes.LastBeat answer asked → OnOk result (self.new.due ≡ dues.Call next → ⊥) }
         ensures session { self.new.session ≡ self.old.session }
         ensures splits { self.new.splits ≡ self.old.splits }
@@ -456,11 +460,12 @@ impl<'a> Coordinator<'a> {
         number: u64,
         round: Round,
     ) -> Result<(), NoMemory>
-        ensures knows { (loses : Bool) (start k : Known) (clock : ℕ) (conflict : Reply) → StandsReady loses self.old k → IsCounted self.old.session clock self.old.begun start → InCall (setting_of loses self.old) start txn call.purpose call.wave → KeepsAside self.old.pipelining k txn call.purpose self.old.later call.wave → step_of call.wave ≡ steps.Round number conflict → HasHadRound loses round start k txn.id conflict → OnOk result (Knows loses self.new k) }
+        ensures knows { (loses : Bool) (start k : Known) (clock : ℕ) (conflict : Reply) → StandsReady loses self.old k → IsCounted self.old.session clock self.old.begun start → InCall (setting_of loses self.old) start txn call.purpose call.wave → KeepsAside loses self.old.pipelining k txn call.purpose self.old.later call.wave → step_of call.wave ≡ steps.Round number conflict → HasHadRound loses round start k txn.id conflict → OnOk result (Knows loses self.new k) }
         ensures waits { (conflict : Reply) → step_of call.wave ≡ steps.Round number conflict → OnOk result (AwaitsOutbox self.old.later self.new.due) }
         ensures comes { (conflict : Reply) → step_of call.wave ≡ steps.Round number conflict → goes_by_sequence call.purpose ≡ false → OnOk result (ComesOfRound round number conflict call.wave self.new.due) }
         ensures left { OnOk result (IsLeftOf self.old.later self.new.later) }
         ensures idle { (conflict : Reply) → step_of call.wave ≡ steps.Round number conflict → OnOk result (IsIdle self.new.due) }
+        ensures used_up { (faults : ℕ) → round ≡ rounds.Lost faults → OnOk result (self.new.due ≡ dues.Tell (answer_lost faults txn call.purpose)) }
         ensures session { self.new.session ≡ self.old.session }
         ensures splits { self.new.splits ≡ self.old.splits }
         ensures pipelines { self.new.pipelining ≡ self.old.pipelining }
@@ -477,7 +482,7 @@ impl<'a> Coordinator<'a> {
 
     /// The push of a round was refused: the call is told which transaction blocks it.
     fn refuse(&mut self, call: OpenCall, txn: OpenTxn) -> Result<(), NoMemory>
-        ensures knows { (loses : Bool) (start k : Known) (clock number : ℕ) (conflict : Reply) → StandsReady loses self.old k → IsCounted self.old.session clock self.old.begun start → InCall (setting_of loses self.old) start txn call.purpose call.wave → KeepsAside self.old.pipelining k txn call.purpose self.old.later call.wave → step_of call.wave ≡ steps.Round number conflict → RefusesRound start k txn.id conflict → OnOk result (Knows loses self.new k) }
+        ensures knows { (loses : Bool) (start k : Known) (clock number : ℕ) (conflict : Reply) → StandsReady loses self.old k → IsCounted self.old.session clock self.old.begun start → InCall (setting_of loses self.old) start txn call.purpose call.wave → KeepsAside loses self.old.pipelining k txn call.purpose self.old.later call.wave → step_of call.wave ≡ steps.Round number conflict → RefusesRound start k txn.id conflict → OnOk result (Knows loses self.new k) }
         ensures waits { OnOk result (AwaitsOutbox self.old.later self.new.due) }
         ensures comes { (number : ℕ) (conflict : Reply) (holder : TxnId) → step_of call.wave ≡ steps.Round number conflict → goes_by_sequence call.purpose ≡ false → holder_in conflict ≡ Some holder → OnOk result (self.new.due ≡ dues.Tell (answers.Blocked holder)) }
         ensures left { OnOk result (IsLeftOf self.old.later self.new.later) }
@@ -499,7 +504,7 @@ impl<'a> Coordinator<'a> {
 
     /// The push in this conflict's round was refused.
     fn block(&mut self, call: OpenCall, txn: OpenTxn, conflict: &Reply) -> Result<(), NoMemory>
-        ensures knows { (loses : Bool) (start k : Known) (clock number : ℕ) → StandsReady loses self.old k → IsCounted self.old.session clock self.old.begun start → InCall (setting_of loses self.old) start txn call.purpose call.wave → KeepsAside self.old.pipelining k txn call.purpose self.old.later call.wave → step_of call.wave ≡ steps.Round number conflict.now → RefusesRound start k txn.id conflict.now → OnOk result (Knows loses self.new k) }
+        ensures knows { (loses : Bool) (start k : Known) (clock number : ℕ) → StandsReady loses self.old k → IsCounted self.old.session clock self.old.begun start → InCall (setting_of loses self.old) start txn call.purpose call.wave → KeepsAside loses self.old.pipelining k txn call.purpose self.old.later call.wave → step_of call.wave ≡ steps.Round number conflict.now → RefusesRound start k txn.id conflict.now → OnOk result (Knows loses self.new k) }
         ensures waits { OnOk result (AwaitsOutbox self.old.later self.new.due) }
         ensures comes { (holder : TxnId) → is_for_stage call.purpose ≡ false → holder_in conflict.now ≡ Some holder → OnOk result (self.new.due ≡ dues.Tell (answers.Blocked holder)) }
         ensures left { OnOk result (IsLeftOf self.old.later self.new.later) }

@@ -40,7 +40,7 @@ impl<'a> Coordinator<'a> {
         reading: u64,
         txn: OpenTxn,
     ) -> Result<(), NoMemory>
-        ensures knows { (loses : Bool) (k : Known) (why : Why) → StandsReady loses self.old k → IsJustAsked k txn (record { call = call; reading = reading }) why → HasAside k txn self.old.later → MayBlock call → reading ≡ self.old.reading → Suits self.old.pipelining call (Some txn) → OnOk result (Knows loses self.new k) }
+        ensures knows { (loses : Bool) (k : Known) (why : Why) → StandsReady loses self.old k → IsJustAsked k txn (record { call = call; reading = reading }) why → HasAside loses k txn self.old.later → MayBlock call → reading ≡ self.old.reading → Suits self.old.pipelining call (Some txn) → OnOk result (Knows loses self.new k) }
         ensures waits { MayBlock call → OnOk result (AwaitsOutbox self.old.later self.new.due) }
         ensures left { OnOk result (IsLeftOf self.old.later self.new.later) }
         ensures session { self.new.session ≡ self.old.session }
@@ -56,7 +56,7 @@ impl<'a> Coordinator<'a> {
 
     /// The heartbeat of the transaction goes out first.
     fn show(&mut self, call: Call, reading: u64, txn: OpenTxn) -> Result<(), NoMemory>
-        ensures knows { (loses : Bool) (k : Known) (why : Why) → StandsReady loses self.old k → IsJustAsked k txn (record { call = call; reading = reading }) why → HasAside k txn self.old.later → MayBlock call → reading ≡ self.old.reading → Suits self.old.pipelining call (Some txn) → is_silent reading txn ≡ true → OnOk result (Knows loses self.new k) }
+        ensures knows { (loses : Bool) (k : Known) (why : Why) → StandsReady loses self.old k → IsJustAsked k txn (record { call = call; reading = reading }) why → HasAside loses k txn self.old.later → MayBlock call → reading ≡ self.old.reading → Suits self.old.pipelining call (Some txn) → is_silent reading txn ≡ true → OnOk result (Knows loses self.new k) }
         ensures waits { OnOk result (AwaitsOutbox self.old.later self.new.due) }
         ensures left { OnOk result (IsLeftOf self.old.later self.new.later) }
         ensures session { self.new.session ≡ self.old.session }
@@ -69,7 +69,7 @@ impl<'a> Coordinator<'a> {
 
     /// A call that reads, writes or commits begins.
     pub(crate) fn serve(&mut self, call: &Call, txn: OpenTxn) -> Result<(), NoMemory>
-        ensures knows { (loses : Bool) (k : Known) (s : Statement) (why : Why) → StandsReady loses self.old k → IsFresh loses k txn s why → HasAside k txn self.old.later → s.call ≡ call.now → MayBlock call.now → Suits self.old.pipelining call.now (Some txn) → OnOk result (Knows loses self.new k) }
+        ensures knows { (loses : Bool) (k : Known) (s : Statement) (why : Why) → StandsReady loses self.old k → IsFresh loses k txn s why → HasAside loses k txn self.old.later → s.call ≡ call.now → MayBlock call.now → Suits self.old.pipelining call.now (Some txn) → OnOk result (Knows loses self.new k) }
         ensures waits { MayBlock call.now → OnOk result (AwaitsOutbox self.old.later self.new.due) }
         ensures comes { (messages : List Message) → MayBlock call.now → list_any is_in_conflict messages ≡ false → OnOk result (ComesOf messages self.new.due) }
         ensures left { OnOk result (IsLeftOf self.old.later self.new.later) }
@@ -95,7 +95,7 @@ impl<'a> Coordinator<'a> {
 
     /// Writes in flight for which the call waits are proved first.
     fn prove(&mut self, call: &Call, txn: OpenTxn) -> Result<(), NoMemory>
-        ensures knows { (loses : Bool) (k : Known) (s : Statement) (why : Why) → StandsReady loses self.old k → IsFresh loses k txn s why → HasAside k txn self.old.later → s.call ≡ call.now → BeginsBehindProofs call.now → waits_for_some call.now txn.in_flight ≡ true → Suits self.old.pipelining call.now (Some txn) → OnOk result (Knows loses self.new k) }
+        ensures knows { (loses : Bool) (k : Known) (s : Statement) (why : Why) → StandsReady loses self.old k → IsFresh loses k txn s why → HasAside loses k txn self.old.later → s.call ≡ call.now → BeginsBehindProofs call.now → waits_for_some call.now txn.in_flight ≡ true → Suits self.old.pipelining call.now (Some txn) → OnOk result (Knows loses self.new k) }
         ensures waits { OnOk result (AwaitsOutbox self.old.later self.new.due) }
         ensures comes { (messages : List Message) → list_any is_in_conflict messages ≡ false → OnOk result (ComesOf messages self.new.due) }
         ensures left { OnOk result (IsLeftOf self.old.later self.new.later) }
@@ -109,7 +109,7 @@ impl<'a> Coordinator<'a> {
     }
 
     fn get(&mut self, txn: OpenTxn, key: &Key) -> Result<(), NoMemory>
-        ensures knows { (loses : Bool) (k : Known) (s : Statement) (why : Why) → StandsReady loses self.old k → IsFresh loses k txn s why → HasAside k txn self.old.later → s.call ≡ calls.Get key.now → waits_for_some (calls.Get key.now) txn.in_flight ≡ false → Suits self.old.pipelining (calls.Get key.now) (Some txn) → OnOk result (Knows loses self.new k) }
+        ensures knows { (loses : Bool) (k : Known) (s : Statement) (why : Why) → StandsReady loses self.old k → IsFresh loses k txn s why → HasAside loses k txn self.old.later → s.call ≡ calls.Get key.now → waits_for_some (calls.Get key.now) txn.in_flight ≡ false → Suits self.old.pipelining (calls.Get key.now) (Some txn) → OnOk result (Knows loses self.new k) }
         ensures waits { OnOk result (AwaitsOutbox self.old.later self.new.due) }
         ensures comes { (messages : List Message) → list_any is_in_conflict messages ≡ false → OnOk result (ComesOf messages self.new.due) }
         ensures left { OnOk result (IsLeftOf self.old.later self.new.later) }
@@ -122,7 +122,7 @@ impl<'a> Coordinator<'a> {
     }
 
     fn scan(&mut self, txn: OpenTxn, span: &Span) -> Result<(), NoMemory>
-        ensures knows { (loses : Bool) (k : Known) (s : Statement) (why : Why) → StandsReady loses self.old k → IsFresh loses k txn s why → HasAside k txn self.old.later → s.call ≡ calls.Scan span.now → waits_for_some (calls.Scan span.now) txn.in_flight ≡ false → Suits self.old.pipelining (calls.Scan span.now) (Some txn) → OnOk result (Knows loses self.new k) }
+        ensures knows { (loses : Bool) (k : Known) (s : Statement) (why : Why) → StandsReady loses self.old k → IsFresh loses k txn s why → HasAside loses k txn self.old.later → s.call ≡ calls.Scan span.now → waits_for_some (calls.Scan span.now) txn.in_flight ≡ false → Suits self.old.pipelining (calls.Scan span.now) (Some txn) → OnOk result (Knows loses self.new k) }
         ensures waits { OnOk result (AwaitsOutbox self.old.later self.new.due) }
         ensures comes { (messages : List Message) → list_any is_in_conflict messages ≡ false → OnOk result (ComesOf messages self.new.due) }
         ensures left { OnOk result (IsLeftOf self.old.later self.new.later) }
@@ -136,7 +136,7 @@ impl<'a> Coordinator<'a> {
 
     /// The call writes; no value is a deletion.
     fn write(&mut self, txn: OpenTxn, key: &Key, value: &Option<Value>) -> Result<(), NoMemory>
-        ensures knows { (loses : Bool) (k : Known) (s : Statement) (why : Why) → StandsReady loses self.old k → IsFresh loses k txn s why → HasAside k txn self.old.later → s.call ≡ write_call key.now value.now → waits_for_some (write_call key.now value.now) txn.in_flight ≡ false → Suits self.old.pipelining (write_call key.now value.now) (Some txn) → OnOk result (Knows loses self.new k) }
+        ensures knows { (loses : Bool) (k : Known) (s : Statement) (why : Why) → StandsReady loses self.old k → IsFresh loses k txn s why → HasAside loses k txn self.old.later → s.call ≡ write_call key.now value.now → waits_for_some (write_call key.now value.now) txn.in_flight ≡ false → Suits self.old.pipelining (write_call key.now value.now) (Some txn) → OnOk result (Knows loses self.new k) }
         ensures waits { OnOk result (AwaitsOutbox self.old.later self.new.due) }
         ensures comes { (messages : List Message) → list_any is_in_conflict messages ≡ false → OnOk result (ComesOf messages self.new.due) }
         ensures left { OnOk result (IsLeftOf self.old.later self.new.later) }
@@ -149,7 +149,7 @@ impl<'a> Coordinator<'a> {
     }
 
     fn commit(&mut self, txn: OpenTxn) -> Result<(), NoMemory>
-        ensures knows { (loses : Bool) (k : Known) (s : Statement) (why : Why) → StandsReady loses self.old k → IsFresh loses k txn s why → HasAside k txn self.old.later → s.call ≡ calls.Commit → Suits self.old.pipelining calls.Commit (Some txn) → OnOk result (Knows loses self.new k) }
+        ensures knows { (loses : Bool) (k : Known) (s : Statement) (why : Why) → StandsReady loses self.old k → IsFresh loses k txn s why → HasAside loses k txn self.old.later → s.call ≡ calls.Commit → Suits self.old.pipelining calls.Commit (Some txn) → OnOk result (Knows loses self.new k) }
         ensures waits { OnOk result (AwaitsOutbox self.old.later self.new.due) }
         ensures comes { (messages : List Message) → list_any is_in_conflict messages ≡ false → OnOk result (ComesOf messages self.new.due) }
         ensures left { OnOk result (IsLeftOf self.old.later self.new.later) }
@@ -164,7 +164,7 @@ impl<'a> Coordinator<'a> {
     }
 
     fn commit_written(&mut self, txn: OpenTxn) -> Result<(), NoMemory>
-        ensures knows { (loses : Bool) (k : Known) (s : Statement) (why : Why) (anchor : List ℕ) → StandsReady loses self.old k → IsFresh loses k txn s why → HasAside k txn self.old.later → s.call ≡ calls.Commit → Suits self.old.pipelining calls.Commit (Some txn) → txn.anchor ≡ Some anchor → OnOk result (Knows loses self.new k) }
+        ensures knows { (loses : Bool) (k : Known) (s : Statement) (why : Why) (anchor : List ℕ) → StandsReady loses self.old k → IsFresh loses k txn s why → HasAside loses k txn self.old.later → s.call ≡ calls.Commit → Suits self.old.pipelining calls.Commit (Some txn) → txn.anchor ≡ Some anchor → OnOk result (Knows loses self.new k) }
         ensures waits { OnOk result (AwaitsOutbox self.old.later self.new.due) }
         ensures comes { (messages : List Message) → list_any is_in_conflict messages ≡ false → OnOk result (ComesOf messages self.new.due) }
         ensures left { OnOk result (IsLeftOf self.old.later self.new.later) }
@@ -178,7 +178,7 @@ impl<'a> Coordinator<'a> {
 
 fn beat_of(alloc: Global, txn: &OpenTxn, call: Call, reading: u64) -> Result<OpenCall, NoMemory>
     ensures made { IfOk result (λ made. (anchor : List ℕ) × (made.wave ≡ message_to_send (own_beat txn.now reading anchor) ∷ [])) }
-    ensures stands { (set : Setting) (k : Known) (later : List LaterPut) (why : Why) → HasOutbox k txn.now later → IsJustAsked k txn.now (record { call = call; reading = reading }) why → MayBlock call → SuitsFlightIn set.course.pipelines call txn.now.in_flight → is_silent reading txn.now ≡ true → IfOk result (λ made. InCall set k txn.now made.purpose made.wave) }
+    ensures stands { (set : Setting) (k : Known) (later : List LaterPut) (why : Why) → HasOutbox set.course.loses k txn.now later → IsJustAsked k txn.now (record { call = call; reading = reading }) why → MayBlock call → SuitsFlightIn set.course.pipelines call txn.now.in_flight → is_silent reading txn.now ≡ true → IfOk result (λ made. InCall set k txn.now made.purpose made.wave) }
 {
     match &txn.anchor {
         Some(anchor) => OpenCall::beat(alloc, txn, anchor, call, reading),
@@ -193,11 +193,11 @@ fn prove_first(
     call: Call,
 ) -> Result<OpenCall, NoMemory>
     ensures unsent { IfOk result (λ made. AreToSendOrOnWay made.wave) }
-    ensures outbox { (k : Known) → HasOutbox k txn.now later.old → IfOk result (λ made. KeepsOutbox k txn.now later.new made.wave) }
+    ensures outbox { (loses : Bool) (k : Known) → HasOutbox loses k txn.now later.old → IfOk result (λ made. KeepsOutbox loses k txn.now later.new made.wave) }
     ensures takes { IfOk result (λ made. TakesFrom later.old later.new made.wave) }
     ensures proves { IfOk result (λ made. IsProving made.purpose) }
     ensures some { waits_for_some call txn.now.in_flight ≡ true → IfOk result (λ made. made.wave ≢ []) }
-    ensures stands { (set : Setting) (k : Known) (s : Statement) (why : Why) → IsFresh set.course.loses k txn.now s why → SuitsFlightIn set.course.pipelines s.call txn.now.in_flight → s.call ≡ call → BeginsBehindProofs call → HasOutbox k txn.now later.old → MayWait set.course.pipelines later.old → (waits_for_all call txn.now.in_flight ≡ true → IsFull k) → IfOk result (λ made. InCall set k txn.now made.purpose made.wave) }
+    ensures stands { (set : Setting) (k : Known) (s : Statement) (why : Why) → IsFresh set.course.loses k txn.now s why → SuitsFlightIn set.course.pipelines s.call txn.now.in_flight → s.call ≡ call → BeginsBehindProofs call → HasOutbox set.course.loses k txn.now later.old → MayWait set.course.pipelines later.old → (waits_for_all call txn.now.in_flight ≡ true → IsFull k) → IfOk result (λ made. InCall set k txn.now made.purpose made.wave) }
 {
     match &txn.anchor {
         Some(anchor) => OpenCall::prove(alloc, txn, later, anchor, call),

@@ -24,6 +24,7 @@ ghost use Rattle.pc_world.specs.Known.{Known};
 ghost use Rattle.pc_world.specs.Known.Statements.{Statement};
 ghost use Rattle.pc_world.specs.Known.Traffic.{Heard};
 ghost use Rattle.pc_world.specs.Known.Transactions.{Txn};
+ghost use Rattle.pc_world.specs.Tell.Refusal.{WasLost};
 
 use crate::coordinator::Coordinator;
 use crate::kinds::{Decision, decision_of, written_at};
@@ -45,10 +46,10 @@ impl<'a> Coordinator<'a> {
         reply: &Reply,
     ) -> Result<(), NoMemory>
         ensures knows { (loses : Bool) (k : Known) (h : Heard) (n : ℕ) → HearsNow loses self.old call txn number reply.now k h → call.purpose ≡ purposes.Stage n → h.step ≡ step → OnOk result (Knows loses self.new (known_heard h k)) }
-        ensures waits { (loses : Bool) (k : Known) (h : Heard) (n : ℕ) → HearsNow loses self.old call txn number reply.now k h → call.purpose ≡ purposes.Stage n → OnOk result (AwaitsBy (first_changed (awaits_at number) (back_with number reply.now) call.wave) self.old.later self.new.due) }
+        ensures waits { (loses : Bool) (k : Known) (h : Heard) (n : ℕ) → loses ≡ false → HearsNow loses self.old call txn number reply.now k h → call.purpose ≡ purposes.Stage n → OnOk result (AwaitsBy (first_changed (awaits_at number) (back_with number reply.now) call.wave) self.old.later self.new.due) }
         ensures left { (n : ℕ) → call.purpose ≡ purposes.Stage n → OnOk result (IsLeftOf self.old.later self.new.later) }
         ensures joins { (loses : Bool) (k : Known) (h : Heard) (n : ℕ) → HearsNow loses self.old call txn number reply.now k h → call.purpose ≡ purposes.Stage n → h.step ≡ step → OnOk result (JoinsBeside self.old.later self.new.due) }
-        ensures goes_on { (loses : Bool) (k : Known) (h : Heard) (n other : ℕ) → HearsNow loses self.old call txn number reply.now k h → call.purpose ≡ purposes.Stage n → wave_awaits other (first_changed (awaits_at number) (back_with number reply.now) call.wave) ≡ true → OnOk result (GoesOnBy (first_changed (awaits_at number) (back_with number reply.now) call.wave) self.new.due) }
+        ensures goes_on { (loses : Bool) (k : Known) (h : Heard) (n other : ℕ) → loses ≡ false → HearsNow loses self.old call txn number reply.now k h → call.purpose ≡ purposes.Stage n → wave_awaits other (first_changed (awaits_at number) (back_with number reply.now) call.wave) ≡ true → OnOk result (GoesOnBy (first_changed (awaits_at number) (back_with number reply.now) call.wave) self.new.due) }
         ensures session { self.new.session ≡ self.old.session }
         ensures splits { self.new.splits ≡ self.old.splits }
         ensures pipelines { self.new.pipelining ≡ self.old.pipelining }
@@ -70,10 +71,10 @@ impl<'a> Coordinator<'a> {
         reply: &Reply,
     ) -> Result<(), NoMemory>
         ensures knows { (loses : Bool) (k : Known) (h : Heard) (n : ℕ) → HearsNow loses self.old call txn number reply.now k h → call.purpose ≡ purposes.Stage n → is_written reply.now ≡ false → h.step ≡ step → OnOk result (Knows loses self.new (known_heard h k)) }
-        ensures waits { (loses : Bool) (k : Known) (h : Heard) (n : ℕ) → HearsNow loses self.old call txn number reply.now k h → call.purpose ≡ purposes.Stage n → is_written reply.now ≡ false → OnOk result (AwaitsBy (first_changed (awaits_at number) (back_with number reply.now) call.wave) self.old.later self.new.due) }
+        ensures waits { (loses : Bool) (k : Known) (h : Heard) (n : ℕ) → loses ≡ false → HearsNow loses self.old call txn number reply.now k h → call.purpose ≡ purposes.Stage n → is_written reply.now ≡ false → OnOk result (AwaitsBy (first_changed (awaits_at number) (back_with number reply.now) call.wave) self.old.later self.new.due) }
         ensures left { (n : ℕ) → call.purpose ≡ purposes.Stage n → OnOk result (IsLeftOf self.old.later self.new.later) }
         ensures joins { (loses : Bool) (k : Known) (h : Heard) (n : ℕ) → HearsNow loses self.old call txn number reply.now k h → call.purpose ≡ purposes.Stage n → is_written reply.now ≡ false → h.step ≡ step → OnOk result (JoinsBeside self.old.later self.new.due) }
-        ensures goes_on { (loses : Bool) (k : Known) (h : Heard) (n other : ℕ) → HearsNow loses self.old call txn number reply.now k h → call.purpose ≡ purposes.Stage n → is_written reply.now ≡ false → wave_awaits other (first_changed (awaits_at number) (back_with number reply.now) call.wave) ≡ true → OnOk result (GoesOnBy (first_changed (awaits_at number) (back_with number reply.now) call.wave) self.new.due) }
+        ensures goes_on { (loses : Bool) (k : Known) (h : Heard) (n other : ℕ) → loses ≡ false → HearsNow loses self.old call txn number reply.now k h → call.purpose ≡ purposes.Stage n → is_written reply.now ≡ false → wave_awaits other (first_changed (awaits_at number) (back_with number reply.now) call.wave) ≡ true → OnOk result (GoesOnBy (first_changed (awaits_at number) (back_with number reply.now) call.wave) self.new.due) }
         ensures session { self.new.session ≡ self.old.session }
         ensures splits { self.new.splits ≡ self.old.splits }
         ensures pipelines { self.new.pipelining ≡ self.old.pipelining }
@@ -100,10 +101,10 @@ impl<'a> Coordinator<'a> {
         reply: &Reply,
     ) -> Result<(), NoMemory>
         ensures knows { (loses : Bool) (k : Known) (h : Heard) (n : ℕ) → HearsNow loses self.old call txn number reply.now k h → call.purpose ≡ purposes.Stage n → IsUndecidedAt reply.now recorded → h.step ≡ step → OnOk result (Knows loses self.new (known_heard h k)) }
-        ensures waits { (loses : Bool) (k : Known) (h : Heard) (n : ℕ) → HearsNow loses self.old call txn number reply.now k h → call.purpose ≡ purposes.Stage n → IsUndecidedAt reply.now recorded → OnOk result (AwaitsBy (first_changed (awaits_at number) (back_with number reply.now) call.wave) self.old.later self.new.due) }
+        ensures waits { (loses : Bool) (k : Known) (h : Heard) (n : ℕ) → loses ≡ false → HearsNow loses self.old call txn number reply.now k h → call.purpose ≡ purposes.Stage n → IsUndecidedAt reply.now recorded → OnOk result (AwaitsBy (first_changed (awaits_at number) (back_with number reply.now) call.wave) self.old.later self.new.due) }
         ensures left { (n : ℕ) → call.purpose ≡ purposes.Stage n → OnOk result (IsLeftOf self.old.later self.new.later) }
         ensures joins { (loses : Bool) (k : Known) (h : Heard) (n : ℕ) → HearsNow loses self.old call txn number reply.now k h → call.purpose ≡ purposes.Stage n → IsUndecidedAt reply.now recorded → h.step ≡ step → OnOk result (JoinsBeside self.old.later self.new.due) }
-        ensures goes_on { (loses : Bool) (k : Known) (h : Heard) (n other : ℕ) → HearsNow loses self.old call txn number reply.now k h → call.purpose ≡ purposes.Stage n → IsUndecidedAt reply.now recorded → wave_awaits other (first_changed (awaits_at number) (back_with number reply.now) call.wave) ≡ true → OnOk result (GoesOnBy (first_changed (awaits_at number) (back_with number reply.now) call.wave) self.new.due) }
+        ensures goes_on { (loses : Bool) (k : Known) (h : Heard) (n other : ℕ) → loses ≡ false → HearsNow loses self.old call txn number reply.now k h → call.purpose ≡ purposes.Stage n → IsUndecidedAt reply.now recorded → wave_awaits other (first_changed (awaits_at number) (back_with number reply.now) call.wave) ≡ true → OnOk result (GoesOnBy (first_changed (awaits_at number) (back_with number reply.now) call.wave) self.new.due) }
         ensures session { self.new.session ≡ self.old.session }
         ensures splits { self.new.splits ≡ self.old.splits }
         ensures pipelines { self.new.pipelining ≡ self.old.pipelining }
@@ -123,7 +124,7 @@ impl<'a> Coordinator<'a> {
         txn: OpenTxn,
         recorded: Timestamp,
     ) -> Result<(), NoMemory>
-        ensures knows { (loses : Bool) (k : Known) (s : Statement) (n : ℕ) → StandsReady loses self.old k → k.statement ≡ Some s → CallStagesOn loses recorded k txn call → HasAside k txn self.old.later → MayWait self.old.pipelining self.old.later → Suits self.old.pipelining calls.Commit (Some txn) → call.purpose ≡ purposes.Stage n → (is_lost_after self.old.tries call.wave ≡ true → ⊥) → OnOk result (Knows loses self.new k) }
+        ensures knows { (loses : Bool) (k : Known) (s : Statement) (n : ℕ) → StandsReady loses self.old k → k.statement ≡ Some s → CallStagesOn loses recorded k txn call → HasAside loses k txn self.old.later → MayWait self.old.pipelining self.old.later → Suits self.old.pipelining calls.Commit (Some txn) → call.purpose ≡ purposes.Stage n → (is_lost_after self.old.tries call.wave ≡ true → (loses ≡ true) × WasLost k self.old.tries) → OnOk result (Knows loses self.new k) }
         ensures waits { OnOk result (AwaitsOutbox self.old.later self.new.due) }
         ensures left { (n : ℕ) → call.purpose ≡ purposes.Stage n → OnOk result (IsLeftOf self.old.later self.new.later) }
         ensures joins { OnOk result (JoinsBeside self.old.later self.new.due) }
@@ -140,7 +141,7 @@ impl<'a> Coordinator<'a> {
 
     /// All messages of the wave in which the transaction stages were answered: it is committed by its stage, or its stage is late.
     pub(crate) fn staged(&mut self, call: OpenCall, txn: OpenTxn) -> Result<(), NoMemory>
-        ensures knows { (loses : Bool) (k : Known) (n : ℕ) → StandsReady loses self.old k → InCall (setting_of loses self.old) k txn call.purpose call.wave → KeepsAside self.old.pipelining k txn call.purpose self.old.later call.wave → call.purpose ≡ purposes.Stage n → step_of call.wave ≡ steps.Answered → OnOk result (Knows loses self.new k) }
+        ensures knows { (loses : Bool) (k : Known) (n : ℕ) → StandsReady loses self.old k → InCall (setting_of loses self.old) k txn call.purpose call.wave → KeepsAside loses self.old.pipelining k txn call.purpose self.old.later call.wave → call.purpose ≡ purposes.Stage n → step_of call.wave ≡ steps.Answered → OnOk result (Knows loses self.new k) }
         ensures waits { OnOk result (AwaitsOutbox self.old.later self.new.due) }
         ensures left { (n : ℕ) → call.purpose ≡ purposes.Stage n → OnOk result (IsLeftOf self.old.later self.new.later) }
         ensures joins { OnOk result (JoinsBeside self.old.later self.new.due) }
@@ -163,7 +164,7 @@ impl<'a> Coordinator<'a> {
         txn: OpenTxn,
         recorded: Timestamp,
     ) -> Result<(), NoMemory>
-        ensures knows { (loses : Bool) (k : Known) (s : Statement) (n : ℕ) → StandsReady loses self.old k → k.statement ≡ Some s → CallStagesOn loses recorded k txn call → HasAside k txn self.old.later → MayWait self.old.pipelining self.old.later → Suits self.old.pipelining calls.Commit (Some txn) → call.purpose ≡ purposes.Stage n → OnOk result (Knows loses self.new k) }
+        ensures knows { (loses : Bool) (k : Known) (s : Statement) (n : ℕ) → StandsReady loses self.old k → k.statement ≡ Some s → CallStagesOn loses recorded k txn call → HasAside loses k txn self.old.later → MayWait self.old.pipelining self.old.later → Suits self.old.pipelining calls.Commit (Some txn) → call.purpose ≡ purposes.Stage n → OnOk result (Knows loses self.new k) }
         ensures waits { OnOk result (AwaitsOutbox self.old.later self.new.due) }
         ensures left { (n : ℕ) → call.purpose ≡ purposes.Stage n → OnOk result (IsLeftOf self.old.later self.new.later) }
         ensures joins { OnOk result (JoinsBeside self.old.later self.new.due) }
@@ -187,7 +188,7 @@ impl<'a> Coordinator<'a> {
 
     /// The open transaction, which wrote, goes on to commit after its commit was moved so often, where no stage of the call left puts.
     pub(crate) fn commit_on(&mut self, txn: OpenTxn, refusals: Refusals) -> Result<(), NoMemory>
-        ensures knows { (loses : Bool) (k : Known) (t : Txn) (s : Statement) → StandsReady loses self.old k → CommitsOnFrom loses t.read_ts refusals k t txn s [] → HasAside k txn self.old.later → MayWait self.old.pipelining self.old.later → Suits self.old.pipelining calls.Commit (Some txn) → OnOk result (Knows loses self.new k) }
+        ensures knows { (loses : Bool) (k : Known) (t : Txn) (s : Statement) → StandsReady loses self.old k → CommitsOnFrom loses t.read_ts refusals k t txn s [] → HasAside loses k txn self.old.later → MayWait self.old.pipelining self.old.later → Suits self.old.pipelining calls.Commit (Some txn) → OnOk result (Knows loses self.new k) }
         ensures comes { (messages : List Message) → list_any is_in_conflict messages ≡ false → OnOk result (ComesOf messages self.new.due) }
         ensures waits { OnOk result (AwaitsOutbox self.old.later self.new.due) }
         ensures left { OnOk result (IsLeftOf self.old.later self.new.later) }
@@ -218,7 +219,7 @@ impl<'a> Coordinator<'a> {
         reply: &Reply,
     ) -> Result<(), NoMemory>
         ensures knows { (loses : Bool) (k : Known) (h : Heard) (number n : ℕ) (holder : TxnId) (puts : List Message) → HearsNow loses self.old call txn number reply.now k h → call.purpose ≡ purposes.Query n holder puts → h.step ≡ step → OnOk result (Knows loses self.new (known_heard h k)) }
-        ensures waits { (loses : Bool) (k : Known) (h : Heard) (number n : ℕ) (holder : TxnId) (puts : List Message) → HearsNow loses self.old call txn number reply.now k h → call.purpose ≡ purposes.Query n holder puts → OnOk result (AwaitsOutbox self.old.later self.new.due) }
+        ensures waits { (loses : Bool) (k : Known) (h : Heard) (number n : ℕ) (holder : TxnId) (puts : List Message) → loses ≡ false → HearsNow loses self.old call txn number reply.now k h → call.purpose ≡ purposes.Query n holder puts → OnOk result (AwaitsOutbox self.old.later self.new.due) }
         ensures left { OnOk result (IsLeftOf self.old.later self.new.later) }
         ensures joins { (loses : Bool) (k : Known) (h : Heard) (number n : ℕ) (holder : TxnId) (puts : List Message) → HearsNow loses self.old call txn number reply.now k h → call.purpose ≡ purposes.Query n holder puts → OnOk result (JoinsBeside self.old.later self.new.due) }
         ensures session { self.new.session ≡ self.old.session }
@@ -238,7 +239,7 @@ impl<'a> Coordinator<'a> {
     /// The write was found: it is proved.
     fn found(&mut self, call: OpenCall, mut txn: OpenTxn) -> Result<(), NoMemory>
         ensures knows { (loses : Bool) (k : Known) (h : Heard) (number n : ℕ) (holder : TxnId) (puts : List Message) → HearsNow loses self.old call txn number replies.Found k h → call.purpose ≡ purposes.Query n holder puts → OnOk result (Knows loses self.new (known_heard h k)) }
-        ensures waits { (loses : Bool) (k : Known) (h : Heard) (number n : ℕ) (holder : TxnId) (puts : List Message) → HearsNow loses self.old call txn number replies.Found k h → call.purpose ≡ purposes.Query n holder puts → OnOk result (AwaitsOutbox self.old.later self.new.due) }
+        ensures waits { (loses : Bool) (k : Known) (h : Heard) (number n : ℕ) (holder : TxnId) (puts : List Message) → loses ≡ false → HearsNow loses self.old call txn number replies.Found k h → call.purpose ≡ purposes.Query n holder puts → OnOk result (AwaitsOutbox self.old.later self.new.due) }
         ensures left { OnOk result (IsLeftOf self.old.later self.new.later) }
         ensures joins { (loses : Bool) (k : Known) (h : Heard) (number n : ℕ) (holder : TxnId) (puts : List Message) → HearsNow loses self.old call txn number replies.Found k h → call.purpose ≡ purposes.Query n holder puts → OnOk result (JoinsBeside self.old.later self.new.due) }
         ensures session { self.new.session ≡ self.old.session }
@@ -282,7 +283,7 @@ impl<'a> Coordinator<'a> {
         txn: OpenTxn,
         holder: TxnId,
     ) -> Result<(), NoMemory>
-        ensures knows { (loses : Bool) (k : Known) (n : ℕ) → StandsReady loses self.old k → IsBlockedStage (setting_of loses self.old) k txn n call.wave holder → KeepsAside self.old.pipelining k txn call.purpose self.old.later call.wave → ((number : ℕ) → wave_awaits number call.wave ≡ false) → call.purpose ≡ purposes.Stage n → OnOk result (Knows loses self.new k) }
+        ensures knows { (loses : Bool) (k : Known) (n : ℕ) → StandsReady loses self.old k → IsBlockedStage (setting_of loses self.old) k txn n call.wave holder → KeepsAside loses self.old.pipelining k txn call.purpose self.old.later call.wave → ((number : ℕ) → wave_awaits number call.wave ≡ false) → call.purpose ≡ purposes.Stage n → OnOk result (Knows loses self.new k) }
         ensures waits { OnOk result (AwaitsOutbox self.old.later self.new.due) }
         ensures left { OnOk result (IsLeftOf self.old.later self.new.later) }
         ensures idle { OnOk result (IsIdle self.new.due) }

@@ -28,7 +28,7 @@ open-as k x y t is named held =
 pub counted_met : (c : Coordination) (k : Known) (number : ℕ) (conflict : Reply) (reader : Option ℕ) → Knows false c k → next_of c ≡ nexts.Conflict number conflict reader → IsCountedBy c k
 counted_met c k number conflict reader knows next = by c.due refl next
   where
-    by : (due : Due) → c.due ≡ due → next_at c.txn due ≡ nexts.Conflict number conflict reader → IsCountedBy c k
+    by : (due : Due) → c.due ≡ due → next_at c.pipelining c.txn due ≡ nexts.Conflict number conflict reader → IsCountedBy c k
     by (dues.Call call) is next =
         let at = subst (KnowsAt false c k) is knows.stands in
         record {

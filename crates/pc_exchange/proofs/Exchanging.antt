@@ -106,7 +106,7 @@ not-sent false k number range request last is = absurd cc
 has-not-sent : (id : ActorId) (splits : List (List ℕ)) (pipelining : Bool) (own : List (Pair Event)) (number range : ℕ) (request : Request) → KeepsAs id splits pipelining own (events.Send number range request) None → HasNotSentOwn id pipelining (known_of own)
 has-not-sent (actors.Session session) splits pipelining own number range request keeps = not-sent pipelining (known_of own) number range request keeps.last
 has-not-sent (actors.Recoverer recoverer) splits pipelining own number range request keeps = tt
-has-not-sent (actors.Range range) splits pipelining own number range request keeps = tt
+has-not-sent (actors.Range other) splits pipelining own number range request keeps = tt
 
 not-sent-on : (id : ActorId) (pipelining : Bool) (k later : Known) → (HasSentOwn later → HasSentOwn k) → HasNotSentOwn id pipelining k → HasNotSentOwn id pipelining later
 not-sent-on (actors.Session session) pipelining k later back unsent = λ is own. unsent is (back own)

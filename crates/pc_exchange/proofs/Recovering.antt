@@ -309,10 +309,10 @@ module _ {C : Type 0} (d : DeskMeaning C) (own : TxnId) (holder : TxnMeta) (met 
   asks_other w =
       let t = round.start.met.t in
       let who : record { id = t.id; level = t.priority } ≡ start.decides.pusher = let both = round.start.pushes t round.start.met.open_is in cc both in
-      let own_is : own ≡ t.id = sym (sym start.decides.whose) ∙ ap (λ (p : Pusher). p.id) (sym who) in
+      let own_is : own ≡ t.id = sym start.decides.whose ∙ ap (λ (p : Pusher). p.id) (sym who) in
       let by_is : r.by ≡ whos.Txn own = ap (λ (r : Recovering). r.by) f.same in
       let no : same_txn own r.holder.id ≡ false =
-      not_same own r.holder.id (λ e. round.start.met.other (sym (ap (λ (h : TxnMeta). h.id) (sym round.holder)) ∙ (its_id ∙ (sym (ap (λ (h : TxnMeta). h.id) holder_is) ∙ (sym e ∙ own_is))))) in
+      not_same own r.holder.id (λ e. round.start.met.other (ap (λ (h : TxnMeta). h.id) (sym round.holder) ∙ (its_id ∙ (sym (ap (λ (h : TxnMeta). h.id) holder_is) ∙ (sym e ∙ own_is))))) in
       ap (λ (b : Who). goes_beside (requests.Query r.holder.id r.epoch w.1 r.ts w.0 b)) by_is ∙ ap not no
 
   -- a query of it, or its recovery, goes out in its turn

@@ -8,6 +8,7 @@ use Rattle.pc_base.specs.declared.transaction.TxnId.{TxnId}
 use Rattle.pc_base.specs.declared.transaction.Who.{Who}
 use Rattle.pc_base.specs.declared.transaction.Who.TheVariants as whos
 use Rattle.pc_base.specs.Transaction.{same_txn}
+use Rattle.pc_call.proofs.Beating.{beaten_so}
 use Rattle.pc_call.specs.Paced.{IsBehindPushOf, KeepsBehindPushes, was_met, was_pushed}
 use Rattle.pc_call.specs.Sending.{IsConflictNow, read_at}
 use Rattle.pc_coord.proofs.Rounds.{behind_no_push, round_no_put}
@@ -187,7 +188,7 @@ module _ (session : ℕ) (pipelining : Bool) (start : Known) (number : ℕ) (con
       beats = λ s t opened is.
           let open_then : open_txn start ≡ Some t = sym (open_same session start k last later) ∙ is in
           let is_t : met.t ≡ t = let both = sym met.open_is ∙ open_then in cc both in
-          subst (HasBeaten k) is_t (beaten_still session start k last later met.t (met.beaten refl));
+          subst (HasBeaten k) is_t (beaten_still session start k last later met.t (beaten_so false start met.t met.beaten refl));
       beaten_last = λ s opened. now_free.beaten_last;
       unsent = now_free.unsent;
       proved = now_free.proved;

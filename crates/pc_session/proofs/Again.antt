@@ -113,7 +113,7 @@ module _ (c : Coordination) (k : Known) (call : OpenCall) (at : HasCallDue false
   asks test all = let f = awaited_in number call.wave waits in ap test (sym asked) ∙ All-contains (AsksSo test) call.wave m all f.1
 
   past_by : ((t u : Txn) → Contains k.txns t → Contains k.txns u → u.id ≡ t.id → u ≡ t) → (p : Purpose) → call.purpose ≡ p → round_of request ≡ None → goes_alone request ≡ false → All (λ m. is_to_send m ≡ false) call.wave → All (λ m. is_in_conflict m ≡ false) call.wave → AreAllSentPast c.pipelining k
-  past_by named p is plain alone out unmet = by p is (subst (λ p. Serves (setting_of false c) k w.s w.t at.x w.stages p call.wave) is w.serves)
+  past_by named p is plain alone out unmet = by p refl (subst (λ p. Serves (setting_of false c) k w.s w.t at.x w.stages p call.wave) is w.serves)
     where
       w : InCall (setting_of false c) k at.x call.purpose call.wave
       w = at.in_call

@@ -179,14 +179,14 @@ rest_epoch s track knows closed number waits = by c.txn rest.held rest.outbox
     k : Known
     k = session_knows s
 
-    rest : Rests c.session c.clock c.begun c.txn c.later c.job k
+    rest : Rests false c.session c.clock c.begun c.txn c.later c.job k
     rest = rests false c k knows closed
 
     put_is : (t : Txn) (x : OpenTxn) (anchor : List ℕ) (ts : ℕ) (w : WriteInFlight) → x.id ≡ t.id → x.epoch ≡ t.epoch → is_put_of t.id t.epoch w.seq (put_at x anchor ts w) ≡ true
     put_is t x anchor ts w id epoch =
         ap (λ b. b && (x.epoch == t.epoch && w.seq == w.seq)) (subst (λ i. same_txn i t.id ≡ true) (sym id) (same_txn-self t.id)) ∙ (ap (λ b. b && w.seq == w.seq) (eq-eqb x.epoch t.epoch epoch) ∙ eq-eqb w.seq w.seq refl)
 
-    by : (txn : Option OpenTxn) → IsHeld txn k → IsOutboxOf txn c.later k → IsOfOpenEpoch k number
+    by : (txn : Option OpenTxn) → IsHeld txn k → IsOutboxOf false txn c.later k → IsOfOpenEpoch k number
     by None held outbox = absurd (let e : false ≡ true = sym (ap (has_waited number) outbox.0) ∙ waits in cc e)
     by (Some x) held outbox =
         let u = waits_under k outbox.t x number c.later outbox.stands waits in
@@ -215,10 +215,10 @@ rest_puts s track knows closed number waits = by c.txn rest.outbox
     k : Known
     k = session_knows s
 
-    rest : Rests c.session c.clock c.begun c.txn c.later c.job k
+    rest : Rests false c.session c.clock c.begun c.txn c.later c.job k
     rest = rests false c k knows closed
 
-    by : (txn : Option OpenTxn) → IsOutboxOf txn c.later k → (request : Request) × (request_sent number k.sent ≡ Some request) × (is_put request ≡ true)
+    by : (txn : Option OpenTxn) → IsOutboxOf false txn c.later k → (request : Request) × (request_sent number k.sent ≡ Some request) × (is_put request ≡ true)
     by None outbox = absurd (let e : false ≡ true = sym (ap (has_waited number) outbox.0) ∙ waits in cc e)
     by (Some x) outbox =
         let u = waits_under k outbox.t x number c.later outbox.stands waits in

@@ -21,7 +21,7 @@ use Rattle.pc_exchange.proofs.AnsweredAlive.{first_mapped}
 use Rattle.pc_flight.specs.declared.write.WriteInFlight.{WriteInFlight}
 use Rattle.pc_follows.specs.PipelinedPuts.{IsFull, heard_before, was_in_flight, proves}
 use Rattle.pc_follows.specs.Proving.{IsAwaitedPut}
-use Rattle.pc_lists.proofs.Counts.{count-append}
+use Rattle.pc_lists.proofs.Counts.{count-append, count-cons, one_if}
 use Rattle.pc_lists.proofs.Lists.{all_from_contains, contains_cons, contains_nil}
 use Rattle.pc_proto.specs.declared.call.Call.{Call}
 use Rattle.pc_proto.specs.declared.call.Call.TheVariants as calls
@@ -246,9 +246,11 @@ module _ (c : Coordination) (k : Known) (sent : Request) (knows : Knows false c 
     full_on (inl kept) many = full_back k now w.t t2 kept.change refl refl kept.same kept.leaves before_same refl many
     full_on (inr adds) many =
         let none : was_in_flight now t2 adds.w ≡ false = ap (λ b. b && not (list_any (proves t2 adds.w) (heard_before now))) (ap (λ ms. list_any (λ (m : Sent). is_put_of w.t.id w.t.epoch adds.w.seq m.request) ms) before_same ∙ fresh t2.writes adds) in
-        let last : count_by (was_in_flight now t2) (adds.w ∷ []) ≡ 0 = ap (λ b. cond b 1 0) none in
+        let last = count-cons (was_in_flight now t2) adds.w [] in
+        let zero : one_if (was_in_flight now t2 adds.w) ≡ 0 = ap one_if none in
+        let nil : count_by (was_in_flight now t2) [] ≡ 0 = refl in
         let both : count_by (was_in_flight now t2) t2.writes ≡ count_by (was_in_flight now t2) w.t.writes + count_by (was_in_flight now t2) (adds.w ∷ []) = ap (count_by (was_in_flight now t2)) adds.whole ∙ count-append (was_in_flight now t2) w.t.writes (adds.w ∷ []) in
-        full_back k now w.t (record t2 { writes = w.t.writes }) (λ v. v) refl refl (sym (map-id w.t.writes)) (record { key = λ v. refl; seq = λ v. refl }) before_same refl (omega (arith, many, both, last))
+        full_back k now w.t (record t2 { writes = w.t.writes }) (λ v. v) refl refl (sym (map-id w.t.writes)) (record { key = λ v. refl; seq = λ v. refl }) before_same refl (omega (arith, many, both, last, zero, nil))
 
     full_before : IsFull now → IsFull k
     full_before =

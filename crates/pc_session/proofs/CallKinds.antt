@@ -71,6 +71,7 @@ never_meets (requests.Push meta by level now goal) none reply holder ts key is m
 never_meets (requests.Recover id epoch at anchor finding) none reply holder ts key is may = subst (MayAnswer (requests.Recover id epoch at anchor finding)) is may
 never_meets (requests.Resolve id own fate) none reply holder ts key is may = subst (MayAnswer (requests.Resolve id own fate)) is may
 never_meets (requests.Remove id anchor) none reply holder ts key is may = subst (MayAnswer (requests.Remove id anchor)) is may
+never_meets requests.Records none reply holder ts key is may = subst (MayAnswer requests.Records) is may
 
 pub meets_not : (r : Request) → meets_none r ≡ true → (reply : Reply) → is_conflict reply ≡ true → MayAnswer r reply → ⊥
 meets_not r none (replies.Conflict holder ts key) is may = never_meets r none (replies.Conflict holder ts key) holder ts key refl may

@@ -17,10 +17,11 @@ use Rattle.pc_follows.specs.WaveOrder.{EndsPutWaves, EndsWaves}
 use Rattle.pc_proto.specs.declared.answer.Answer.{Answer}
 use Rattle.pc_proto.specs.declared.answer.Answer.TheVariants as answers
 use Rattle.pc_proto.specs.declared.call.Call.TheVariants as calls
+use Rattle.pc_proto.specs.declared.event.Event.{Event}
 use Rattle.pc_proto.specs.declared.event.Event.TheVariants as events
 use Rattle.pc_session.proofs.Away.{none_posted, aside_sent, none_away}
 use Rattle.pc_session.proofs.Inside.{one_on, halted_on, asked_on}
-use Rattle.pc_session.specs.InCall.{HasGoneInside, HasOpenCall, IsApartNow, IsBetweenWaves, IsHeardOrAway, ends_epoch, IsWaitedFor, LeavesStrays, IsOfOpenEpoch, HasAsked, HasTold, GoesOnOrTold}
+use Rattle.pc_session.specs.InCall.{HasGoneInside, HasOpenCall, IsApartNow, IsBetweenWaves, IsHeardOrAway, ends_epoch, IsWaitedFor, LeavesStrays, IsOfOpenEpoch, HasAsked, HasDroppedAtMost, HasTold, GoesOnOrTold}
 use Rattle.pc_session.specs.InTurn.{KeepsTurn}
 use Rattle.pc_session.specs.Session.{HasLeft, SessionMeaning, waits_aside, session_knows}
 use Rattle.pc_turns.specs.Order.{IsInBetween}
@@ -64,7 +65,7 @@ none_stands : (k : Known) (t : Txn) (x : OpenTxn) (number : ℕ) (later : List L
 none_stands k t x number [] stands none = refl
 none_stands k t x number (put ∷ later) stands none = absurd (none stands.0.w stands.0.there)
 
-closed_some : (k : Known) (number : ℕ) (later : List LaterPut) (answer : Answer) → ends_epoch answer ≡ true → (x : OpenTxn) → IsHeld (Some x) (learned (events.Tell answer) k) → HasOutboxBetween (learned (events.Tell answer) k) x later → has_waited number later ≡ false
+closed_some : (k : Known) (number : ℕ) (later : List LaterPut) (answer : Answer) → ends_epoch answer ≡ true → (x : OpenTxn) → IsHeld (Some x) (learned (events.Tell answer) k) → HasOutboxBetween false (learned (events.Tell answer) k) x later → has_waited number later ≡ false
 closed_some k number later (answers.Restart key ts) ends x held outbox =
     let told : Known = learned (events.Tell (answers.Restart key ts)) k in
     let none : held.t.writes ≡ [] = restart_writes key ts (replies_to k.sent_now k.heard_now) k.is_open k.txns held.t (open_is told held.t held.open_in) in
@@ -84,7 +85,7 @@ cleared c k answer knows due ends number = by c.txn at.after.held at.after.outbo
     at : KnowsAt false c k (dues.Tell answer)
     at = subst (KnowsAt false c k) due knows.stands
 
-    by : (txn : Option OpenTxn) → IsHeld txn (learned (events.Tell answer) k) → IsOutboxOf txn c.later (learned (events.Tell answer) k) → has_waited number c.later ≡ false
+    by : (txn : Option OpenTxn) → IsHeld txn (learned (events.Tell answer) k) → IsOutboxOf false txn c.later (learned (events.Tell answer) k) → has_waited number c.later ≡ false
     by None held outbox = ap (has_waited number) outbox.0
     by (Some x) held outbox = closed_some k number c.later answer ends x held outbox
 
@@ -277,7 +278,7 @@ module _ {C : Type 0} (s : SessionMeaning C) (reading : ℕ) (answer : Answer) (
         rolls_begins id ts is =
             begun_apart s.coordinator.splits s.coordinator.session known at.may.may.s id ts (asked rolls) (subst (λ a. MayTellIn s.coordinator.splits (actors.Session s.coordinator.session) known at.may.may.s a) is at.may.may.told)
 
-        by : (txn : Option OpenTxn) → IsHeld txn (learned (events.Tell answer) known) → IsOutboxOf txn s.coordinator.later (learned (events.Tell answer) known) → ⊥
+        by : (txn : Option OpenTxn) → IsHeld txn (learned (events.Tell answer) known) → IsOutboxOf false txn s.coordinator.later (learned (events.Tell answer) known) → ⊥
         by None held outbox = let e : true ≡ false = sym has ∙ ap (has_waited number) outbox.0 in cc e
         by (Some x) held outbox = rolls_open rolls (was_open answer known.is_open goes_on rolls_begins held.open_in.is_open)
 
@@ -379,3 +380,33 @@ module _ {C : Type 0} (s : SessionMeaning C) (reading : ℕ) (answer : Answer) (
 
   pub goes_aside : ends_epoch answer ≡ false → (number : ℕ) → waits_aside number s.desk ≡ has_waited number s.coordinator.later
   goes_aside goes_on number = on_aside s reading answer calls_are due goes_on number
+
+-- ---- the answer is told behind it
+
+module _ {C : Type 0} (old mid : SessionMeaning C) (at_most : HasDroppedAtMost old mid) where
+  pub at_most_told : (new : SessionMeaning C) (reading : ℕ) (answer : Answer) (r : Result (Option Answer) Halt) → IfOk r (λ told. told ≡ Some answer) → IfOk r (GoesOnOrTold mid new reading) → IfOk r (GoesOnOrTold old new reading)
+  at_most_told new reading answer r told goes = elim at_most [
+    | inl same ↦ subst (λ (s : SessionMeaning C). IfOk r (GoesOnOrTold s new reading)) same goes
+    | inr dropped ↦ dropped_told_if old mid.desk new reading answer r dropped.1 told (subst (λ (s : SessionMeaning C). IfOk r (GoesOnOrTold s new reading)) dropped.0 goes)
+  ]
+
+  pub at_most_ends : {X : Type 0} (Is : Event → Type 0) (new : DeskMeaning C) (r : Result X Halt) → IfErr r (EndsOnly Is mid.desk new) → IfErr r (EndsOnly Is old.desk new)
+  at_most_ends Is new r ends = elim at_most [
+    | inl same ↦ subst (λ (s : SessionMeaning C). IfErr r (EndsOnly Is s.desk new)) same ends
+    | inr dropped ↦ dropped_ends_if old.desk mid.desk dropped.1 Is new r ends
+  ]
+
+  pub at_most_halts : {X : Type 0} (new : DeskMeaning C) (r : Result X Halt) → IfErr r (HasHalted mid.desk new) → IfErr r (HasHalted old.desk new)
+  at_most_halts new r halts = elim at_most [
+    | inl same ↦ subst (λ (s : SessionMeaning C). IfErr r (HasHalted s.desk new)) same halts
+    | inr dropped ↦ dropped_halts_if old.desk mid.desk dropped.1 new r halts
+  ]
+
+pub dropped_from : {C : Type 0} (v old new : SessionMeaning C) → v ≡ old → new ≡ record v { desk = new.desk } → HasDropped v.desk new.desk → HasDroppedAtMost old new
+dropped_from {C} v old new same is dropped = inr (subst (λ (s : SessionMeaning C). (new ≡ record s { desk = new.desk }) × HasDropped s.desk new.desk) same (is, dropped))
+
+pub next_dropped : {C : Type 0} (old new : SessionMeaning C) (answer : Answer) → HasDroppedAtMost old new → next_of old.coordinator ≡ nexts.Tell answer → next_of new.coordinator ≡ nexts.Tell answer
+next_dropped {C} old new answer at_most due = elim at_most [
+  | inl same ↦ ap (λ (s : SessionMeaning C). next_of s.coordinator) same ∙ due
+  | inr dropped ↦ ap (λ (s : SessionMeaning C). next_of s.coordinator) dropped.0 ∙ due
+]

@@ -2,9 +2,11 @@
 use Rattle.std.proofs.Common.{◌≡◌, ℕ, false, Option, None, Some, Contains, [], ◌∷◌, map, refl, sym, ap, subst, ◌∙◌, arith}
 use Rattle.std.proofs.lemmas.List.{append-nil}
 use Rattle.std.proofs.lemmas.List.Elements.{All-cons, All-nil}
+use Rattle.pc_base.specs.declared.transaction.TxnId.{TxnId}
 use Rattle.pc_call.specs.Finished.{MayBeCommittedFirst, MayBeSettledAfter}
 use Rattle.pc_coord.specs.declared.job.Job.{Job}
 use Rattle.pc_coord.specs.Knows.{MayFinishJob, left_for}
+use Rattle.pc_coord.specs.Meeting.{known_met}
 use Rattle.pc_coord.specs.OwnMessages.{LeavesAlone}
 use Rattle.pc_exchange.specs.Jobs.{IsFinishable}
 use Rattle.pc_lists.proofs.Lists.{contains_map}
@@ -97,4 +99,19 @@ module _ (k : Known) (job : Job) (left : IsFinishable k job) (ts : ℕ) (may : M
         unheard = All-nil (λ (h : Heard). is_about its_txn.id h.request ≡ false);
         top = omega arith;
         there = told_keeps answer k its_txn may.commit.mine (λ u opened same. left.other u opened (its_id ∙ ap (λ (x : Txn). x.id) same));
+      })
+
+  -- a commit is met
+  pub first_met : (id : TxnId) (at : ℕ) → MayBeCommittedFirst (known_met id at k) ts (left_for job)
+  first_met id at =
+      first_kept k (known_met id at k) job ts left.other may
+      (record {
+        sent_more = [];
+        sent = sym (append-nil k.sent);
+        unsent = All-nil (λ (m : Sent). is_about its_txn.id m.request ≡ false);
+        heard_more = [];
+        heard = sym (append-nil k.heard);
+        unheard = All-nil (λ (h : Heard). is_about its_txn.id h.request ≡ false);
+        top = omega arith;
+        there = may.commit.mine;
       })

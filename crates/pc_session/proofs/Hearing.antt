@@ -29,7 +29,7 @@ use Rattle.pc_proto.specs.declared.request.Request.{Request}
 use Rattle.pc_call.specs.declared.purpose.Purpose.TheVariants as purposes
 use Rattle.pc_coord.specs.declared.due.Due.TheVariants as dues
 use Rattle.pc_proto.specs.declared.answer.Answer.TheVariants as answers
-use Rattle.pc_proto.specs.declared.call.Call.TheVariants as calls
+use Rattle.pc_proto.specs.declared.call.Call.TheVariants as call_variants
 use Rattle.pc_proto.specs.declared.request.Request.TheVariants as requests
 use Rattle.pc_range.specs.Message.{evaluation}
 use Rattle.pc_session.proofs.Again.{and_first, ends_otherwise}
@@ -51,7 +51,7 @@ use Rattle.pc_world.specs.Answering.{MayAnswer}
 use Rattle.pc_follows.specs.AgainInOneWave.{EndsWithSending}
 use Rattle.pc_follows.specs.CallMessages.{IsForCall}
 use Rattle.pc_world.specs.Known.{Known, known_of, learn, open_txn, call_of}
-use Rattle.pc_world.specs.Known.Traffic.{Heard, heard_as, request_sent}
+use Rattle.pc_world.specs.Known.Traffic.{Heard, Sent, heard_as, request_sent}
 use Rattle.pc_world.specs.Known.Transactions.{Txn, txn_heard}
 use Rattle.std.proofs.lemmas.List.Folds.{list_any-append}
 use Rattle.pc_call.specs.declared.call.OpenCall.{OpenCall}
@@ -85,6 +85,7 @@ use Rattle.pc_desk.specs.Hearing.{MayStayUnheard}
 use Rattle.pc_session.proofs.Behind.{beats_behind, evaluated_past, records_behind}
 use Rattle.pc_session.proofs.KeepsBehind.{behind_heard}
 use Rattle.pc_session.specs.Behind.{WaitsBehindHeard}
+use Rattle.pc_coord.proofs.Dues.{gone_out}
 
 -- ---- messages are evaluated
 
@@ -362,7 +363,7 @@ module _ {C : Type 0} (old : SessionMeaning C) (reading : ℕ) (calls : HasOpenC
     hears-awaited : IsWholeOut old → HearsAwaited old.coordinator a.number a.step a.reply k p
     hears-awaited whole = record {
       waited = waited;
-      whole = whole.silent a.number on-way;
+      whole = gone_out old.coordinator.due (whole.silent a.number on-way);
       event = refl;
       evaluation = evaluation a.step heard.range old.desk.log.part.id a.number a.reply;
       actor = old.desk.log.part.id;
@@ -410,9 +411,9 @@ module _ {C : Type 0} (old : SessionMeaning C) (reading : ℕ) (calls : HasOpenC
     -- What the coordinator says of what is due then.
     module _ (whole : IsWholeOut old)
         (learns : (loses : Bool) (k : Known) (p : Pair Event) → Knows loses old.coordinator k → HearsAwaited old.coordinator a.number a.step a.reply k p → Knows loses c (learn p k))
-        (waits : (loses : Bool) (k : Known) (p : Pair Event) → Knows loses old.coordinator k → HearsAwaited old.coordinator a.number a.step a.reply k p → AwaitsAfter a.number old.coordinator c.due)
+        (waits : (loses : Bool) (k : Known) (p : Pair Event) → loses ≡ false → Knows loses old.coordinator k → HearsAwaited old.coordinator a.number a.step a.reply k p → AwaitsAfter a.number old.coordinator c.due)
         (left : (number : ℕ) → has_waited number c.later ≡ true → has_waited number old.coordinator.later ≡ true)
-        (goes_on : (loses : Bool) (k : Known) (p : Pair Event) (o : Opened) (other : ℕ) → Knows loses old.coordinator k → HearsAwaited old.coordinator a.number a.step a.reply k p → opened_by old.coordinator.txn old.coordinator.due ≡ Some o
+        (goes_on : (loses : Bool) (k : Known) (p : Pair Event) (o : Opened) (other : ℕ) → loses ≡ false → Knows loses old.coordinator k → HearsAwaited old.coordinator a.number a.step a.reply k p → opened_by old.coordinator.txn old.coordinator.due ≡ Some o
         → (awaits_number other old.coordinator.due && not (a.number == other)) ≡ true → GoesOnBy (first_changed (awaits_at a.number) (back_with a.number a.reply) o.call.wave) c.due)
         (joins : (loses : Bool) (k : Known) (p : Pair Event) (request : Request) (other : ℕ) → Knows loses old.coordinator k → HearsAwaited old.coordinator a.number a.step a.reply k p → request_sent a.number k.sent ≡ Some request → is_heartbeat request ≡ false
         → has_waited other old.coordinator.later ≡ true → awaits_number other c.due ≡ true → SendsNoMore c.due → ⊥)
@@ -430,10 +431,10 @@ module _ {C : Type 0} (old : SessionMeaning C) (reading : ℕ) (calls : HasOpenC
       knows_then = subst (Knows false c) (sym learnt) knows_learnt
 
       after : AwaitsAfter a.number old.coordinator c.due
-      after = waits false k p calls.one.knows it-is
+      after = waits false k p refl calls.one.knows it-is
 
       on_by : (other : ℕ) → (awaits_number other old.coordinator.due && not (a.number == other)) ≡ true → GoesOnBy (first_changed (awaits_at a.number) (back_with a.number a.reply) o.o.call.wave) c.due
-      on_by other on = goes_on false k p o.o other calls.one.knows it-is o.opened on
+      on_by other on = goes_on false k p o.o other refl calls.one.knows it-is o.opened on
 
       silent_then : (n : ℕ) → is_on_way n d ≡ true → SendsNoMore c.due
       silent_then n on =
@@ -444,7 +445,7 @@ module _ {C : Type 0} (old : SessionMeaning C) (reading : ℕ) (calls : HasOpenC
               let was : (is_on_way n old.desk && not (a.number == n)) ≡ true = sym (heard.way n) ∙ on in
               ap (λ b. b && not (a.number == n)) (awaited-of n (and_first (is_on_way n old.desk) (not (a.number == n)) was)) ∙ and_last (is_on_way n old.desk) (not (a.number == n)) was
 
-      not_rolled : (n : ℕ) → has_waited n old.coordinator.later ≡ true → awaits_number n c.due ≡ true → (waits_aside n old.desk ≡ true) ⊎ (call_of k ≡ Some calls.Rollback) → waits_aside n old.desk ≡ true
+      not_rolled : (n : ℕ) → has_waited n old.coordinator.later ≡ true → awaits_number n c.due ≡ true → (waits_aside n old.desk ≡ true) ⊎ (call_of k ≡ Some call_variants.Rollback) → waits_aside n old.desk ≡ true
       not_rolled n has on (inl aside) = aside
       not_rolled n has on (inr rolls) = (
           let w = wait_said old.coordinator k o.o.call o.at n has in
@@ -563,7 +564,7 @@ module _ {C : Type 0} (old : SessionMeaning C) (reading : ℕ) (calls : HasOpenC
       pub heard_whole : IsWholeOut heard_then
       heard_whole =
           whole_heard old heard_then h (ap (λ (l : LogMeaning C). l.head.splits) heard.entered.stored) known_is (λ n on. and_first (is_on_way n old.desk) (not (a.number == n)) (sym (heard.way n) ∙ on)) silent_then joined_then
-          (puts_heard old heard_then h p own-is refl known_is heard.way (awaited_out old.coordinator k h calls.one.knows next_h) (way-of whole a there-first) whole.puts) whole
+          (puts_heard old heard_then h p own-is refl known_is heard.way by.said (awaited_out old.coordinator k h calls.one.knows next_h) (way-of whole a there-first) whole.puts) whole
 
     pub heard_goes : c.session ≡ old.coordinator.session → HasGoneInside old heard_then
     heard_goes session = record {

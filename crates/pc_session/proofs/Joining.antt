@@ -24,7 +24,7 @@ use Rattle.pc_session.proofs.Again.{and_first}
 use Rattle.pc_session.proofs.Inside.{one_on}
 use Rattle.pc_session.proofs.Waiting.{wait_apart}
 use Rattle.pc_session.proofs.Wanted.{awaited_kind}
-use Rattle.pc_session.specs.InCall.{HasGoneInside, HasOpenCall, IsApartNow, IsHeardOrAway, IsOfOpenEpoch, LeavesStrays, IsWholeOut, IsWaitedFor}
+use Rattle.pc_session.specs.InCall.{HasGoneInside, HasJoinedIfAwaited, HasOpenCall, IsApartNow, IsHeardOrAway, IsOfOpenEpoch, LeavesStrays, IsWholeOut, IsWaitedFor}
 use Rattle.pc_session.specs.InTurn.{KeepsTurn}
 use Rattle.pc_session.specs.Session.{HasLeft, SessionMeaning, waits_aside, session_knows}
 use Rattle.pc_turns.specs.Order.{IsInBetween}
@@ -303,33 +303,41 @@ numbered_there n (m ∷ ps) there = elim (contains_cons m.number (map (λ (m : P
     or_second true b e = refl
     or_second false b e = e
 
-module _ {C : Type 0} (old l : SessionMeaning C) (reading number : ℕ) (calls_are : HasOpenCall l reading) (j : IsJoining old l (Some number)) (none_waits : old.desk.replies ≡ []) (due : next_of old.coordinator ≡ nexts.Wave) where
-  -- the next number is that of a put that was set aside
-  pub next_aside_is : waits_aside number l.desk ≡ true
-  next_aside_is = numbered_there number l.desk.later (first_there j.bound number (map (λ (m : Posted). m.number) l.desk.later) (sym j.from))
+-- the next number is that of a put that was set aside
+pub next_aside_is : {C : Type 0} (old l : SessionMeaning C) (number : ℕ) → IsJoining old l (Some number) → waits_aside number l.desk ≡ true
+next_aside_is old l number j = numbered_there number l.desk.later (first_there j.bound number (map (λ (m : Posted). m.number) l.desk.later) (sym j.from))
 
-  pub next_aside_some : 1 ≤ posted_as number l.desk.later
-  next_aside_some = counts_any (λ (m : Posted). m.number == number) l.desk.later next_aside_is
+module _ {C : Type 0} (l : SessionMeaning C) (reading number : ℕ) (calls_are : HasOpenCall l reading) (due : next_of l.coordinator ≡ nexts.Wave) (aside : waits_aside number l.desk ≡ true) where
+  pub aside_some : 1 ≤ posted_as number l.desk.later
+  aside_some = counts_any (λ (m : Posted). m.number == number) l.desk.later aside
 
-  -- it may join the wave that waits for it
-  pub may_join : awaits_number number l.coordinator.due ≡ true → (l.desk.replies ≡ []) × EndsUnheard l.desk.log.part.own
-  may_join waits = (
-    j.replies ∙ none_waits,
-    calls_are.joins (silent_wave l.coordinator (session_knows l) calls_are.one.knows (ap next_of j.coordinator ∙ due)) number waits next_aside_is,
-  )
+  -- what was set aside may join the wave that waits for it
+  pub may_join : awaits_number number l.coordinator.due ≡ true → EndsUnheard l.desk.log.part.own
+  may_join waits = calls_are.joins (silent_wave l.coordinator (session_knows l) calls_are.one.knows due) number waits aside
 
   -- once it did
-  pub joined_next : (awaits_number number l.coordinator.due ≡ true) → (e : DeskMeaning C) → HasJoinedWave l.desk e number → (next : Option ℕ) → next ≡ first_from (number + 1) (map (λ m. m.number) e.later) → IsStrictlySortedBy nat_cmp (map (λ m. m.number) l.desk.later)
-      → HasOpenCall (record l { desk = e }) reading × IsJoining old (record l { desk = e }) next
-  joined_next waits e put next from sorted = (
-    joined_open l reading calls_are number waits next_aside_is e put,
-    joining_next old l (record l { desk = e }) number next j sorted from (ap (λ d. record l { desk = d }) put.rest) (aside_before l reading calls_are number waits next_aside_is e put) (λ w. gone l reading calls_are number waits next_aside_is e put),
+  pub has_joined : awaits_number number l.coordinator.due ≡ true → (e : DeskMeaning C) → HasJoinedWave l.desk e number → HasOpenCall (record l { desk = e }) reading × HasJoinedIfAwaited l (record l { desk = e }) number
+  has_joined waits e put = (
+    joined_open l reading calls_are number waits aside e put,
+    record {
+      same = ap (λ d. record l { desk = d }) put.rest;
+      fewer = aside_before l reading calls_are number waits aside e put;
+      gone = λ w. gone l reading calls_are number waits aside e put;
+    },
   )
 
-  -- and where the wave does not wait for it
-  pub passed_next : (awaits_number number l.coordinator.due ≡ false) → (next : Option ℕ) → next ≡ first_from (number + 1) (map (λ m. m.number) l.desk.later) → IsStrictlySortedBy nat_cmp (map (λ m. m.number) l.desk.later) → IsJoining old l next
-  passed_next not next from sorted =
-      joining_next old l l number next j sorted from refl (λ n is. is) (λ w. absurd (let e : true ≡ false = sym w ∙ (ap (λ (c : Coordination). awaits_number number c.due) (sym j.coordinator) ∙ not) in cc e))
+-- from the session as its code has it
+pub joined_from : {C : Type 0} (v old new : SessionMeaning C) (number : ℕ) → v ≡ old → HasJoinedIfAwaited v new number → HasJoinedIfAwaited old new number
+joined_from {C} v old new number same joined = subst (λ (s : SessionMeaning C). HasJoinedIfAwaited s new number) same joined
+
+-- and where the wave does not wait for it
+pub not_joined : {C : Type 0} (l : SessionMeaning C) (number : ℕ) → awaits_number number l.coordinator.due ≡ false → HasJoinedIfAwaited l l number
+not_joined l number not = record { same = refl; fewer = λ n is. is; gone = λ w. absurd (let e : true ≡ false = sym w ∙ not in cc e) }
+
+-- so one more number was gone through
+pub passed_next : {C : Type 0} (old l new : SessionMeaning C) (number : ℕ) (next : Option ℕ) → IsJoining old l (Some number) → IsStrictlySortedBy nat_cmp (map (λ m. m.number) l.desk.later) → HasJoinedIfAwaited l new number → next ≡ first_from (number + 1) (map (λ m. m.number) new.desk.later) → IsJoining old new next
+passed_next old l new number next j sorted looked from =
+    joining_next old l new number next j sorted from looked.same looked.fewer (λ w. looked.gone (ap (λ (c : Coordination). awaits_number number c.due) j.coordinator ∙ w))
 
 -- in the end the wave is whole
 pub joining_ends : {C : Type 0} (old l : SessionMeaning C) (reading : ℕ) → HasOpenCall l reading → IsJoining old l None → next_of old.coordinator ≡ nexts.Wave → EndsPutWaves old.desk.log.part.own → IsWholeOut l
@@ -355,9 +363,9 @@ pub fewer_to_join : (last number : ℕ) (next : Option ℕ) (ns : List ℕ) → 
 fewer_to_join last number None ns from low = omega (arith, low)
 fewer_to_join last number (Some n) ns from low = let above : number + 1 ≤ n = first_above (number + 1) n ns (sym from) in omega (arith, above, low)
 
-module _ {C : Type 0} (old l : SessionMeaning C) (reading number : ℕ) (calls_are : HasOpenCall l reading) (j : IsJoining old l (Some number)) (none_waits : old.desk.replies ≡ []) (due : next_of old.coordinator ≡ nexts.Wave) where
+module _ {C : Type 0} (old l : SessionMeaning C) (reading number : ℕ) (calls_are : HasOpenCall l reading) (j : IsJoining old l (Some number)) where
   number_low : number ≤ length (session_knows l).sent
-  number_low = aside_low l.desk calls_are.track number (next_aside_is old l reading number calls_are j none_waits due)
+  number_low = aside_low l.desk calls_are.track number (next_aside_is old l number j)
 
   pub number_fits : number + 1 < 2 ^ 64
   number_fits =

@@ -36,6 +36,7 @@ use Rattle.pc_proto.specs.declared.call.Call.TheVariants as calls
 use Rattle.pc_proto.specs.declared.event.Event.{Event}
 use Rattle.pc_proto.specs.declared.event.Event.TheVariants as events
 use Rattle.pc_proto.specs.Stamps.{event_stamps, fate_stamps, greatest_of}
+use Rattle.pc_session.proofs.FirstCommits.{first_met, settles_on}
 use Rattle.pc_session.proofs.Inside.{halted_on, one_on}
 use Rattle.pc_session.proofs.Jobs.{HasJobs}
 use Rattle.pc_session.proofs.Keeping.{keeps_as, hears_none}
@@ -86,18 +87,18 @@ met_is id step ts k e told =
 jobs_met : (jobs : List Job) (k : Known) (id : TxnId) (ts : ℕ) → HasJobs jobs k → HasJobs jobs (known_met id ts k)
 jobs_met jobs k id ts has = record {
   numbers = has.numbers;
-  left = All-weaker (IsFinishable k) (IsFinishable (known_met id ts k)) (λ job left. record { may = on job left.may; begun = left.begun; other = left.other }) jobs has.left;
+  left = All-weaker (IsFinishable k) (IsFinishable (known_met id ts k)) (λ job left. record { may = on job left; begun = left.begun; other = left.other }) jobs has.left;
 }
   where
-    on : (job : Job) → MayFinishJob k job → MayFinishJob (known_met id ts k) job
-    on job may = record {
+    on : (job : Job) → IsFinishable k job → MayFinishJob (known_met id ts k) job
+    on job left = settles_on k (known_met id ts k) job (λ may. record {
       resolve = may.resolve;
       stamps = All-weaker (λ t. t ≤ k.top + 1) (λ t. t ≤ max k.top (max 0 (greatest_of (ts ∷ []))) + 1) (λ t low. omega (arith, low)) (fate_stamps job.fate) may.stamps;
       anchored = may.anchored;
       shown = may.shown;
       final = may.final;
       must = may.must;
-    }
+    }) (λ at first. first_met k job left at first id ts) left.may
 
 apart_met : (k : Known) (id : TxnId) (ts : ℕ) → IsApartNow k → IsApartNow (known_met id ts k)
 apart_met k id ts apart = record { before = apart.before; split = apart.split; apart = apart.apart; said = apart.said }
@@ -153,7 +154,7 @@ closed_later c k knows due closed number = by c.txn at.after.held at.after.outbo
     at : KnowsAt false c k (dues.Tell answers.NotYet)
     at = subst (KnowsAt false c k) due knows.stands
 
-    by : (txn : Option OpenTxn) → IsHeld txn (learned (events.Tell answers.NotYet) k) → IsOutboxOf txn c.later (learned (events.Tell answers.NotYet) k) → has_waited number c.later ≡ false
+    by : (txn : Option OpenTxn) → IsHeld txn (learned (events.Tell answers.NotYet) k) → IsOutboxOf false txn c.later (learned (events.Tell answers.NotYet) k) → has_waited number c.later ≡ false
     by None held outbox = ap (has_waited number) outbox.0
     by (Some x) held outbox = absurd (let is_open_now : k.is_open ≡ true = held.open_in.is_open in let e : true ≡ false = sym is_open_now ∙ closed in cc e)
 

@@ -102,7 +102,7 @@ module _ (c : Coordination) (k : Known) (request : Request) (knows : Knows false
       split : IsSplit k
       split = w.split
 
-      has : WaitsBeside (sent_before k) (heard_before k) k.heard_now k o.at.x c.later o.o.call.wave
+      has : WaitsBeside false (sent_before k) (heard_before k) k.heard_now k o.at.x c.later o.o.call.wave
       has = o.at.aside.outbox.has
 
       own : (seq : ℕ) × IsPutOfSeq has.t seq request
@@ -138,7 +138,7 @@ module _ (c : Coordination) (k : Known) (request : Request) (knows : Knows false
 
       heard_one : (m : Sent) → Contains k.sent m → IsSameRequest request m.request → IsTrue (is_heard k.heard m)
       heard_one m there same = elim (Contains-append_cases split.sent_first k.sent_now m (subst (λ ms. Contains ms m) split.sent there)) [
-        | inl first ↦ elim (All-contains (IsHeardOrLeft (heard_before k) k.heard_now has.t c.later o.o.call.wave) split.sent_first m (subst (All (IsHeardOrLeft (heard_before k) k.heard_now has.t c.later o.o.call.wave)) (before_is k split) has.left) first) [
+        | inl first ↦ elim (All-contains (IsHeardOrLeft (heard_before k) k.heard_now has.t c.later o.o.call.wave) split.sent_first m (subst (All (IsHeardOrLeft (heard_before k) k.heard_now has.t c.later o.o.call.wave)) (before_is k split) (has.left refl)) first) [
           | inl heard ↦ heard_front (length k.heard - length k.heard_now) k.heard m heard
           | inr (inl beside) ↦ absurd (never_beside m same beside)
           | inr (inr left) ↦ elim (left.waits own.0 (of_same m same).of) [
@@ -147,7 +147,7 @@ module _ (c : Coordination) (k : Known) (request : Request) (knows : Knows false
             | inr (inr reply) ↦ heard_of m (reply_heard m k.heard_now reply)
           ]
         ]
-        | inr now ↦ elim (All-contains (IsHeardOrOut k o.o.call.wave) k.sent_now m o.at.aside.heard now) [
+        | inr now ↦ elim (All-contains (IsHeardOrOut k o.o.call.wave) k.sent_now m (o.at.aside.heard refl) now) [
           | inl heard ↦ heard_of m heard
           | inr (inl beside) ↦ absurd (never_beside m same beside)
           | inr (inr way) ↦ absurd (never_out m same way)

@@ -1,5 +1,5 @@
 -- A session in its call once the round of a conflict was made beside its coordinator.
-use Rattle.std.proofs.Common.{◌≡◌, ℕ, ◌+◌, ◌≤◌, max, true, false, ◌==◌, All, Contains, ◌++◌, count_by, Option, Some, None, refl, sym, ap, subst, ◌∙◌, arith, Bool, ◌&&◌, ◌||◌, not, inl, inr, IsTrue, ◌×◌}
+use Rattle.std.proofs.Common.{◌≡◌, ℕ, ◌+◌, ◌≤◌, max, true, false, ◌==◌, All, Contains, ◌++◌, count_by, Option, Some, None, refl, sym, ap, subst, ◌∙◌, arith, Bool, ◌&&◌, ◌||◌, not, inl, inr, IsTrue}
 use Rattle.std.proofs.lemmas.Bool.{eq-eqb}
 use Rattle.std.proofs.lemmas.List.{append_assoc}
 use Rattle.std.proofs.lemmas.List.Elements.{All-append, All-weaker, Contains-append_right, All-contains}
@@ -129,7 +129,7 @@ module _ {C : Type 0} (old : SessionMeaning C) (reading number : ℕ) (conflict 
   free : MayGoInCall old.coordinator.pipelining known
   free = record {
     undecided = undecided;
-    beaten_last = no_last_beat known met.beaten.first;
+    beaten_last = no_last_beat known (met.beaten refl).first;
     unsent = λ piped. no_own old.coordinator known o.o.call o.at piped;
     proved = awaited_met old.coordinator known number conflict reader calls.one.knows due;
     heard = all_now;
@@ -281,7 +281,7 @@ module _ {C : Type 0} (old : SessionMeaning C) (reading number : ℕ) (conflict 
         one = one_on old.desk d old.coordinator e made.part made.goes.grown calls.one (session ∙ ap (λ (x : Coordination). x.session) raised) (splits ∙ ap (λ (x : Coordination). x.splits) raised) (pipelines ∙ ap (λ (x : Coordination). x.pipelining) raised) knows_then;
         way = way_is;
         aside = record {
-          waits = λ n waiting. elim (calls.aside.waits n (sym (ap (λ (x : Coordination). has_waited n x.later) (sym raised)) ∙ left n waiting)) [ inl is ↦ inl (aside_same n ∙ is) | inr rolls ↦ inr (ap call_in aside.statement ∙ rolls) ];
+          waits = λ n waiting. elim (calls.aside.waits n (waits_before n (inr waiting))) [ inl is ↦ inl (aside_same n ∙ is) | inr rolls ↦ inr (ap call_in aside.statement ∙ rolls) ];
           why = λ n is. aside_why round_then track-later knows_then (record { call = calls.call; reading = reading }) opened_then outside_then apart_then sent_then n is (epoch_then n is);
           epoch = epoch_then;
         };

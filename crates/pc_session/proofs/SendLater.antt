@@ -8,6 +8,7 @@ use Rattle.std.specs.List.{list_any, list_all}
 use Rattle.pc_call.specs.declared.later.LaterPut.{LaterPut}
 use Rattle.pc_call.specs.declared.purpose.Purpose.{Purpose}
 use Rattle.pc_call.specs.declared.purpose.Purpose.TheVariants as purposes
+use Rattle.pc_call.specs.Opening.{reader_of}
 use Rattle.pc_call.specs.Outbox.{has_waited}
 use Rattle.pc_call.specs.Sending.{IsSendable}
 use Rattle.pc_call.specs.Serving.{Serves, ServesWrite, InCall, write_call}
@@ -18,6 +19,7 @@ use Rattle.pc_coord.specs.declared.next.Next.TheVariants as nexts
 use Rattle.pc_coord.specs.Events.{SendsDue}
 use Rattle.pc_coord.specs.Knows.{Knows}
 use Rattle.pc_desk.proofs.Counting.{counts_any, said_new}
+use Rattle.pc_desk.proofs.Making.{added}
 use Rattle.pc_desk.specs.Aside.{HasSetAside}
 use Rattle.pc_desk.specs.declared.answered.Answered.{Answered}
 use Rattle.pc_desk.specs.Desk.{DeskMeaning, HasSentNext, Posted, is_on_way, posted_as}
@@ -27,8 +29,9 @@ use Rattle.pc_follows.specs.WaveOrder.{EndsPutWaves, EndsWaves}
 use Rattle.pc_history.specs.declared.pair.Pair.{Pair}
 use Rattle.pc_lists.proofs.Lists.{all_from_contains, contains_cons, contains_nil}
 use Rattle.pc_proto.specs.declared.answer.Answer.TheVariants as answers
-use Rattle.pc_proto.specs.declared.call.Call.TheVariants as calls
+use Rattle.pc_proto.specs.declared.call.Call.TheVariants as call_variants
 use Rattle.pc_proto.specs.declared.event.Event.{Event}
+use Rattle.pc_proto.specs.declared.event.Event.TheVariants as events
 use Rattle.pc_proto.specs.declared.request.Request.{Request}
 use Rattle.pc_proto.specs.Requests.{is_put}
 use Rattle.pc_session.proofs.AsideInCall.{aside_why, epoch_new, own_epoch, opened_put}
@@ -58,6 +61,7 @@ use Rattle.pc_desk.proofs.Turns.{counted_has}
 use Rattle.pc_desk.specs.Hearing.{IsOwnPut, MayStayUnheard}
 use Rattle.pc_world.specs.Local.{is_outside}
 use Rattle.pc_session.specs.Behind.{WaitsBehindHeard}
+use Rattle.pc_coord.specs.Ranged.{GoesWhereItWent}
 
 at_once : (b : Bool) (request : Request) → (if b then nexts.Later request else nexts.Send request) ≡ nexts.Later request → b ≡ true
 at_once true request e = refl
@@ -107,7 +111,7 @@ module _ (c : Coordination) (k : Known) (request : Request) (knows : Knows false
   told_at_once =
       let next : next_of c ≡ next_in c.pipelining c.txn o.o.call = ap (next_at c.pipelining c.txn) o.due in
       let held : next_in c.pipelining c.txn o.o.call ≡ next_in c.pipelining (Some o.o.txn) o.o.call = ap (λ txn. next_in c.pipelining txn o.o.call) o.held in
-      let by : next_in c.pipelining (Some o.o.txn) o.o.call ≡ (if (c.pipelining && is_writing o.o.call.purpose) then nexts.Later request else nexts.Send request) = ap (λ (s : Step). next_by _ (c.pipelining && is_writing o.o.call.purpose) s) (step_sends c k request knows due) in
+      let by : next_in c.pipelining (Some o.o.txn) o.o.call ≡ (if (c.pipelining && is_writing o.o.call.purpose) then nexts.Later request else nexts.Send request) = ap (λ (s : Step). next_by (reader_of o.o.call.purpose o.o.txn) (c.pipelining && is_writing o.o.call.purpose) s) (step_sends c k request knows due) in
       at_once (c.pipelining && is_writing o.o.call.purpose) request (sym (next ∙ (held ∙ by)) ∙ later)
 
   -- none of the call's messages is out
@@ -159,6 +163,9 @@ module _ {C : Type 0} (old : SessionMeaning C) (reading : ℕ) (request : Reques
 
   abbrev m : Sent
   m = record { number = number; range = sent.range; request = request }
+
+  abbrev p : Pair Event
+  p = added old.desk.log sent.sent (events.Send number sent.range request) sent.entered
 
   posted_there : 1 ≤ posted_as number d.posted
   posted_there =
@@ -222,13 +229,13 @@ module _ {C : Type 0} (old : SessionMeaning C) (reading : ℕ) (request : Reques
         by true on none = refl
         by false on none = ap (λ b. b && true) none
 
-    module _ (learns : (loses : Bool) (k : Known) (p : Pair Event) (range : ℕ) (request : Request) → Knows loses old.coordinator k → SendsDue old.coordinator number range request k p → Knows loses c (learn p k))
+    module _ (learns : (loses : Bool) (k : Known) (p : Pair Event) (range : ℕ) (request : Request) → Knows loses old.coordinator k → SendsDue old.coordinator number range request k p → (loses ≡ true → GoesWhereItWent range request k.sent) → Knows loses c (learn p k))
         (told : c.due ≡ dues.Tell answers.Written) (waiting : c.later ≡ old.coordinator.later ++ record { number = number; request = request } ∷ []) (session : c.session ≡ old.coordinator.session) (splits : c.splits ≡ old.coordinator.splits)
         (pipelines : c.pipelining ≡ old.coordinator.pipelining) where
       knows_then : Knows false c now
       knows_then =
           subst (Knows false c) (sym (now_same ∙ learnt old reading request calls due_request may one-range between d c number sent))
-          (learns false k _ sent.range request calls.one.knows (sends_due old reading request calls due_request may one-range between d c number sent))
+          (learns false k _ sent.range request calls.one.knows (sends_due old reading request calls due_request may one-range between d c number sent) (λ lossy. let e : false ≡ true = lossy in absurd cc))
 
       known_then : now ≡ with_sent number sent.range request k
       known_then = now_same ∙ known_is old reading request calls due_request may one-range between d c number sent
@@ -274,6 +281,15 @@ module _ {C : Type 0} (old : SessionMeaning C) (reading : ℕ) (request : Reques
               (epoch_new k (with_sent number sent.range request k) n m (txn_sent request) (λ t. (refl, refl)) refl (λ t opened. first_mapped (txn_sent request) k.is_open k.txns t opened)
               (all_from_contains (λ (x : Sent). x.number ≡ n → ⊥) k.sent (λ x there here. unsent_next old.desk calls.track number sent.next x there (here ∙ sym (eqb-true number n same)))) of_epoch (opened_put k request (later_puts old.coordinator k request calls.one.knows at_once) may.own))
 
+      opened_then : now.statement ≡ Some (record { call = calls.call; reading = reading })
+      opened_then = ap (λ (k : Known). k.statement) known_then ∙ calls.opened
+
+      outside_then : is_outside calls.call ≡ true → now.is_open ≡ false
+      outside_then outside = ap (λ (k : Known). k.is_open) known_then ∙ calls.outside outside
+
+      apart_then : IsApartNow now
+      apart_then = subst IsApartNow (sym now_same) (apart_of old reading request calls due_request may one-range between d c number sent)
+
       aside_then : HasAsideInCall later_then
       aside_then = record {
         waits = λ n has. waits_by n (has_waited n old.coordinator.later) refl (sym (ap (has_waited n) waiting ∙ waited_more n number request old.coordinator.later) ∙ has);
@@ -281,7 +297,7 @@ module _ {C : Type 0} (old : SessionMeaning C) (reading : ℕ) (request : Reques
         epoch = epoch_then;
       }
         where
-          waits_by : (n : ℕ) → (b : Bool) → has_waited n old.coordinator.later ≡ b → (has_waited n old.coordinator.later || ((number == n) || false)) ≡ true → (waits_aside n e ≡ true) ⊎ (call_of now ≡ Some calls.Rollback)
+          waits_by : (n : ℕ) → (b : Bool) → has_waited n old.coordinator.later ≡ b → (has_waited n old.coordinator.later || ((number == n) || false)) ≡ true → (waits_aside n e ≡ true) ⊎ (call_of now ≡ Some call_variants.Rollback)
           waits_by n true was has = elim (calls.aside.waits n was) [
             | inl is ↦ inl (still n (number == n) refl is)
             | inr rolls ↦ inr (ap call_of known_then ∙ rolls)
@@ -296,20 +312,11 @@ module _ {C : Type 0} (old : SessionMeaning C) (reading : ℕ) (request : Reques
               or_nil true is = refl
               or_nil false is = is
 
-      opened_then : now.statement ≡ Some (record { call = calls.call; reading = reading })
-      opened_then = ap (λ (k : Known). k.statement) known_then ∙ calls.opened
-
-      outside_then : is_outside calls.call ≡ true → now.is_open ≡ false
-      outside_then outside = ap (λ (k : Known). k.is_open) known_then ∙ calls.outside outside
-
-      apart_then : IsApartNow now
-      apart_then = subst IsApartNow (sym now_same) (apart_of old reading request calls due_request may one-range between d c number sent)
-
       -- the call goes on
       pub later_open : HasOpenCall later_then reading
       later_open = record {
         track = put.track;
-        one = one_on old.desk e old.coordinator c _ (subst (λ l. HasGrownBy old.desk.log l _) (sym log_same) (grown_sent old reading request calls due_request may one-range between d c number sent)) calls.one session splits pipelines knows_then;
+        one = one_on old.desk e old.coordinator c (p ∷ []) (subst (λ l. HasGrownBy old.desk.log l (p ∷ [])) (sym log_same) (grown_sent old reading request calls due_request may one-range between d c number sent)) calls.one session splits pipelines knows_then;
         way = way_is;
         aside = aside_then;
         sent = heard_or_away;

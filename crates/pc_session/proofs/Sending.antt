@@ -66,6 +66,7 @@ use Rattle.pc_session.specs.Behind.{WaitsBehindHeard}
 use Rattle.pc_history.specs.Own.{entries_of}
 use Rattle.pc_lists.proofs.Lists.{all_from_contains, contains_map}
 use Rattle.pc_world.specs.Local.{is_outside}
+use Rattle.pc_coord.specs.Ranged.{GoesWhereItWent}
 
 -- a step above all that is known is above the own entries
 all_above : (part : Part Event) (step : ℕ) → All (λ (e : Entry Event). e.step < step) (knowledge part) → All (λ (q : Pair Event). q.entry.step < step) part.own
@@ -186,12 +187,12 @@ module _ {C : Type 0} (old : SessionMeaning C) (reading : ℕ) (request : Reques
     -- ---- it goes with the next wave
 
     module _ (at_once : next_of old.coordinator ≡ nexts.Send request)
-        (learns : (loses : Bool) (k : Known) (p : Pair Event) (range : ℕ) (request : Request) → Knows loses old.coordinator k → SendsDue old.coordinator number range request k p → Knows loses c (learn p k))
+        (learns : (loses : Bool) (k : Known) (p : Pair Event) (range : ℕ) (request : Request) → Knows loses old.coordinator k → SendsDue old.coordinator number range request k p → (loses ≡ true → GoesWhereItWent range request k.sent) → Knows loses c (learn p k))
         (waits : (other : ℕ) → awaits_number other c.due ≡ (number == other || awaits_number other old.coordinator.due)) (kept : c.later ≡ old.coordinator.later) (session : c.session ≡ old.coordinator.session) (splits : c.splits ≡ old.coordinator.splits)
         (pipelines : c.pipelining ≡ old.coordinator.pipelining)
         (comes : (o : Opened) → opened_by old.coordinator.txn old.coordinator.due ≡ Some o → c.due ≡ dues.Call (record o.call { wave = first_changed is_to_send (sent_under number) o.call.wave })) where
       knows_then : Knows false c now
-      knows_then = subst (Knows false c) (sym learnt) (learns false k p sent.range request calls.one.knows sends_due)
+      knows_then = subst (Knows false c) (sym learnt) (learns false k p sent.range request calls.one.knows sends_due (λ lossy. let e : false ≡ true = lossy in absurd cc))
 
       abbrev o : IsOpenedAs old.coordinator k
       o = sends_of old.coordinator k request calls.one.knows due

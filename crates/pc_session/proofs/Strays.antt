@@ -129,7 +129,7 @@ module _ (c : Coordination) (k : Known) (knows : Knows false c k) (s : Statement
       ] in
       let has = at.aside.outbox.has in
       let same : has.t ≡ t = same_Some has.t t (sym has.opened ∙ opened) in
-      let left = All-contains (IsHeardOrLeft (heard_before k) k.heard_now has.t c.later call.wave) split.sent_first m (subst (All (IsHeardOrLeft (heard_before k) k.heard_now has.t c.later call.wave)) (before_is k split) has.left) front in
+      let left = All-contains (IsHeardOrLeft (heard_before k) k.heard_now has.t c.later call.wave) split.sent_first m (subst (All (IsHeardOrLeft (heard_before k) k.heard_now has.t c.later call.wave)) (before_is k split) (has.left refl)) front in
       elim left [
         | inl heard ↦ absurd (let e : true ≡ false = sym (heard_front (length k.heard - length k.heard_now) k.heard m heard) ∙ unheard in cc e)
         | inr (inl beside) ↦ absurd (not_beside beside)
@@ -153,11 +153,11 @@ module _ (c : Coordination) (k : Known) (knows : Knows false c k) (s : Statement
         ap (λ ts. first_if (is_open_told answer k.is_open) ts) (txns_plain answer k no_begin)
         ∙ opened_told answer (replies_to k.sent_now k.heard_now) t on k.is_open k.txns opened
 
-    no_left : (x : OpenTxn) → HasOutboxBetween (learned (events.Tell answer) k) x c.later → has_waited m.number c.later ≡ true
+    no_left : (x : OpenTxn) → HasOutboxBetween false (learned (events.Tell answer) k) x c.later → has_waited m.number c.later ≡ true
     no_left x box =
-        let has = subst (λ (n : Known). HasOutboxBetween n x c.later) (told_is answer k) box in
+        let has = subst (λ (n : Known). HasOutboxBetween false n x c.later) (told_is answer k) box in
         let same : has.t ≡ u = same_Some has.t u (sym has.opened ∙ opened_then) in
-        let left = All-contains (IsHeardOrLeft k.heard [] has.t c.later []) k.sent m has.left there in
+        let left = All-contains (IsHeardOrLeft k.heard [] has.t c.later []) k.sent m (has.left refl) there in
         let own_then : IsTrue (is_put_of u.id u.epoch own.seq m.request) = subst (λ e. IsTrue (is_put_of t.id e own.seq m.request)) (sym (still_epoch answer t.epoch on)) own.put in
         elim left [
           | inl heard ↦ absurd (let e : true ≡ false = sym heard ∙ unheard in cc e)
@@ -179,7 +179,7 @@ module _ (c : Coordination) (k : Known) (knows : Knows false c k) (s : Statement
             let e : true ≡ false = sym (still_open answer on) ∙ both in
             cc e
 
-        by : (txn : Option OpenTxn) → c.txn ≡ txn → IsHeld txn (learned (events.Tell answer) k) → IsOutboxOf txn c.later (learned (events.Tell answer) k) → has_waited m.number c.later ≡ true
+        by : (txn : Option OpenTxn) → c.txn ≡ txn → IsHeld txn (learned (events.Tell answer) k) → IsOutboxOf false txn c.later (learned (events.Tell answer) k) → has_waited m.number c.later ≡ true
         by None is held box = absurd (closed_never held)
         by (Some x) is held box = no_left x box
 

@@ -70,7 +70,7 @@ IsOfCall dues.Nothing = ⊥
 IsOfCall (dues.Call call) = Unit {0}
 IsOfCall (dues.Tell answer) = ⊥
 
-opened_at : (c : Coordination) (k : Known) (d : Due) → c.due ≡ d → KnowsAt false c k d → IsOfCall d → IsOpenedAs c k
+pub opened_at : (c : Coordination) (k : Known) (d : Due) → c.due ≡ d → KnowsAt false c k d → IsOfCall d → IsOpenedAs c k
 opened_at c k dues.Nothing is at of = absurd of
 opened_at c k (dues.Tell answer) is at of = absurd of
 opened_at c k (dues.Call call) is at of = record {
@@ -82,12 +82,12 @@ opened_at c k (dues.Call call) is at of = record {
   in_call = at.in_call;
 }
 
-sends_call : (c : Coordination) (d : Due) (request : Request) → request_next (next_at c.pipelining c.txn d) ≡ Some request → IsOfCall d
+pub sends_call : (c : Coordination) (d : Due) (request : Request) → request_next (next_at c.pipelining c.txn d) ≡ Some request → IsOfCall d
 sends_call c dues.Nothing request e = absurd cc
 sends_call c (dues.Call call) request e = tt
 sends_call c (dues.Tell answer) request e = absurd cc
 
-meets_call : (c : Coordination) (d : Due) (number : ℕ) (conflict : Reply) (reader : Option ℕ) → next_at c.pipelining c.txn d ≡ nexts.Conflict number conflict reader → IsOfCall d
+pub meets_call : (c : Coordination) (d : Due) (number : ℕ) (conflict : Reply) (reader : Option ℕ) → next_at c.pipelining c.txn d ≡ nexts.Conflict number conflict reader → IsOfCall d
 meets_call c dues.Nothing number conflict reader e = absurd cc
 meets_call c (dues.Call call) number conflict reader e = tt
 meets_call c (dues.Tell answer) number conflict reader e = absurd cc

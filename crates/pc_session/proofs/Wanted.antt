@@ -48,7 +48,7 @@ module _ (c : Coordination) (k : Known) (request : Request) (knows : Knows false
 
 -- the puts of the writes that are proved go out by sequence
 pub proves_in_order : (c : Coordination) (k : Known) (call : OpenCall) → HasCallDue false c k call → (kept : Call) (all : Bool) → call.purpose ≡ purposes.Prove kept all → Pairwise PutsEarlier call.wave
-proves_in_order c k call at kept all is = let w = at.in_call in (subst (λ p. Serves (setting_of false c) k w.s w.t at.x p call.wave) is w.serves).in_order
+proves_in_order c k call at kept all is = let w = at.in_call in (subst (λ p. Serves (setting_of false c) k w.s w.t at.x w.stages p call.wave) is w.serves).in_order
 
 -- ---- what is told
 

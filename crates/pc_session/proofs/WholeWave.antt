@@ -1,11 +1,11 @@
 -- A wave that is delivered is whole, and it stays so while its replies are heard.
-use Rattle.std.proofs.Common.{◌≡◌, ◌×◌, ℕ, Bool, true, false, not, ◌&&◌, ◌⊎◌, inl, inr, if◌then◌else◌, nat_le, All, Any, IsTrue, List, [], ◌∷◌, map, find, Option, None, Some, refl, sym, ap, subst, ◌∙◌}
+use Rattle.std.proofs.Common.{◌≡◌, ℕ, Bool, true, false, not, ◌&&◌, ◌⊎◌, inl, inr, if◌then◌else◌, nat_le, All, Any, IsTrue, List, [], ◌∷◌, map, find, Option, None, Some, refl, sym, ap, subst, ◌∙◌}
 use Rattle.std.proofs.lemmas.List.Elements.{All-cons, All-head, All-nil, All-tail, All-weaker}
 use Rattle.std.specs.List.{list_all}
 use Rattle.pc_base.specs.declared.limits.TheConstants.{MOST_CONFLICTS}
 use Rattle.pc_base.specs.declared.span.Span.{Span}
 use Rattle.pc_base.specs.declared.transaction.TxnId.{TxnId}
-use Rattle.pc_call.proofs.Unsent.{sent_here}
+use Rattle.pc_call.proofs.Unsent.{plain_sent}
 use Rattle.pc_call.proofs.Waves.{in_one_wave}
 use Rattle.pc_call.specs.declared.later.LaterPut.{LaterPut}
 use Rattle.pc_call.specs.declared.purpose.Purpose.{Purpose}
@@ -45,7 +45,7 @@ use Rattle.pc_wave.specs.declared.step.Step.{Step}
 use Rattle.pc_wave.specs.declared.step.Step.TheVariants as steps
 use Rattle.pc_wave.specs.Messages.{conflict_by, first_in_conflict, has_answer, is_in_conflict, is_to_send, progress_in_conflict, progress_to_send, step_by, step_in, step_of, wave_awaits}
 use Rattle.pc_wave.specs.Course.{Course}
-use Rattle.pc_wave.specs.Standing.{IsAsFar, IsMessageAt, MessageStands, messages_of}
+use Rattle.pc_wave.specs.Standing.{IsAsFar, IsMessageAt, MessageStands}
 use Rattle.pc_follows.specs.Heartbeats.{is_heartbeat}
 use Rattle.pc_follows.specs.Proving.{IsAwaitedPut}
 use Rattle.pc_follows.specs.Refreshes.{IsOfWholeRefresh}
@@ -92,19 +92,14 @@ none-to-send ms due = by (first_in_conflict ms) (find is_to_send ms) (list_all h
 
 -- ---- the pieces of a scan
 
-went-out : (c : Course) (k : Known) (request : Request) (conflicts : ℕ) (p : Progress) → ((number : ℕ) → Any (IsMessageAt number request) (messages_of c.pipelines k) → Any (IsMessageAt number request) k.sent_now) → progress_to_send p ≡ false → IsAsFar c k request conflicts p
+went-out : (c : Course) (k : Known) (request : Request) (conflicts : ℕ) (p : Progress) → is_put request ≡ false → progress_to_send p ≡ false → IsAsFar c k request conflicts p
     → Any (λ m. m.request ≡ request) k.sent_now
-went-out c k request conflicts progresses.ToSend here out far = absurd cc
-went-out c k request conflicts (progresses.Sent number) here out far = any_weaker (IsMessageAt number request) (λ m. m.request ≡ request) (λ m at. at.asked) k.sent_now (here number far.0.out.now)
-went-out c k request conflicts (progresses.Met number conflict) here out far = any_weaker (IsMessageAt number request) (λ m. m.request ≡ request) (λ m at. at.asked) k.sent_now (here number far.out.now)
-went-out c k request conflicts (progresses.Answered number reply) here out far = any_weaker (IsMessageAt number request) (λ m. m.request ≡ request) (λ m at. at.asked) k.sent_now (here number far.0.out.now)
+went-out c k request conflicts progresses.ToSend none out far = absurd cc
+went-out c k request conflicts (progresses.Sent number) none out far = any_weaker (IsMessageAt number request) (λ m. m.request ≡ request) (λ m at. at.asked) k.sent_now (subst (λ ms. Any (IsMessageAt number request) ms) (plain_sent c.pipelines k request none) far.0.out.now)
+went-out c k request conflicts (progresses.Met number conflict) none out far = any_weaker (IsMessageAt number request) (λ m. m.request ≡ request) (λ m at. at.asked) k.sent_now (subst (λ ms. Any (IsMessageAt number request) ms) (plain_sent c.pipelines k request none) far.out.now)
+went-out c k request conflicts (progresses.Answered number reply) none out far = any_weaker (IsMessageAt number request) (λ m. m.request ≡ request) (λ m at. at.asked) k.sent_now (subst (λ ms. Any (IsMessageAt number request) ms) (plain_sent c.pipelines k request none) far.0.out.now)
 
-module _ (set : Setting) (k : Known) (x : OpenTxn) (purpose : Purpose) (all : List Message) (w : InCall set k x purpose all) (later : List LaterPut) (outbox : KeepsOutbox k x later all) where
-  here_of : (request : Request) → (p : ℕ × Span) → request ≡ own_scan x p.1 → (number : ℕ) → Any (IsMessageAt number request) (messages_of set.course.pipelines k) → Any (IsMessageAt number request) k.sent_now
-  here_of request p is number some =
-      subst (λ q. Any (IsMessageAt number q) k.sent_now) (sym is)
-      (sent_here k w.split x later all outbox.has set.course.pipelines number (own_scan x p.1) refl refl (subst (λ q. Any (IsMessageAt number q) (messages_of set.course.pipelines k)) is some))
-
+module _ (set : Setting) (k : Known) (x : OpenTxn) (purpose : Purpose) (all : List Message) (w : InCall set k x purpose all) (later : List LaterPut) (outbox : KeepsOutbox set.course.loses k x later all) where
   pieces-out : (ps : List (ℕ × Span)) (ms : List Message) → map (λ m. m.request) ms ≡ map (λ p. own_scan x p.1) ps → All (MessageStands set.course k) ms → All (λ m. is_to_send m ≡ false) ms → All (λ p. Any (λ m. IsScanOf p.1 m.request) k.sent_now) ps
   pieces-out [] ms same stand out = All-nil (λ p. Any (λ m. IsScanOf p.1 m.request) k.sent_now)
   pieces-out (p ∷ ps) [] same stand out = absurd cc
@@ -114,7 +109,7 @@ module _ (set : Setting) (k : Known) (x : OpenTxn) (purpose : Purpose) (all : Li
       let st = All-head (MessageStands set.course k) m ms stand in
       All-cons (λ p. Any (λ m. IsScanOf p.1 m.request) k.sent_now) p ps
       (any_weaker (λ (sent : Sent). sent.request ≡ m.request) (λ (sent : Sent). IsScanOf p.1 sent.request) (λ sent is. subst (IsScanOf p.1) (sym (is ∙ first)) refl) k.sent_now
-      (went-out set.course k m.request m.conflicts m.progress (here_of m.request p first) (All-head (λ m. is_to_send m ≡ false) m ms out) st.as_far))
+      (went-out set.course k m.request m.conflicts m.progress (ap is_put first) (All-head (λ m. is_to_send m ≡ false) m ms out) st.as_far))
       (pieces-out ps ms rest (All-tail (MessageStands set.course k) m ms stand) (All-tail (λ m. is_to_send m ≡ false) m ms out))
 
 scans-none : (key : List ℕ) (value : Option (List ℕ)) (span : Span) → calls.Scan span ≡ write_call key value → ⊥

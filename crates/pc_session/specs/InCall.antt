@@ -5,6 +5,7 @@ use Rattle.pc_coord.specs.Coordination.{SendsNoMore, awaits_number, Coordination
 use Rattle.pc_coord.specs.declared.due.Due.{Due}
 use Rattle.pc_coord.specs.declared.due.Due.TheVariants as dues
 use Rattle.pc_coord.specs.Suiting.{SuitsNext}
+use Rattle.pc_desk.specs.Aside.{HasDropped}
 use Rattle.pc_desk.specs.Desk.{DeskMeaning, KeepsTrack, is_on_way}
 use Rattle.pc_desk.specs.Waiting.{EndsUnheard}
 use Rattle.pc_exchange.specs.Growing.{HasGrownBy}
@@ -52,6 +53,11 @@ ends_epoch (answers.Unknown id) = true
 ends_epoch (answers.Committed id ts) = true
 ends_epoch (answers.RolledBack id why) = true
 ends_epoch _ = false
+
+-- The call rolls its transaction back.
+abbrev pub is_rollback : Call → Bool
+is_rollback calls.Rollback = true
+is_rollback _ = false
 
 -- The message puts a write of this transaction's epoch.
 pub record IsPutOfEpoch (t : Txn) (m : Sent) : Type 0 where
@@ -125,6 +131,16 @@ pub record IsWholeOut {C : Type 0} (s : SessionMeaning C) : Type 0 where
   pub silent : (number : ℕ) → is_on_way number s.desk ≡ true → SendsNoMore s.coordinator.due
   pub joined : (other : ℕ) → is_on_way other s.desk ≡ true → (number : ℕ) → awaits_number number s.coordinator.due ≡ true → waits_aside number s.desk ≡ false
   pub puts : LeavesNoPut s
+
+-- Where its wave waits for the message of this number, it is set aside no more; nothing else changed but what waits to be evaluated.
+pub record HasJoinedIfAwaited {C : Type 0} (old new : SessionMeaning C) (number : ℕ) : Type 0 where
+  pub same : new ≡ record old { desk = record old.desk { posted = new.desk.posted; later = new.desk.later } }
+  pub fewer : (n : ℕ) → waits_aside n new.desk ≡ true → waits_aside n old.desk ≡ true
+  pub gone : awaits_number number old.coordinator.due ≡ true → waits_aside number new.desk ≡ false
+
+-- What was set aside was evaluated, and its replies dropped; or nothing was done.
+abbrev pub HasDroppedAtMost : {C : Type 0} → SessionMeaning C → SessionMeaning C → Type 0
+HasDroppedAtMost old new = (new ≡ old) ⊎ ((new ≡ record old { desk = new.desk }) × HasDropped old.desk new.desk)
 
 -- In its call the session sent and heard, and did nothing else.
 pub record HasGoneInside {C : Type 0} (old new : SessionMeaning C) : Type 0 where

@@ -1,5 +1,7 @@
 ghost use Rattle.std.specs.Prelude.{◌≡◌, ℕ, ◌+◌, ◌++◌, [], true, false, is_some, length, map, All, IfErr, IfOk, IfSome, OnOk, Some};
+ghost use Rattle.std.specs.List.Sorted.{IsStrictlySortedBy};
 ghost use Rattle.std.specs.Option.{option_to_list};
+ghost use Rattle.std.specs.Ordering.{nat_cmp};
 ghost use Rattle.pc_base.specs.declared.transaction.TxnId.{TxnId};
 ghost use Rattle.pc_call.specs.Outbox.{has_waited};
 ghost use Rattle.pc_coord.specs.Coordination.{next_of, without_job};
@@ -19,11 +21,12 @@ ghost use Rattle.pc_proto.specs.declared.call.Call.TheVariants as calls;
 ghost use Rattle.pc_proto.specs.declared.event.Event.TheVariants as events;
 ghost use Rattle.pc_session.specs.Calls.{HasCalled, MayBeCalled};
 ghost use Rattle.pc_session.specs.Ending.{AreOfBrokenCall, AreOfOpenCall};
-ghost use Rattle.pc_session.specs.InCall.{ends_epoch, GoesOnOrTold, HasAsked, HasGoneInside, HasOpenCall, IsBetweenWaves, IsWholeOut};
+ghost use Rattle.pc_session.specs.InCall.{ends_epoch, is_rollback, GoesOnOrTold, HasAsked, HasDroppedAtMost, HasGoneInside, HasJoinedIfAwaited, HasOpenCall, IsBetweenWaves, IsWholeOut};
 ghost use Rattle.pc_session.specs.Learning.{AreOfBrokenLearn, HasAskedToLearn, HasLearnt, HasMet, IsLearning};
 ghost use Rattle.pc_session.specs.Session.{IsAtRest, waits_aside, session_knows};
 ghost use Rattle.pc_session.specs.Steps.{HasStepped};
 ghost use Rattle.pc_turns.specs.Order.{IsInBetween};
+ghost use Rattle.pc_wire.specs.Outbox.{first_from};
 ghost use Rattle.pc_world.specs.Known.{Known};
 
 use crate::token::{Token, commit_at};
@@ -165,6 +168,25 @@ impl<'a, N: Named<CommitWorld>, C: Clock, V: Wire, G: Gate> Office<'a, N, C, V, 
         }
     }
 
+    /// Asks the call. Where it rolls its transaction back, the puts that still wait in the outbox are evaluated right behind.
+    fn begin_call<R: Wait>(&mut self, rt: &R, call: Call) -> Result<u64, Halt>
+        requires rest { IsAtRest self.old }
+        requires may { MayBeCalled self.old call }
+        ensures calls { IfOk result (HasOpenCall self.new) }
+        ensures between { OnOk result (IsBetweenWaves self.new.desk) }
+        ensures asked { IfOk result (HasAsked self.old self.new call) }
+        ensures err { IfErr result (HasHalted self.old.desk self.new.desk) }
+        ensures ended { IfErr result (λ halt. BreaksOff (AreOfBrokenCall call halt) self.old.desk self.new.desk halt) }
+        ensures rule { C.rule self.new.desk.log.clock ≡ C.rule self.old.desk.log.clock }
+    {
+        let rolls_back = is_rollback(&call);
+        let reading = self.ask(call)?;
+        if rolls_back {
+            self.desk.deliver_strays(rt)?;
+        }
+        Ok(reading)
+    }
+
     /// What is due in the call that was asked at this reading.
     fn due(&mut self, reading: u64) -> Result<Next, Halt>
         requires { HasOpenCall self.old reading }
@@ -232,12 +254,44 @@ impl<'a, N: Named<CommitWorld>, C: Clock, V: Wire, G: Gate> Office<'a, N, C, V, 
         ensures ended { IfErr result (BreaksOff (All IsInBetween) self.old.desk self.new.desk) }
         ensures clock { self.new.desk.log.clock ≡ self.old.desk.log.clock }
     {
-        let mut next = self.desk.next_aside(0);
+        let mut next = self.first_aside();
         while let Some(number) = next {
-            if self.coordinator.waits_for(number) {
-                self.desk.join(number)?;
-            }
-            next = self.desk.next_aside(number + 1);
+            self.join_if_awaited(reading, number)?;
+            next = self.aside_from(number + 1);
+        }
+        Ok(())
+    }
+
+    /// The least number at which a message was set aside.
+    fn first_aside(&self) -> Option<u64>
+        ensures first { result ≡ first_from 0 (map (λ m. m.number) self.now.desk.later) }
+        ensures in_order { IsStrictlySortedBy nat_cmp (map (λ m. m.number) self.now.desk.later) }
+    {
+        self.desk.next_aside(0)
+    }
+
+    /// The least number from this one on at which a message was set aside.
+    fn aside_from(&self, number: u64) -> Option<u64>
+        ensures first { result ≡ first_from number (map (λ m. m.number) self.now.desk.later) }
+        ensures in_order { IsStrictlySortedBy nat_cmp (map (λ m. m.number) self.now.desk.later) }
+    {
+        self.desk.next_aside(number)
+    }
+
+    /// The put of this number, which was set aside, goes with the wave if the wave waits for it.
+    fn join_if_awaited(&mut self, reading: u64, number: u64) -> Result<(), Halt>
+        requires calls { HasOpenCall self.old reading }
+        requires due { next_of self.old.coordinator ≡ nexts.Wave }
+        requires none_waits { self.old.desk.replies ≡ [] }
+        requires aside { waits_aside number self.old.desk ≡ true }
+        ensures calls { OnOk result (HasOpenCall self.new reading) }
+        ensures joined { OnOk result (HasJoinedIfAwaited self.old self.new number) }
+        ensures err { IfErr result (HasHalted self.old.desk self.new.desk) }
+        ensures ended { IfErr result (BreaksOff (All IsInBetween) self.old.desk self.new.desk) }
+        ensures clock { self.new.desk.log.clock ≡ self.old.desk.log.clock }
+    {
+        if self.coordinator.waits_for(number) {
+            self.desk.join(number)?;
         }
         Ok(())
     }
@@ -311,10 +365,29 @@ impl<'a, N: Named<CommitWorld>, C: Clock, V: Wire, G: Gate> Office<'a, N, C, V, 
         ensures ended { IfErr result (EndsOnly (λ made. made ≡ events.Tell answer) self.old.desk self.new.desk) }
         ensures clock { self.new.desk.log.clock ≡ self.old.desk.log.clock }
     {
-        if ends_epoch(&answer) {
+        self.drop_strays(rt, reading, &answer)?;
+        self.tell(reading, answer)
+    }
+
+    /// Where this answer, which is due, ends its transaction's epoch, the puts that still wait in the outbox are evaluated.
+    fn drop_strays<R: Wait>(&mut self, rt: &R, reading: u64, answer: &Answer) -> Result<(), Halt>
+        requires calls { HasOpenCall self.old reading }
+        requires between { IsBetweenWaves self.old.desk }
+        requires due { next_of self.old.coordinator ≡ nexts.Tell answer.now }
+        requires may { MayCome false self.old.coordinator (session_knows self.old) (nexts.Tell answer.now) }
+        ensures calls { OnOk result (HasOpenCall self.new reading) }
+        ensures puts { OnOk result (EndsPutWaves self.new.desk.log.part.own) }
+        ensures aside { (number : ℕ) → OnOk result (waits_aside number self.new.desk ≡ has_waited number self.new.coordinator.later) }
+        ensures may { OnOk result (MayCome false self.new.coordinator (session_knows self.new) (nexts.Tell answer.now)) }
+        ensures dropped { OnOk result (HasDroppedAtMost self.old self.new) }
+        ensures err { IfErr result (HasHalted self.old.desk self.new.desk) }
+        ensures ended { IfErr result (EndsOnly (λ made. ⊥) self.old.desk self.new.desk) }
+        ensures clock { self.new.desk.log.clock ≡ self.old.desk.log.clock }
+    {
+        if ends_epoch(answer) {
             self.desk.deliver_strays(rt)?;
         }
-        self.tell(reading, answer)
+        Ok(())
     }
 
     /// The open call is told its answer; what its transaction left becomes the newest job.
@@ -395,11 +468,7 @@ impl<'a, N: Named<CommitWorld> + Send + Sync, C: Clock, V: Wire, G: Gate + Sync>
         ensures ended { IfErr result (λ halt. BreaksOff (AreOfBrokenCall call halt) self.old.desk self.new.desk halt) }
         ensures rule { C.rule self.new.desk.log.clock ≡ C.rule self.old.desk.log.clock }
     {
-        let rolls_back = matches!(call, Call::Rollback);
-        let reading = self.ask(call)?;
-        if rolls_back {
-            self.desk.deliver_strays(rt)?;
-        }
+        let reading = self.begin_call(rt, call)?;
         for _ in rt.forever() {
             if let Some(answer) = self.go_on(rt, reading)? {
                 return Ok(answer);
@@ -500,4 +569,11 @@ fn ends_epoch(answer: &Answer) -> bool
             | Answer::Committed { .. }
             | Answer::RolledBack { .. }
     )
+}
+
+/// Whether the call rolls its transaction back.
+fn is_rollback(call: &Call) -> bool
+    ensures { result ≡ is_rollback call.now }
+{
+    matches!(call, Call::Rollback)
 }

@@ -6,7 +6,7 @@ use Rattle.pc_follows.specs.AgainInOneWave.{sent_for_call}
 use Rattle.pc_follows.specs.PipelinedPuts.{heard_before}
 use Rattle.pc_lists.proofs.Anywhere.{any_kept}
 use Rattle.pc_wave.proofs.Lists.{any_before, at_least-kept}
-use Rattle.pc_wave.specs.Standing.{HasMore, messages_of}
+use Rattle.pc_wave.specs.Standing.{HasMore, messages_for}
 use Rattle.pc_world.specs.Counting.{AtLeast}
 use Rattle.pc_world.specs.Known.{Known}
 use Rattle.pc_world.specs.Known.Traffic.{Heard, Sent}
@@ -43,12 +43,12 @@ module _ (k k2 : Known) (sent_more : List Sent) (heard_more : List Heard) (more 
   pub for_call-kept : (P : Sent → Type 0) (n : ℕ) → AtLeast P n (sent_for_call k) → AtLeast P n (sent_for_call k2)
   for_call-kept P n a = subst (λ ms. AtLeast P n ms) (sym for_call-more) (at_least-kept P n (sent_for_call k) (news sent_more) a)
 
-  pub messages-kept : (P : Sent → Type 0) (b : Bool) → Any P (messages_of b k) → Any P (messages_of b k2)
+  pub messages-kept : (P : Sent → Type 0) (b : Bool) → Any P (messages_for b k) → Any P (messages_for b k2)
   messages-kept P false some = subst (λ ms. Any P ms) (sym more.sent_now) (any_kept P k.sent_now sent_more some)
   messages-kept P true some = subst (λ ms. Any P ms) (sym for_call-more) (any_kept P (sent_for_call k) (news sent_more) some)
 
   -- what was sent for the call, and is none of these, was so before
-  pub messages-before : (P : Sent → Type 0) (b : Bool) → All (λ m. P m → ⊥) sent_more → Any P (messages_of b k2) → Any P (messages_of b k)
+  pub messages-before : (P : Sent → Type 0) (b : Bool) → All (λ m. P m → ⊥) sent_more → Any P (messages_for b k2) → Any P (messages_for b k)
   messages-before P false none some = any_before P k.sent_now sent_more none (subst (λ ms. Any P ms) more.sent_now some)
   messages-before P true none some =
       any_before P (sent_for_call k) (news sent_more) (All-filter (λ m. not (is_heard (heard_before k) m)) (λ m. P m → ⊥) sent_more none)

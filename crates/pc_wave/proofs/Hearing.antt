@@ -15,7 +15,7 @@ use Rattle.pc_proto.specs.Replies.{is_conflict}
 use Rattle.pc_wave.proofs.Changed.{changed_other, found_all, found_passes, found_some, pairwise_changed}
 use Rattle.pc_wave.proofs.Lists.{any_last_of, at_least-before, at_least-kept, counted_more, counted_no_more, counted_one}
 use Rattle.pc_wave.proofs.ForCall.{for_call-kept}
-use Rattle.pc_wave.proofs.Standings.{IsOther, IsOtherSent, go_out-kept, heard-kept, out-kept, stands-kept}
+use Rattle.pc_wave.proofs.Standings.{IsOther, IsOtherSent, go_out-kept, heard-kept, out-kept, stands-kept, here-kept}
 use Rattle.pc_wave.proofs.Tries.{came_tries, row-heard}
 use Rattle.pc_wave.specs.Course.{Course}
 use Rattle.pc_wave.specs.declared.message.Message.{Message}
@@ -160,6 +160,7 @@ module _ (co : Course) (k now : Known) (ms : List Message) (w : WaveStands co k 
     came = t.came;
     first = λ ready none.
         go_out-kept co k now [] (h ∷ []) more y.request (All-nil (IsOtherSent y.request)) (All-cons (IsOther y.request) h [] other (All-nil (IsOther y.request))) (t.first ready none);
+    here = λ some. here-kept co k now [] (h ∷ []) more y.request (t.here some);
   }
 
   stays : (y : Message) → MessageStands co k y → (IsSameRequest y.request m.request → ⊥) → MessageStands co now y

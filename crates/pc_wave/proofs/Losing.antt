@@ -1,5 +1,5 @@
 -- A message that was waited for is lost.
-use Rattle.std.proofs.Common.{◌≡◌, ℕ, ◌+◌, ◌≤◌, ◌<◌, nat_lt, Bool, true, false, cond, ◌||◌, List, [], ◌∷◌, find, Option, Some, is_some, refl, sym, ap, ◌∙◌, subst, arith, reverse}
+use Rattle.std.proofs.Common.{◌≡◌, ℕ, ◌+◌, ◌≤◌, ◌<◌, nat_lt, Bool, true, false, cond, ◌||◌, List, [], ◌∷◌, find, Option, Some, is_some, refl, sym, ap, ◌∙◌, subst, arith, reverse, inl}
 use Rattle.std.specs.List.{list_any}
 use Rattle.std.proofs.lemmas.Bool.{leb-true, ltb-false}
 use Rattle.pc_base.specs.declared.limits.TheConstants.{MOST_CONFLICTS}
@@ -11,13 +11,14 @@ use Rattle.pc_wave.specs.Course.{Course}
 use Rattle.pc_wave.specs.declared.message.Message.{Message}
 use Rattle.pc_wave.specs.declared.message.Progress.TheVariants as progresses
 use Rattle.pc_wave.specs.Messages.{awaits_at, first_changed, no_try_left, lost_of, one_lost_more, wave_awaits}
-use Rattle.pc_wave.specs.Standing.{AreOfTwo, CountsTries, IsAsFar, IsOnItsWay, IsFreeToGo, MessageStands, StandsByTries, WaveStands, sends_counted}
+use Rattle.pc_wave.specs.Standing.{AreOfTwo, CountsTries, IsAsFar, IsOnItsWay, IsFreeToGo, MessageStands, StandsByTries, WaveStands, sends_counted, IsMessageAt, messages_of}
 use Rattle.pc_wave.specs.Tries.{AreTriesUsedUp, WasLostInARow, sends_waited}
 use Rattle.pc_follows.specs.AgainInOneWave.{sent_for_call}
 use Rattle.pc_world.specs.Counting.{AtLeast}
 use Rattle.pc_world.specs.Known.{Known}
 use Rattle.pc_world.specs.Known.Traffic.{Sent}
 use Rattle.pc_world.specs.SameRequest.{IsSameRequest}
+use Rattle.pc_lists.proofs.Anywhere.{any_weaker}
 
 -- the count of what was lost in a row
 counts : (tries lost : ℕ) → 1 ≤ tries → (1 ≤ one_lost_more tries lost) × (one_lost_more tries lost ≤ lost + 1)
@@ -53,6 +54,7 @@ module _ (c : Course) (k : Known) (ms : List Message) (w : WaveStands c k ms) (n
         tried = let low : more + 0 ≤ m.lost + 1 = omega (arith, n.1) in unheard-fewer k m.request (more + 0) (m.lost + 1) (reverse k.sent) low tried;
         came = λ a b. absurd cc;
         first = λ ready none. absurd (omega (arith, n.0, none));
+        here = λ lost. any_weaker (IsMessageAt number m.request) (λ s. IsSameRequest m.request s.request) (λ s at. inl (sym at.asked)) (messages_of c.pipelines k m.request) far_m.0.out.now;
       }
 
   is_lost : MessageStands c k (lost_of tries m)

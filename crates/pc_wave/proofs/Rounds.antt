@@ -13,7 +13,7 @@ use Rattle.pc_proto.specs.declared.request.Request.{Request}
 use Rattle.pc_proto.specs.declared.request.Request.TheVariants as requests
 use Rattle.pc_proto.specs.Replies.{holder_in}
 use Rattle.pc_wave.proofs.Changed.{any_none, changed_other, found_all, pairwise_changed}
-use Rattle.pc_wave.proofs.Standings.{IsOther, IsOtherSent, answered-kept, counted-kept, go_out-kept, sent-kept, stands-kept}
+use Rattle.pc_wave.proofs.Standings.{IsOther, IsOtherSent, answered-kept, counted-kept, go_out-kept, sent-kept, stands-kept, here-kept}
 use Rattle.pc_wave.proofs.Tries.{idle_tried, or_parts, ready_tries}
 use Rattle.pc_wave.specs.Course.{Course}
 use Rattle.pc_wave.specs.declared.message.Message.{Message}
@@ -203,6 +203,7 @@ module _ (co : Course) (k now : Known) (ms : List Message) (w : WaveStands co k 
     tried = idle_tried co k now y t not (out_pending y not);
     came = t.came;
     first = λ ready none. go_out-kept co k now made.sent_more made.heard_more made.more y.request (news y s) (others y s) (t.first ready none);
+    here = λ some. here-kept co k now made.sent_more made.heard_more made.more y.request (t.here some);
   }
 
   stays : (y : Message) → MessageStands co k y → is_pending y ≡ false → MessageStands co now y

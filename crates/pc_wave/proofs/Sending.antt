@@ -1,5 +1,5 @@
 -- The first message that is to be sent goes out.
-use Rattle.std.proofs.Common.{◌≡◌, ◌≢◌, ℕ, ◌+◌, ◌-◌, ◌≤◌, ◌==◌, Bool, true, false, not, inl, List, [], ◌∷◌, ◌++◌, find, length, None, Some, Option, refl, sym, ap, ◌∙◌, subst, arith, All, Any, IsTrue, length-append, cond, nat_le, ◌<◌}
+use Rattle.std.proofs.Common.{◌≡◌, ◌≢◌, ℕ, ◌+◌, ◌-◌, ◌≤◌, ◌==◌, Bool, true, false, not, ◌&&◌, inl, List, [], ◌∷◌, ◌++◌, find, length, None, Some, Option, refl, sym, ap, ◌∙◌, subst, arith, All, Any, IsTrue, length-append, cond, nat_le, ◌<◌}
 use Rattle.std.specs.List.{list_all}
 use Rattle.std.specs.Option.{option_map}
 use Rattle.std.proofs.lemmas.List.{append-nil}
@@ -12,10 +12,11 @@ use Rattle.pc_lists.proofs.Anywhere.{any_last}
 use Rattle.pc_proto.specs.declared.reply.Reply.{Reply}
 use Rattle.pc_proto.specs.Replies.{holder_in}
 use Rattle.pc_proto.specs.declared.request.Request.{Request}
+use Rattle.pc_proto.specs.Requests.{is_put}
 use Rattle.pc_wave.proofs.Changed.{changed_other, found_all, found_passes, pairwise_changed}
 use Rattle.pc_wave.proofs.Lists.{at_least-one, find-last}
 use Rattle.pc_wave.proofs.ForCall.{filter_one, for_call-more, news}
-use Rattle.pc_wave.proofs.Standings.{IsOther, IsOtherSent, go_out-kept, heard-kept, said_kept, stands-kept}
+use Rattle.pc_wave.proofs.Standings.{IsOther, IsOtherSent, go_out-kept, heard-kept, said_kept, stands-kept, here-kept}
 use Rattle.pc_wave.proofs.Tries.{row-one, row-other}
 use Rattle.pc_wave.specs.Course.{Course}
 use Rattle.pc_wave.specs.declared.message.Message.{Message}
@@ -24,7 +25,7 @@ use Rattle.pc_wave.specs.declared.message.Progress.TheVariants as progresses
 use Rattle.pc_wave.specs.declared.step.Step.{Step}
 use Rattle.pc_wave.specs.declared.step.Step.TheVariants as steps
 use Rattle.pc_wave.specs.Messages.{conflict_by, first_changed, first_in_conflict, has_answer, is_to_send, progress_to_send, step_by, step_in, step_of, sent_under}
-use Rattle.pc_wave.specs.Standing.{AreAnsweredBut, AreAnsweredIn, AreNumbered, AreOfTwo, CountsTries, HasMore, IsAsFar, IsMessageAt, IsFreeToGo, MessageStands, WaveStands, messages_of, sends_counted}
+use Rattle.pc_wave.specs.Standing.{AreAnsweredBut, AreAnsweredIn, AreNumbered, AreOfTwo, CountsTries, HasMore, IsAsFar, IsMessageAt, IsFreeToGo, MessageStands, WaveStands, messages_for, sends_counted}
 use Rattle.pc_wave.specs.Tries.{IsUnheardOf, WasLostInARow, sends_waited}
 use Rattle.pc_world.specs.Counting.{AtLeast}
 use Rattle.pc_follows.specs.AgainInOneWave.{sent_for_call}
@@ -122,7 +123,7 @@ module _ (co : Course) (k now : Known) (ms : List Message) (w : WaveStands co k 
     for_call_is = for_call-more k now (new ∷ []) [] more ∙ ap (λ ms. sent_for_call k ++ ms) new_is_new
 
     -- the new message is in what the call may hear
-    new_in : (b : Bool) → Any (IsMessageAt n m.request) (messages_of b now)
+    new_in : (b : Bool) → Any (IsMessageAt n m.request) (messages_for b now)
     new_in false = subst (λ ms. Any (IsMessageAt n m.request) ms) (sym more.sent_now) (any_last (IsMessageAt n m.request) k.sent_now new (record { numbered = refl; asked = refl }))
     new_in true = subst (λ ms. Any (IsMessageAt n m.request) ms) (sym for_call_is) (any_last (IsMessageAt n m.request) (sent_for_call k) new (record { numbered = refl; asked = refl }))
 
@@ -152,6 +153,7 @@ module _ (co : Course) (k now : Known) (ms : List Message) (w : WaveStands co k 
           (subst (λ i. WasLostInARow k m.request i) e t.tried);
       came = λ a b. absurd cc;
       first = λ a b. absurd cc;
+      here = λ some. here-kept co k now (new ∷ []) [] more m.request (t.here some);
     }
       where
         waits_not : (p : Progress) → progress_to_send p ≡ true → sends_waited p ≡ 0
@@ -167,7 +169,7 @@ module _ (co : Course) (k now : Known) (ms : List Message) (w : WaveStands co k 
           out = record {
             said = said_new;
             numbered = omega (arith, longer);
-            now = new_in co.pipelines;
+            now = new_in (is_put m.request && co.pipelines);
           };
           rest = rest_answered co.loses (answered_m m.progress (found_passes is_to_send ms m found) stands_m.as_far);
           unheard =
@@ -197,6 +199,7 @@ module _ (co : Course) (k now : Known) (ms : List Message) (w : WaveStands co k 
       came = t.came;
       first = λ ready none.
           go_out-kept co k now (new ∷ []) [] more y.request (All-cons (IsOtherSent y.request) new [] other (All-nil (IsOtherSent y.request))) (All-nil (IsOther y.request)) (t.first ready none);
+      here = λ some. here-kept co k now (new ∷ []) [] more y.request (t.here some);
     }
 
     stays : (y : Message) → MessageStands co k y → (IsSameRequest y.request m.request → ⊥) → MessageStands co now y

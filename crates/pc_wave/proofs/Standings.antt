@@ -1,5 +1,5 @@
 -- A message stands on while its session sends and hears what is of other requests.
-use Rattle.std.proofs.Common.{◌≡◌, ◌≢◌, ℕ, ◌+◌, ◌==◌, Bool, true, false, inl, inr, List, ◌∷◌, ◌++◌, find, length, None, Some, Option, refl, sym, ap, ◌∙◌, subst, arith, All, Any, IsTrue, length-append}
+use Rattle.std.proofs.Common.{◌≡◌, ◌≢◌, ℕ, ◌+◌, ◌==◌, Bool, true, false, not, ◌&&◌, inl, inr, List, ◌∷◌, ◌++◌, find, length, None, Some, Option, refl, sym, ap, ◌∙◌, subst, arith, All, Any, IsTrue, length-append}
 use Rattle.std.specs.List.{list_any}
 use Rattle.std.specs.Option.{option_map, option_or}
 use Rattle.std.proofs.lemmas.List.{append_assoc}
@@ -10,6 +10,7 @@ use Rattle.pc_proto.specs.declared.fate.Goal.{Goal}
 use Rattle.pc_proto.specs.declared.reply.Reply.{Reply}
 use Rattle.pc_proto.specs.declared.reply.Reply.TheVariants as replies
 use Rattle.pc_proto.specs.declared.request.Request.{Request}
+use Rattle.pc_proto.specs.Requests.{is_put}
 use Rattle.pc_lists.proofs.Anywhere.{any_kept}
 use Rattle.pc_wave.proofs.ForCall.{for_call-kept, messages-before, messages-kept}
 use Rattle.pc_wave.proofs.Lists.{any_before, any_true_kept, at_least-before, at_least-kept}
@@ -17,7 +18,7 @@ use Rattle.pc_wave.specs.Course.{Course}
 use Rattle.pc_wave.specs.declared.message.Message.{Message}
 use Rattle.pc_wave.specs.declared.message.Progress.{Progress}
 use Rattle.pc_wave.specs.declared.message.Progress.TheVariants as progresses
-use Rattle.pc_wave.specs.Standing.{AreAnsweredBut, AreAnsweredIn, AreCounted, CountsTries, HasComeBack, HasMore, IsAsFar, IsMessageAt, IsOnItsWay, IsFreeToGo, IsReason, WasLeftBehind, IsReplyAt, MayGoOut, MessageStands, MetConflict, IsSentUnder, WentOutBefore, sends_counted}
+use Rattle.pc_wave.specs.Standing.{AreAnsweredBut, AreAnsweredIn, AreCounted, CountsTries, HasComeBack, HasMore, IsAsFar, IsMessageAt, IsOnItsWay, IsFreeToGo, IsReason, WasLeftBehind, IsReplyAt, MayGoOut, MessageStands, MetConflict, IsSentUnder, WentOutBefore, sends_counted, messages_of}
 use Rattle.pc_world.specs.Counting.{AtLeast}
 use Rattle.pc_follows.specs.AgainInOneWave.{sent_for_call}
 use Rattle.pc_follows.specs.OwnStages.{refuses_stage}
@@ -76,8 +77,12 @@ module _ (co : Course) (k k2 : Known) (sent_more : List Sent) (heard_more : List
       record {
         said = ap (request_sent number) more.sent ∙ said_kept number request k.sent sent_more out.said;
         numbered = omega (arith, longer, out.numbered);
-        now = messages-kept k k2 sent_more heard_more more (IsMessageAt number request) co.pipelines out.now;
+        now = messages-kept k k2 sent_more heard_more more (IsMessageAt number request) (is_put request && co.pipelines) out.now;
       }
+
+  -- what was sent for the call was so still
+  pub here-kept : (request : Request) → Any (λ s. IsSameRequest request s.request) (messages_of co.pipelines k request) → Any (λ s. IsSameRequest request s.request) (messages_of co.pipelines k2 request)
+  here-kept request some = messages-kept k k2 sent_more heard_more more (λ s. IsSameRequest request s.request) (is_put request && co.pipelines) some
 
   pub heard-kept : (m : Sent) → IsTrue (is_heard k.heard_now m) → IsTrue (is_heard k2.heard_now m)
   heard-kept m heard = ap (list_any (λ h. h.number == m.number)) more.heard_now ∙ any_true_kept (λ h. h.number == m.number) k.heard_now heard_more heard
@@ -168,8 +173,8 @@ module _ (co : Course) (k k2 : Known) (sent_more : List Sent) (heard_more : List
       again = λ quiet some. reason-kept co.pipelines co.loses (g.again quiet (before some));
     }
       where
-        before : WentOutBefore co.pipelines k2 request → WentOutBefore co.pipelines k request
-        before (inl sent) = inl (messages-before k k2 sent_more heard_more more (λ m. IsSameRequest request m.request) co.pipelines news sent)
+        before : WentOutBefore co k2 request → WentOutBefore co k request
+        before (inl sent) = inl (messages-before k k2 sent_more heard_more more (λ m. IsSameRequest request m.request) (is_put request && (not co.loses && co.pipelines)) news sent)
         before (inr told) = inr (told.0, any_before (λ h. IsSameRequest request h.request) k.heard_now heard_more others (subst (λ hs. Any (λ h. IsSameRequest request h.request) hs) more.heard_now told.1))
 
     ready-kept : (b : Bool) → IsFreeToGo b co k request → IsFreeToGo b co k2 request

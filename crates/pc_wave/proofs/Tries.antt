@@ -65,6 +65,7 @@ came_tries true c k m none idle out = record {
   tried = row-none k m.request (m.lost + sends_waited m.progress) (let w : sends_waited m.progress ≡ 0 = waits_none m.progress idle out in omega (arith, none, w));
   came = λ a b. none;
   first = λ a b. absurd cc;
+  here = λ some. absurd (omega (arith, none, some));
 }
   where
     waits_none : (p : Progress) → progress_to_send p ≡ false → progress_out p ≡ false → sends_waited p ≡ 0
@@ -80,6 +81,7 @@ ready_tries true c k m none ready out = record {
   tried = row-none k m.request (m.lost + sends_waited m.progress) (let w : sends_waited m.progress ≡ 0 = ap sends_waited ready in omega (arith, none, w));
   came = λ a b. none;
   first = λ a b. out;
+  here = λ some. absurd (omega (arith, none, some));
 }
 
 pub or_parts : (a b : Bool) → (a || b) ≡ false → (a ≡ false) × (b ≡ false)

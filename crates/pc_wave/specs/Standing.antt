@@ -1,5 +1,5 @@
 -- How the messages of a wave stand beside what their session knows.
-use Rattle.std.specs.Prelude.{◌≡◌, ◌≢◌, ℕ, ◌+◌, ◌≤◌, ◌<◌, Bool, true, false, not, ◌⊎◌, None, List, [], ◌∷◌, ◌++◌, length, All, Any, Contains, IsTrue, Some, ⊤}
+use Rattle.std.specs.Prelude.{◌≡◌, ◌≢◌, ℕ, ◌+◌, ◌≤◌, ◌<◌, Bool, true, false, not, ◌&&◌, ◌⊎◌, None, List, [], ◌∷◌, ◌++◌, length, All, Any, Contains, IsTrue, Some, ⊤}
 use Rattle.pc_base.specs.declared.limits.TheConstants.{MOST_CONFLICTS}
 use Rattle.pc_base.specs.declared.transaction.TxnId.{TxnId}
 use Rattle.pc_base.specs.declared.transaction.Who.{Who}
@@ -40,10 +40,15 @@ abbrev pub AreAnsweredIn : Bool → Known → Request → Type 0
 AreAnsweredIn false k request = AreAnsweredNow k request
 AreAnsweredIn true k request = ⊤
 
--- The messages that the call may hear: those that it sent, and where writes are pipelined the puts that were in flight when it was asked.
-abbrev pub messages_of : Bool → Known → List Sent
-messages_of false k = k.sent_now
-messages_of true k = sent_for_call k
+-- The messages that were sent in the call; or also those that were sent before, and not heard when it was asked.
+abbrev pub messages_for : Bool → Known → List Sent
+messages_for false k = k.sent_now
+messages_for true k = sent_for_call k
+
+-- The messages among which are those of the request that the call may hear: those that it sent, and where writes are pipelined and the request is a put, those
+-- that were in flight when it was asked.
+abbrev pub messages_of : Bool → Known → Request → List Sent
+messages_of pipelines k request = messages_for (is_put request && pipelines) k
 
 -- A stage was refused since the call was asked: it left behind what was on its way, also a put that was lost.
 abbrev pub WasLeftBehind : Known → Request → Type 0
@@ -60,16 +65,18 @@ IsReason false loses k request = WentThroughRound k request
 IsReason true false k request = WentThroughRound k request ⊎ WasPutPassedOver k request
 IsReason true true k request = WentThroughRound k request ⊎ WasPutPassedOver k request ⊎ WasLeftBehind k request
 
--- A message of the request went out for the call, or a reply to the put was heard in it.
-abbrev pub WentOutBefore : Bool → Known → Request → Type 0
-WentOutBefore pipelines k request =
-    Any (λ m. IsSameRequest request m.request) (messages_of pipelines k) ⊎ (IsTrue (is_put request) × Any (λ h. IsSameRequest request h.request) k.heard_now)
+-- A message of the request went out for the call, or a reply to the put was heard in it; where messages may be lost, one that went out in the call: what was lost
+-- in an earlier call needs no reason to go out again.
+abbrev pub WentOutBefore : Course → Known → Request → Type 0
+WentOutBefore c k request =
+    Any (λ m. IsSameRequest request m.request) (messages_of (not c.loses && c.pipelines) k request)
+    ⊎ (IsTrue (is_put request) × Any (λ h. IsSameRequest request h.request) k.heard_now)
 
 -- The request may go out: each message of it that went out in the call was answered there, and there is a reason to send it again; a heartbeat goes out by
 -- rules of its own.
 pub record MayGoOut (c : Course) (k : Known) (request : Request) : Type 0 where
   pub answered : AreAnsweredIn c.loses k request
-  pub again : is_heartbeat request ≡ false → WentOutBefore c.pipelines k request → IsReason c.pipelines c.loses k request
+  pub again : is_heartbeat request ≡ false → WentOutBefore c k request → IsReason c.pipelines c.loses k request
 
 -- The message is of this request, under this number.
 pub record IsMessageAt (number : ℕ) (request : Request) (m : Sent) : Type 0 where
@@ -80,7 +87,7 @@ pub record IsMessageAt (number : ℕ) (request : Request) (m : Sent) : Type 0 wh
 pub record IsSentUnder (c : Course) (k : Known) (number : ℕ) (request : Request) : Type 0 where
   pub said : request_sent number k.sent ≡ Some request
   pub numbered : number ≤ length k.sent
-  pub now : Any (IsMessageAt number request) (messages_of c.pipelines k)
+  pub now : Any (IsMessageAt number request) (messages_of c.pipelines k request)
 
 -- Where nothing is lost, each message of the request that went out in the call was answered there, but for the one of this number.
 abbrev pub AreAnsweredBut : Bool → Known → ℕ → Request → Type 0
@@ -136,11 +143,13 @@ IsAsFar c k request conflicts (progresses.Sent number) = IsOnItsWay c k number r
 IsAsFar c k request conflicts (progresses.Met number conflict) = MetConflict c k number request conflict
 IsAsFar c k request conflicts (progresses.Answered number reply) = HasComeBack c k number request reply × (conflicts < MOST_CONFLICTS)
 
--- The message was lost as often in a row as it counts: not at all where it came back; and where it is to be sent and was not lost, it may go out.
+-- The message was lost as often in a row as it counts: not at all where it came back; where it is to be sent and was not lost, it may go out; and where it was
+-- lost, one of it is among what the call may hear.
 pub record StandsByTries (c : Course) (k : Known) (m : Message) : Type 0 where
   pub tried : HasTried k m
   pub came : is_to_send m ≡ false → is_out m ≡ false → m.lost ≡ 0
   pub first : is_to_send m ≡ true → m.lost ≡ 0 → MayGoOut c k m.request
+  pub here : 1 ≤ m.lost → Any (λ s. IsSameRequest m.request s.request) (messages_of c.pipelines k m.request)
 
 -- The message's tries are as it counts them; where nothing is lost it counts none.
 abbrev pub CountsTries : Bool → Course → Known → Message → Type 0

@@ -6,8 +6,8 @@ use Rattle.pc_exchange.proofs.finish.begin_job.Goals as goal
 pub returns-in-None-clause-ok : goal.returns-in-None-clause-ok
 returns-in-None-clause-ok g c = (refl, record { on = λ m made knows. finishing_begins c.args.desk.now c.args.job.now m c.requires c.in-None.is made knows })
 
-pub returns-in-Some-clause-ok : goal.returns-in-Some-clause-ok
-returns-in-Some-clause-ok g c =
+pub returns-in_ok-reply-in-Some-clause-ok : goal.returns-in_ok-reply-in-Some-clause-ok
+returns-in_ok-reply-in-Some-clause-ok g c =
     let reply = c.in_ok-reply-in-Some.reply in
     let x = c.in_ok-reply-in-Some.ensures.ok in (
       c.is_committed.ensures ∙ commit_told c.args.desk.now c.args.job.now c.in-Some.ts c.requires c.in-Some.is c.commit_first.new.desk reply x,

@@ -25,5 +25,5 @@ loop-preserved g c =
 
 pub returns-in_err-last-in-Send-clause-ended : goal.returns-in_err-last-in-Send-clause-ended
 returns-in_err-last-in-Send-clause-ended g c =
-    let p = err_from_is_err_and c.from_residual.result c.from_residual.ensures.1 in
+    let p = err_from_is_err_and c.from_residual-in_err-last-in-Send.result c.from_residual-in_err-last-in-Send.ensures.1 in
     rw (p.1, p.2) (goes_breaks c.args.desk.now c.loop.desk c.settle_on.new.desk c.loop.invariant.0.part c.in_err-last-in-Send.field-0.0 c.loop.invariant.0.goes c.in_err-last-in-Send.ensures.ended)

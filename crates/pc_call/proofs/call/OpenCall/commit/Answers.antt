@@ -17,7 +17,7 @@ returns-clause-stands c = λ set k later s commits is none outbox.
     (commit_begins set c.args.refusals k x s commits later outbox none)
 
 pub returns-clause-outbox : goal.returns-clause-outbox
-returns-clause-outbox c = λ k later o.
+returns-clause-outbox c = λ loses k later o.
     let x = c.args.txn.now in
     let e : c.in_ok-wave.wave ≡ message_to_send (own_commit x c.args.anchor.now) ∷ [] = c.in_ok-wave.ensures ∙ ap (λ r. message_to_send r ∷ []) c.in_ok-commit.ensures in
-    subst (λ ms. KeepsOutbox k x later ms) (sym e) (commit_keeps k x later o c.args.anchor.now)
+    subst (λ ms. KeepsOutbox loses k x later ms) (sym e) (commit_keeps k x later o c.args.anchor.now)

@@ -45,4 +45,4 @@ returns-clause-begins c = λ set k s why anchor fresh suits call reading none pu
     c.decides.ensures.stands set k s (decides_at_once set.course.loses c.args.refusals k fresh.t x s c.args.puts on good) o may reading (subst (λ call. SuitsFlightIn set.course.pipelines call x.in_flight) call suits)
 
 pub returns-then-is_to_refresh-clause-outbox : goal.returns-then-is_to_refresh-clause-outbox
-returns-then-is_to_refresh-clause-outbox c = λ k o. c.refresh.ensures.outbox k c.args.later.now o
+returns-then-is_to_refresh-clause-outbox c = λ loses k o. c.refresh.ensures.outbox loses k c.args.later.now o

@@ -1,8 +1,8 @@
-use Rattle.std.proofs.Common.{◌≡◌, Some, refl, sym, ap, ◌∙◌, subst, None}
+use Rattle.std.proofs.Common.{◌≡◌, Some, refl, sym, ap, ◌∙◌, subst}
 use Rattle.pc_call.proofs.QueryMissed.{missed_gives_up, same_holder}
 use Rattle.pc_call.specs.GivenUp.{GivesUpBy}
 use Rattle.pc_call.specs.Learned.{known_heard}
-use Rattle.pc_call.specs.Queries.{blocker_of, missed_if}
+use Rattle.pc_call.specs.Queries.{missed_if}
 use Rattle.pc_proto.specs.declared.answer.Answer.TheVariants as answers
 use Rattle.pc_proto.specs.declared.reply.Reply.TheVariants as replies
 use Rattle.pc_txn.specs.Opened.{missed_at}
@@ -21,6 +21,3 @@ returns-in-Some-clause-blocked c = λ session clock begun number n set k holder 
 
 pub returns-in-Some-clause-some : goal.returns-in-Some-clause-some
 returns-in-Some-clause-some c = λ n holder puts asks. refl
-
-pub returns-in-None-clause-some : goal.returns-in-None-clause-some
-returns-in-None-clause-some c = λ n holder puts asks. let e : None ≡ Some holder = sym (sym c.blocker_of.ensures ∙ c.in-None.is) ∙ ap blocker_of asks in absurd cc

@@ -23,9 +23,9 @@ returns c =
           (subst (λ ms. TakesFrom later (without_puts (filter (λ w. waits_on call c.waits_for_all-all.result w.key) x.in_flight) later) ms) (sym e) (takes_proofs call c.waits_for_all-all.result x later anchor));
       some = λ some none. proofs_some x later anchor call c.waits_for_all-all.result x.in_flight (subst (λ all. list_any (λ w. waits_on call all w.key) x.in_flight ≡ true) (sym c.waits_for_all-all.ensures) some) (sym e ∙ none);
       unsent = subst AreToSendOrOnWay (sym e) (proofs_go x later anchor call c.waits_for_all-all.result x.in_flight);
-      outbox = λ k o.
-          subst (λ l. KeepsOutbox k x l c.in_ok-wave.wave) (sym c.in_ok-wave.ensures.left)
-          (subst (λ ms. KeepsOutbox k x (without_puts (filter (λ w. waits_on call c.waits_for_all-all.result w.key) x.in_flight) later) ms) (sym e) (proofs_keep x later anchor call c.waits_for_all-all.result k o));
+      outbox = λ loses k o.
+          subst (λ l. KeepsOutbox loses k x l c.in_ok-wave.wave) (sym c.in_ok-wave.ensures.left)
+          (subst (λ ms. KeepsOutbox loses k x (without_puts (filter (λ w. waits_on call c.waits_for_all-all.result w.key) x.in_flight) later) ms) (sym e) (proofs_keep x later anchor call c.waits_for_all-all.result k o));
       stands = λ set k s why fresh suits is begins anchored o may many.
           subst (λ ms. InCall set k x (purposes.Prove call c.waits_for_all-all.result) ms) (sym e)
           (prove_begins set k x s why fresh later o may anchor anchored call c.waits_for_all-all.result is begins c.waits_for_all-all.ensures suits many);

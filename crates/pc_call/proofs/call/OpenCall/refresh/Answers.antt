@@ -23,7 +23,7 @@ pub returns-clause-unsent : goal.returns-clause-unsent
 returns-clause-unsent c = subst (λ ms. All (λ m. is_to_send m ≡ true) ms) (sym c.in_ok-wave.ensures) (all_to_send c.in_ok-requests.requests.items)
 
 pub returns-clause-outbox : goal.returns-clause-outbox
-returns-clause-outbox c = λ k later o.
+returns-clause-outbox c = λ loses k later o.
     let x = c.args.txn.now in
     let e : c.in_ok-wave.wave ≡ map message_to_send (map (refresh_to x.id x.reads.ts x.write_ts) x.reads.spans) = c.in_ok-wave.ensures ∙ ap (map message_to_send) c.in_ok-requests.ensures.made in
-    subst (λ ms. KeepsOutbox k x later ms) (sym e) (refreshes_keep k x later o)
+    subst (λ ms. KeepsOutbox loses k x later ms) (sym e) (refreshes_keep k x later o)

@@ -34,12 +34,12 @@ returns-clause-takes c =
     )
 
 pub returns-clause-outbox : goal.returns-clause-outbox
-returns-clause-outbox c = λ k o.
+returns-clause-outbox c = λ loses k o.
     let x = c.args.txn.now in
     let m : Message = message_to_send c.in_ok-stage.field-0 in
     let ms : List Message = put_messages x c.args.later.now c.args.anchor.now c.messages.result.now x.in_flight in
-    subst (λ ms. KeepsOutbox k x c.put_wave.new.later ms) (sym (c.in_ok-add.ensures.made ∙ ap (λ ms. ms ++ m ∷ []) c.in_ok-wave.ensures.made))
-    (subst (λ l. KeepsOutbox k x l (ms ++ m ∷ [])) (sym c.in_ok-wave.ensures.left) (stage_keeps x c.args.later.now c.args.anchor.now c.messages.result.now k o m (ap is_put c.in_ok-stage.ensures)))
+    subst (λ ms. KeepsOutbox loses k x c.put_wave.new.later ms) (sym (c.in_ok-add.ensures.made ∙ ap (λ ms. ms ++ m ∷ []) c.in_ok-wave.ensures.made))
+    (subst (λ l. KeepsOutbox loses k x l (ms ++ m ∷ [])) (sym c.in_ok-wave.ensures.left) (stage_keeps x c.args.later.now c.args.anchor.now c.messages.result.now k o m (ap is_put c.in_ok-stage.ensures)))
 
 pub returns-clause-stands : goal.returns-clause-stands
 returns-clause-stands c = λ set k s d some o may read anchored suits.

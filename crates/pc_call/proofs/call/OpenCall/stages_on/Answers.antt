@@ -1,4 +1,4 @@
-use Rattle.std.proofs.Common.{◌≡◌, sym, ap, ◌∙◌, None, Some}
+use Rattle.std.proofs.Common.{◌≡◌, sym, ap, ◌∙◌, Some}
 use Rattle.std.proofs.lemmas.Option.{same_Some}
 use Rattle.pc_call.specs.declared.purpose.Purpose.TheVariants as purposes
 use Rattle.pc_call.specs.Stages.{refusals_in}
@@ -11,6 +11,3 @@ returns-in-Some-clause-stands c = λ session clock begun n set k counted may o w
 
 pub returns-in-Some-clause-some : goal.returns-in-Some-clause-some
 returns-in-Some-clause-some c = λ n stages. c.stage_on.ensures.some
-
-pub returns-in-None-clause-some : goal.returns-in-None-clause-some
-returns-in-None-clause-some c = λ n stages. let e : None ≡ Some n = sym (sym c.refusals_in.ensures ∙ c.in-None.is) ∙ ap refusals_in stages in absurd cc

@@ -1,4 +1,4 @@
-use Rattle.std.proofs.Common.{◌≡◌, refl, sym, ap, ◌∙◌, subst}
+use Rattle.std.proofs.Common.{◌≡◌, refl, sym, ap, ◌∙◌}
 use Rattle.std.proofs.lemmas.Option.{same_Some}
 use Rattle.pc_coord.proofs.Begins.{one_aside, rollback_suits}
 use Rattle.pc_coord.proofs.Fresh.{unsent_idle, unsent_many}

@@ -1,4 +1,4 @@
-use Rattle.std.proofs.Common.{refl, sym, ap, subst, Some}
+use Rattle.std.proofs.Common.{refl, sym, subst}
 use Rattle.pc_call.proofs.Heartbeats.{fresh_aside}
 use Rattle.pc_call.specs.Fresh.{IsJustAsked}
 use Rattle.pc_call.specs.Learned.{known_asked}
@@ -24,7 +24,7 @@ returns-in-Rollback-clause-knows c = λ loses k r none o outbox read suits insid
     subst (λ (x : OpenTxn). IsJustAsked k2 x s c.take_cause-why.result) (sym c.take_cause-why.ensures.left)
     (subst (λ why. IsJustAsked k2 (caused whys.Client c.args.txn) s why) (sym c.take_cause-why.ensures.taken) (fresh_asked c.args.call c.args.reading k c.args.txn o)) in
     let r2 = ready_asked loses self k c.args.call c.args.reading read r in
-    let h = subst (λ (x : OpenTxn). HasAside k2 x self.later) (sym c.take_cause-why.ensures.left)
+    let h = subst (λ (x : OpenTxn). HasAside loses k2 x self.later) (sym c.take_cause-why.ensures.left)
     (aside_asked c.args.call c.args.reading k c.args.txn (caused whys.Client c.args.txn) self.later ((λ anchor. refl), (λ f there. there)) outbox) in
     c.roll_back.ensures.knows loses k2 s r2 (fresh_aside k2 x2 c.args.call c.args.reading c.take_cause-why.result asked loses (λ may. subst MayBlock c.in-Rollback.is may)) h c.in-Rollback.is
 
@@ -41,7 +41,7 @@ returns-in_default-clause-knows c = λ loses k r none o outbox read suits inside
     subst (λ (x : OpenTxn). IsJustAsked k2 x s c.take_cause-why.result) (sym c.take_cause-why.ensures.left)
     (subst (λ why. IsJustAsked k2 (caused whys.Client c.args.txn) s why) (sym c.take_cause-why.ensures.taken) (fresh_asked c.args.call c.args.reading k c.args.txn o)) in
     let r2 = ready_asked loses self k c.args.call c.args.reading read r in
-    let h = subst (λ (x : OpenTxn). HasAside k2 x self.later) (sym c.take_cause-why.ensures.left)
+    let h = subst (λ (x : OpenTxn). HasAside loses k2 x self.later) (sym c.take_cause-why.ensures.left)
     (aside_asked c.args.call c.args.reading k c.args.txn (caused whys.Client c.args.txn) self.later ((λ anchor. refl), (λ f there. there)) outbox) in
     c.show_or_serve.ensures.knows loses k2 c.take_cause-why.result r2 asked h (may_block c.args.call inside plain c.in_default.not-Rollback) read
     (subst (λ (x : OpenTxn). SuitsFlightIn self.pipelining c.args.call x.in_flight) (sym c.take_cause-why.ensures.left) suits)

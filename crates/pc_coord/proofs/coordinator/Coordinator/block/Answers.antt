@@ -1,4 +1,4 @@
-use Rattle.std.proofs.Common.{◌≡◌, Option, None, Some, IfSome, refl, sym, ◌∙◌, subst, ap}
+use Rattle.std.proofs.Common.{◌≡◌, None, Some, IfSome, refl, sym, ◌∙◌, subst, ap}
 use Rattle.std.specs.Option.{option_map}
 use Rattle.pc_call.proofs.PushRefused.{push_blocks}
 use Rattle.pc_call.specs.Telling.{MayTellOpen}

@@ -1,6 +1,5 @@
 use Rattle.std.proofs.Common.{sym, ap}
 use Rattle.pc_coord.proofs.Leaving.{left_else}
-use Rattle.pc_coord.specs.Coordination.{Coordination}
 use Rattle.pc_coord.proofs.coordinator.Coordinator.clear_by.Goals as goal
 
 pub returns-in_default : goal.returns-in_default

@@ -1,4 +1,4 @@
-use Rattle.std.proofs.Common.{List, ◌≡◌, false, sym, ap, ◌∙◌, subst}
+use Rattle.std.proofs.Common.{List, sym, ap, ◌∙◌, subst}
 use Rattle.pc_call.specs.Learned.{known_heard}
 use Rattle.pc_call.specs.Opening.{GoesOn}
 use Rattle.pc_coord.proofs.Ending.{heard_aside}
@@ -25,7 +25,7 @@ returns-clause-knows c = λ loses k h is0 goes.
     let goes2 = subst (GoesOn call.purpose) (sym c.in_ok-told.ensures) goes in
     let is = subst (λ r. HearsNow loses s call c.args.txn c.args.number r k h) (sym c.in_ok-told.ensures) is0 in
     let w = c.heard.ensures.stands s.session is.before s.begun set k c.args.txn h is.counted is.in_call is.waited is.heard goes2 is.whole in
-    let a = subst (λ (n : OpenCall). KeepsAside s.pipelining k2 c.args.txn n.purpose s.later n.wave) (sym c.heard.ensures.made) (heard_aside loses s call c.args.txn c.args.number told k h is) in
+    let a = subst (λ (n : OpenCall). KeepsAside loses s.pipelining k2 c.args.txn n.purpose s.later n.wave) (sym c.heard.ensures.made) (heard_aside loses s call c.args.txn c.args.number told k h is) in
     c.go_on.ensures.knows loses k2 is.ready w a (λ due.
     subst IsForMany (sym (ap (λ (n : OpenCall). n.purpose) c.heard.ensures.made)) (many_heard call.purpose c.args.number told call.wave goes2 is.waited (ap step_of (sym (ap (λ (n : OpenCall). n.wave) c.heard.ensures.made)) ∙ due)))
 
@@ -56,7 +56,7 @@ returns-clause-joins c = λ loses k h is0 goes.
     let goes2 = subst (GoesOn call.purpose) (sym c.in_ok-told.ensures) goes in
     let is = subst (λ r. HearsNow loses s call c.args.txn c.args.number r k h) (sym c.in_ok-told.ensures) is0 in
     let w = c.heard.ensures.stands s.session is.before s.begun set k c.args.txn h is.counted is.in_call is.waited is.heard goes2 is.whole in
-    let a = subst (λ (n : OpenCall). KeepsAside s.pipelining k2 c.args.txn n.purpose s.later n.wave) (sym c.heard.ensures.made) (heard_aside loses s call c.args.txn c.args.number told k h is) in
+    let a = subst (λ (n : OpenCall). KeepsAside loses s.pipelining k2 c.args.txn n.purpose s.later n.wave) (sym c.heard.ensures.made) (heard_aside loses s call c.args.txn c.args.number told k h is) in
     c.go_on.ensures.joins set k2 w a
 
 pub returns-clause-goes_on : goal.returns-clause-goes_on

@@ -1,4 +1,4 @@
-use Rattle.std.proofs.Common.{◌≡◌, List, refl, sym, ap, ◌∙◌, subst, inr}
+use Rattle.std.proofs.Common.{List, refl, sym, ap, ◌∙◌, subst, inr}
 use Rattle.pc_call.specs.Outbox.{MayWait}
 use Rattle.pc_call.specs.Stages.{CommitsBy, CommitsOnFrom, HasOutbox}
 use Rattle.pc_coord.proofs.Coming.{called_comes}
@@ -18,12 +18,12 @@ returns-clause-knows c = λ loses k t s r on h may suits.
     let made = c.in_ok-call.call in
     let later = c.commits.new.later in
     let back = ap (λ (n : Coordination). n.later) (sym c.self.view_is) in
-    let has = subst (HasOutbox k x) back h.outbox in
+    let has = subst (HasOutbox loses k x) back h.outbox in
     let takes = subst (λ l. CommitsBy l c.commits.new.later c.in_ok-call.call) (ap (λ (n : Coordination). n.later) c.self.view_is) c.in_ok-call.ensures.takes in
     let reads = r.asked_at s.reading (ap reading_in on.on.opened) ∙ ap (λ (n : Coordination). n.reading) (sym c.self.view_is) in
     goes_ok loses self (record self { later = later }) c.call.new.self k later made x refl (c.call.ensures ∙ ap (λ (n : Coordination). calling c.in_ok-call.call c.args.txn (record n { later = c.commits.new.later })) c.self.view_is) r
-    (c.in_ok-call.ensures.goes_on set k t s (subst (λ (puts : List Message). CommitsOnFrom loses t.read_ts c.args.refusals k t x s puts) (sym c.new.ensures) on) has (subst (MayWait self.pipelining) back may) reads suits)
-    h (c.in_ok-call.ensures.outbox k has) takes.0.0 (commit_joined made.purpose later takes.1) (commit_plain made.purpose takes.1) c.in_ok-call.ensures.unsent (sends_some made.wave takes.0.1)
+    (c.in_ok-call.ensures.goes_on set k t s (subst (λ (puts : List Message). CommitsOnFrom loses t.read_ts c.args.refusals k t x s puts) (sym c.new-none.ensures.made) on) has (subst (MayWait self.pipelining) back may) reads suits)
+    h (c.in_ok-call.ensures.outbox loses k has) takes.0.0 (commit_joined made.purpose later takes.1) (commit_plain made.purpose takes.1) c.in_ok-call.ensures.unsent (sends_some made.wave takes.0.1)
 
 pub returns-clause-waits : goal.returns-clause-waits
 returns-clause-waits c =

@@ -1,4 +1,4 @@
-use Rattle.std.proofs.Common.{sym, subst, [], List}
+use Rattle.std.proofs.Common.{sym, subst, []}
 use Rattle.pc_call.proofs.Deciding.{commits_fresh}
 use Rattle.pc_call.specs.Stages.{CommitsOnFrom}
 use Rattle.pc_coord.proofs.coordinator.Coordinator.commit_written.Goals as goal

@@ -1,4 +1,4 @@
-use Rattle.std.proofs.Common.{◌≡◌, true, false, is_some, Some, IfSome, refl, sym, ap, ◌∙◌, subst}
+use Rattle.std.proofs.Common.{◌≡◌, true, false, is_some, IfSome, refl, sym, ap, ◌∙◌, subst}
 use Rattle.pc_call.specs.declared.call.OpenCall.{OpenCall}
 use Rattle.pc_call.specs.declared.purpose.Purpose.TheVariants as purposes
 use Rattle.pc_call.specs.Learned.{known_heard}
@@ -37,7 +37,7 @@ returns-in-None-clause-knows c = λ loses k h number n holder puts is asks.
     let e : false ≡ true = sym (ap is_some c.in-None.is) ∙ c.found-next.ensures.some n holder puts asks in absurd cc
 
 pub returns-in-Some-clause-waits : goal.returns-in-Some-clause-waits
-returns-in-Some-clause-waits c = λ loses k h number n holder puts is asks.
+returns-in-Some-clause-waits c = λ loses k h number n holder puts quiet is asks.
     let s = c.args.self.now in
     let set = setting_of loses s in
     let call = c.args.call in
@@ -51,7 +51,7 @@ returns-in-Some-clause-waits c = λ loses k h number n holder puts is asks.
     (c.found-next.ensures.stands s.session is.before s.begun number n set k holder puts h is.counted is.in_call asks is.waited is.heard is.missed) in
     let stages = subst (λ o. IfSome o (λ (made : OpenCall). made.purpose ≡ purposes.Stage n)) c.in-Some.is (c.found-next.ensures.staged n holder puts asks) in
     let h2 = empty_aside k2 x x2 s.later none (alone_aside loses s call x number replies.Found k h is m.0 m.1 x (stays_but h.request x x ((λ anchor. refl), (λ f there. there)))) in
-    on_outbox c.go_on.result made.wave s.later c.go_on.new.self.due (staged_idle set k2 x2 made.purpose made.wave w n stages (subst (HasAside k2 x2) none h2)) c.go_on.ensures.waits
+    on_outbox c.go_on.result made.wave s.later c.go_on.new.self.due (staged_idle set k2 x2 made.purpose made.wave w n stages quiet (subst (HasAside loses k2 x2) none h2)) c.go_on.ensures.waits
 
 pub returns-in-Some-clause-left : goal.returns-in-Some-clause-left
 returns-in-Some-clause-left c = c.go_on.ensures.left

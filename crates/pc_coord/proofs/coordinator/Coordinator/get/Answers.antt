@@ -1,4 +1,4 @@
-use Rattle.std.proofs.Common.{List, sym, ap, subst}
+use Rattle.std.proofs.Common.{sym, ap, subst}
 use Rattle.pc_call.specs.declared.call.OpenCall.{OpenCall}
 use Rattle.pc_call.specs.Suiting.{SuitsFlightIn}
 use Rattle.pc_proto.specs.declared.call.Call.{Call}
@@ -9,7 +9,6 @@ use Rattle.pc_coord.proofs.Steps.{on_ok}
 use Rattle.pc_coord.proofs.Tying.{on_outbox}
 use Rattle.pc_coord.specs.Coming.{ComesOf, goes_by_sequence}
 use Rattle.pc_coord.specs.Coordination.{setting_of}
-use Rattle.pc_proto.specs.declared.call.Call.TheVariants as calls
 use Rattle.pc_coord.proofs.coordinator.Coordinator.get.Goals as goal
 
 pub returns-clause-knows : goal.returns-clause-knows

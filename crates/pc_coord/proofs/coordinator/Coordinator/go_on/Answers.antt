@@ -1,19 +1,35 @@
-use Rattle.std.proofs.Common.{◌≡◌, true, sym, ap, ◌∙◌, subst, inl, refl}
+use Rattle.std.proofs.Common.{◌≡◌, true, sym, ap, ◌∙◌, subst, inl, refl, OnOk, false}
 use Rattle.pc_call.specs.Giving.{MayBeGiven}
 use Rattle.pc_call.specs.Losses.{is_lost_after}
 use Rattle.pc_coord.proofs.Coming.{called_comes}
 use Rattle.pc_coord.proofs.Dues.{answered_idle, blocked_idle}
-use Rattle.pc_coord.proofs.Ending.{lost_idle, never_lost}
+use Rattle.pc_coord.proofs.Ending.{lost_idle}
 use Rattle.pc_coord.proofs.Tying.{call_ok, on_by, same_by, way_of}
 use Rattle.pc_coord.specs.Coordination.{Coordination, setting_of}
 use Rattle.pc_coord.specs.Knows.{is_under_way}
 use Rattle.pc_coord.proofs.Joining.{call_goes, call_idle, joins_ok, no_wait, same_joins, same_left}
+use Rattle.pc_call.proofs.Faults.{call_gives_up}
+use Rattle.pc_coord.proofs.Aside.{aside_idle}
+use Rattle.pc_coord.proofs.Knowing.{served_begins}
+use Rattle.pc_coord.proofs.Lost.{call_was_lost, lossy, stays_beside}
+use Rattle.pc_world.specs.Tell.Refusal.{WasLost}
 use Rattle.pc_coord.proofs.coordinator.Coordinator.go_on.Goals as goal
+use Rattle.pc_coord.proofs.UsedUp.{lost_ends, lost_on, lost_over}
+use Rattle.pc_coord.specs.UsedUp.{answer_lost}
+use Rattle.pc_coord.specs.Coming.{GoesOnBy}
+use Rattle.pc_coord.specs.declared.due.Due.TheVariants as dues
 
 pub returns-then-is_lost-clause-knows : goal.returns-then-is_lost-clause-knows
 returns-then-is_lost-clause-knows c = λ loses k r w a many.
     let s = c.args.self.now in
-    absurd (never_lost (setting_of loses s) k c.args.txn c.args.call.purpose c.args.call.wave s.tries w r.course.quiet r.course.tried (ap (λ (n : Coordination). is_lost_after n.tries c.args.call.wave) (sym c.self.view_is) ∙ (sym c.is_lost.ensures ∙ c.if-is_lost.true)))
+    let set = setting_of loses s in
+    let x = c.args.txn in
+    let p = c.args.call.purpose in
+    let ms = c.args.call.wave in
+    let used = ap (λ (n : Coordination). is_lost_after n.tries ms) (sym c.self.view_is) ∙ (sym c.is_lost.ensures ∙ c.if-is_lost.true) in
+    let loss = lossy set k x p ms s.tries w r.course.tried used in
+    c.end_lost-then-is_lost.ensures.knows loses k k r loss (λ why is. w) (λ isnt. call_gives_up set k x p ms w isnt) (aside_idle s.pipelining k x p s.later ms a (lost_idle s.tries ms used)) (stays_beside k x.id) (served_begins set k x p ms w)
+    (subst (λ (n : Coordination). WasLost k n.tries) (sym c.end_lost.view_is) (call_was_lost set k x p ms w s.tries loss r.course.tried used (r.course.one_range loss)))
 
 pub returns-then-is_lost-clause-waits : goal.returns-then-is_lost-clause-waits
 returns-then-is_lost-clause-waits c =
@@ -152,3 +168,40 @@ returns-clause-joins c = λ set k w a. same_joins set k c.args.txn c.args.call.p
 
 pub returns-clause-goes_on : goal.returns-clause-goes_on
 returns-clause-goes_on c = λ number waits. call_goes c.call-in-Round.new.self c.args.call c.args.call.wave (ap (λ (n : Coordination). n.due) c.call-in-Round.ensures) refl
+
+pub returns-then-is_lost-clause-used_up : goal.returns-then-is_lost-clause-used_up
+returns-then-is_lost-clause-used_up c =
+    let s = c.args.self.now in
+    let call = c.args.call in
+    lost_ends c.end_lost-then-is_lost.result s.tries c.args.txn call.purpose call.wave c.end_lost-then-is_lost.new.self.due (ap (λ (n : Coordination). is_lost_after n.tries c.args.call.wave) (sym c.self.view_is) ∙ (sym c.is_lost.ensures ∙ c.if-is_lost.true))
+    (subst (λ (n : Coordination). OnOk c.end_lost-then-is_lost.result (c.end_lost-then-is_lost.new.self.due ≡ dues.Tell (answer_lost n.tries c.args.txn call.purpose))) c.end_lost.view_is c.end_lost-then-is_lost.ensures.used_up)
+
+pub returns-in-Answered-clause-used_up : goal.returns-in-Answered-clause-used_up
+returns-in-Answered-clause-used_up c =
+    let s = c.args.self.now in
+    let call = c.args.call in
+    lost_over c.end.result s.tries c.args.txn call.purpose call.wave c.end.new.self.due (ap (λ (n : Coordination). is_lost_after n.tries c.args.call.wave) (sym c.self.view_is) ∙ (sym c.is_lost.ensures ∙ c.if-is_lost.false)) (λ on. subst is_under_way (sym c.in_ok-step.ensures.due ∙ c.in-Answered.is) on)
+
+pub returns-in-Blocked-clause-used_up : goal.returns-in-Blocked-clause-used_up
+returns-in-Blocked-clause-used_up c =
+    let s = c.args.self.now in
+    let call = c.args.call in
+    lost_over c.end_blocked.result s.tries c.args.txn call.purpose call.wave c.end_blocked.new.self.due (ap (λ (n : Coordination). is_lost_after n.tries c.args.call.wave) (sym c.self.view_is) ∙ (sym c.is_lost.ensures ∙ c.if-is_lost.false)) (λ on. subst is_under_way (sym c.in_ok-step.ensures.due ∙ c.in-Blocked.is) on)
+
+pub returns-in-Send-clause-used_up : goal.returns-in-Send-clause-used_up
+returns-in-Send-clause-used_up c =
+    let s = c.args.self.now in
+    let call = c.args.call in
+    lost_on s.tries c.args.txn call.purpose call.wave c.call.new.self.due (ap (λ (n : Coordination). is_lost_after n.tries c.args.call.wave) (sym c.self.view_is) ∙ (sym c.is_lost.ensures ∙ c.if-is_lost.false)) (subst (GoesOnBy call.wave) (sym (ap (λ (n : Coordination). n.due) c.call.ensures)) refl)
+
+pub returns-in-Deliver-clause-used_up : goal.returns-in-Deliver-clause-used_up
+returns-in-Deliver-clause-used_up c =
+    let s = c.args.self.now in
+    let call = c.args.call in
+    lost_on s.tries c.args.txn call.purpose call.wave c.call-in-Deliver.new.self.due (ap (λ (n : Coordination). is_lost_after n.tries c.args.call.wave) (sym c.self.view_is) ∙ (sym c.is_lost.ensures ∙ c.if-is_lost.false)) (subst (GoesOnBy call.wave) (sym (ap (λ (n : Coordination). n.due) c.call-in-Deliver.ensures)) refl)
+
+pub returns-clause-used_up : goal.returns-clause-used_up
+returns-clause-used_up c =
+    let s = c.args.self.now in
+    let call = c.args.call in
+    lost_on s.tries c.args.txn call.purpose call.wave c.call-in-Round.new.self.due (ap (λ (n : Coordination). is_lost_after n.tries c.args.call.wave) (sym c.self.view_is) ∙ (sym c.is_lost.ensures ∙ c.if-is_lost.false)) (subst (GoesOnBy call.wave) (sym (ap (λ (n : Coordination). n.due) c.call-in-Round.ensures)) refl)

@@ -1,9 +1,8 @@
-use Rattle.std.proofs.Common.{◌≡◌, true, false, Some, is_some, IfSome, inr, refl, sym, ap, ◌∙◌, subst}
+use Rattle.std.proofs.Common.{◌≡◌, true, false, is_some, IfSome, sym, ap, ◌∙◌, subst}
 use Rattle.pc_base.specs.declared.transaction.TxnId.{TxnId}
 use Rattle.pc_call.specs.declared.purpose.Purpose.TheVariants as purposes
 use Rattle.pc_call.specs.GivenUp.{GivesUpBy}
 use Rattle.pc_call.specs.Learned.{known_heard}
-use Rattle.pc_call.specs.Suiting.{SuitsFlightIn}
 use Rattle.pc_coord.proofs.Ending.{alone_aside}
 use Rattle.pc_coord.proofs.Leaving.{missed_but, missed_suits}
 use Rattle.pc_coord.proofs.Onward.{alone}

@@ -1,4 +1,4 @@
-use Rattle.std.proofs.Common.{◌≡◌, Some, sym, ap, ◌∙◌, subst, inr}
+use Rattle.std.proofs.Common.{sym, ap, ◌∙◌, subst, inr}
 use Rattle.pc_base.specs.Rising.{AreRising}
 use Rattle.pc_call.specs.Ended.{HasBegun, own_messages_by}
 use Rattle.pc_coord.proofs.Coming.{called_comes, to_send_go}

@@ -1,4 +1,4 @@
-use Rattle.std.proofs.Common.{sym, subst}
+use Rattle.std.proofs.Common.{subst}
 use Rattle.pc_call.specs.Committing.{IsRefusalOf}
 use Rattle.pc_call.specs.Learned.{known_heard}
 use Rattle.pc_coord.proofs.Ending.{alone_aside}
@@ -6,7 +6,6 @@ use Rattle.pc_coord.proofs.Ongoing.{refused_but, refused_from, refused_suits}
 use Rattle.pc_coord.proofs.Onward.{alone}
 use Rattle.pc_coord.specs.Coordination.{setting_of}
 use Rattle.pc_call.specs.declared.purpose.Purpose.TheVariants as purposes
-use Rattle.pc_proto.specs.declared.answer.Answer.TheVariants as answers
 use Rattle.pc_coord.proofs.Joining.{joins_ok}
 use Rattle.pc_coord.proofs.coordinator.Coordinator.refused.Goals as goal
 

@@ -1,4 +1,4 @@
-use Rattle.std.proofs.Common.{List, sym, ap, subst}
+use Rattle.std.proofs.Common.{sym, ap, subst}
 use Rattle.pc_call.specs.declared.call.OpenCall.{OpenCall}
 use Rattle.pc_call.specs.Suiting.{SuitsFlightIn}
 use Rattle.pc_proto.specs.declared.call.Call.{Call}
@@ -11,7 +11,6 @@ use Rattle.pc_coord.specs.Coming.{ComesOf, goes_by_sequence}
 use Rattle.pc_base.specs.Rising.{AreRising}
 use Rattle.pc_coord.specs.Coordination.{Coordination, setting_of}
 use Rattle.pc_call.specs.Pieces.{spans_in}
-use Rattle.pc_proto.specs.declared.call.Call.TheVariants as calls
 use Rattle.pc_coord.proofs.coordinator.Coordinator.scan.Goals as goal
 
 pub returns-clause-knows : goal.returns-clause-knows

@@ -1,4 +1,4 @@
-use Rattle.std.proofs.Common.{◌≡◌, ◌||◌, ◌&&◌, ◌==◌, ◌++◌, ◌∷◌, [], List, Some, None, sym, ap, ◌∙◌, subst, OnOk}
+use Rattle.std.proofs.Common.{◌≡◌, ◌||◌, ◌&&◌, ◌==◌, ◌++◌, List, Some, None, sym, ap, ◌∙◌, subst, OnOk}
 use Rattle.std.proofs.lemmas.Option.{same_Some}
 use Rattle.pc_call.specs.declared.later.LaterPut.{LaterPut}
 use Rattle.pc_call.specs.Outbox.{later_sent}
@@ -17,7 +17,7 @@ use Rattle.pc_wave.specs.Messages.{first_changed, is_to_send, sent_under}
 use Rattle.pc_coord.proofs.coordinator.Coordinator.sent.Goals as goal
 
 pub returns-in-Some-clause-knows : goal.returns-in-Some-clause-knows
-returns-in-Some-clause-knows c = λ loses k p range request knows is.
+returns-in-Some-clause-knows c = λ loses k p range request knows is went.
     let old = c.args.self.now in
     let o = c.in-Some.taken in
     let at = opened_is old o (sym c.take_open-taken.ensures.taken ∙ c.in-Some.is) in
@@ -26,7 +26,7 @@ returns-in-Some-clause-knows c = λ loses k p range request knows is.
     subst (λ k. OnOk c.send.result (Knows loses c.send.new.self k)) (sym (learn_sent c.args.number range request k p is.is))
     (c.send.ensures.knows loses k range request (subst (λ (n : Coordination). StandsReady loses n k) (sym left) (ready_now loses old k o.txn o.call knows at.1 at.0 None dues.Nothing))
     (subst (λ (n : Coordination). InCall (setting_of loses n) k o.txn o.call.purpose o.call.wave) (sym left) (in_call loses old k o.txn o.call knows at.1 at.0))
-    (subst (λ (n : Coordination). KeepsAside n.pipelining k o.txn o.call.purpose n.later o.call.wave) (sym left) (aside loses old k o.txn o.call knows at.1 at.0)) step is.next)
+    (subst (λ (n : Coordination). KeepsAside loses n.pipelining k o.txn o.call.purpose n.later o.call.wave) (sym left) (aside loses old k o.txn o.call knows at.1 at.0)) step is.next went)
 
 pub returns-in-Some-clause-waits : goal.returns-in-Some-clause-waits
 returns-in-Some-clause-waits c = λ request other next.
@@ -80,7 +80,7 @@ returns-in-Some-clause-waiting c = λ loses k request knows next.
     (c.send.ensures.waiting (ap (λ (n : Coordination). n.pipelining && is_writing o.call.purpose) left ∙ waits.1)))
 
 pub returns-in-None-clause-knows : goal.returns-in-None-clause-knows
-returns-in-None-clause-knows c = λ loses k p range request knows is. absurd (sends_open c.args.self.now request is.due (sym c.take_open-taken.ensures.taken ∙ c.in-None.is))
+returns-in-None-clause-knows c = λ loses k p range request knows is went. absurd (sends_open c.args.self.now request is.due (sym c.take_open-taken.ensures.taken ∙ c.in-None.is))
 
 pub returns-in-None-clause-waits : goal.returns-in-None-clause-waits
 returns-in-None-clause-waits c = λ request other next. absurd (sends_open c.args.self.now request (ap request_next next) (sym c.take_open-taken.ensures.taken ∙ c.in-None.is))

@@ -1,4 +1,4 @@
-use Rattle.std.proofs.Common.{refl, sym, ap, ◌∙◌, subst, Some}
+use Rattle.std.proofs.Common.{sym, ap, ◌∙◌, subst, Some}
 use Rattle.pc_call.specs.Waiting.{waits_for_some}
 use Rattle.pc_coord.proofs.Ongoing.{waits_behind}
 use Rattle.pc_coord.specs.Suiting.{Suits}

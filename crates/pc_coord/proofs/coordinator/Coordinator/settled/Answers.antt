@@ -14,6 +14,7 @@ use Rattle.pc_wave.specs.declared.step.Step.TheVariants as steps
 use Rattle.pc_wave.specs.Messages.{step_of}
 use Rattle.pc_coord.proofs.Joining.{idle_each, left_each, same_left}
 use Rattle.pc_coord.proofs.coordinator.Coordinator.settled.Goals as goal
+use Rattle.pc_coord.specs.UsedUp.{answer_lost}
 
 pub returns-in-Some-clause-knows : goal.returns-in-Some-clause-knows
 returns-in-Some-clause-knows c = λ loses before start k conflict reader knows heard next later ends.
@@ -25,7 +26,7 @@ returns-in-Some-clause-knows c = λ loses before start k conflict reader knows h
     let r = subst (λ (n : Coordination). StandsReady loses n k) (sym mid) (settles loses before start k o.txn o.call knows at.1 at.0 later None dues.Nothing) in
     let counted = subst (λ (m : Coordination). IsCounted m.session before.clock m.begun start) (sym mid) n.counted in
     let w = subst (λ (n : Coordination). InCall (setting_of loses n) start o.txn o.call.purpose o.call.wave) (sym mid) (in_call loses before start o.txn o.call knows at.1 at.0) in
-    let a = subst (λ (n : Coordination). KeepsAside n.pipelining k o.txn o.call.purpose n.later o.call.wave) (sym mid) (aside_settles loses before start k o.txn o.call knows at.1 at.0 later) in
+    let a = subst (λ (n : Coordination). KeepsAside loses n.pipelining k o.txn o.call.purpose n.later o.call.wave) (sym mid) (aside_settles loses before start k o.txn o.call knows at.1 at.0 later) in
     c.settle.ensures.knows loses start k before.clock conflict r counted w a (round_step before o.txn o.call c.args.number conflict reader at.1 at.0 next) (had_round loses before start k o.txn o.call knows at.1 at.0 later c.args.round conflict ends)
 
 pub returns-in-Some-clause-waits : goal.returns-in-Some-clause-waits
@@ -69,3 +70,11 @@ returns-in-Some-clause-quiet c = λ loses before start k conflict reader other i
 pub returns-in-None-clause-quiet : goal.returns-in-None-clause-quiet
 returns-in-None-clause-quiet c = λ loses before start k conflict reader other isnt knows heard next later ends.
     absurd (rounds_open before c.args.number conflict reader next (sym (c.take_open-taken.ensures.taken ∙ ap (λ (c : Coordination). opened_by c.txn c.due) heard) ∙ c.in-None.is))
+
+pub returns-in-None-clause-used_up : goal.returns-in-None-clause-used_up
+returns-in-None-clause-used_up c = λ o faults opened is. let e : None ≡ Some o = sym c.in-None.is ∙ (c.take_open-taken.ensures.taken ∙ opened) in absurd cc
+
+pub returns-in-Some-clause-used_up : goal.returns-in-Some-clause-used_up
+returns-in-Some-clause-used_up c = λ o faults opened is.
+    let same : c.in-Some.taken ≡ o = same_Some c.in-Some.taken o (sym c.in-Some.is ∙ (c.take_open-taken.ensures.taken ∙ opened)) in
+    subst (λ (o : Opened). OnOk c.settle.result (c.settle.new.self.due ≡ dues.Tell (answer_lost faults o.txn o.call.purpose))) same (c.settle.ensures.used_up faults is)

@@ -1,5 +1,4 @@
-use Rattle.std.proofs.Common.{◌≡◌, refl, sym, ap, ◌∙◌, subst}
-use Rattle.pc_call.specs.Suiting.{SuitsFlightIn}
+use Rattle.std.proofs.Common.{refl, sym, ap, ◌∙◌, subst}
 use Rattle.pc_coord.proofs.Aside.{aside_idle}
 use Rattle.pc_coord.proofs.Begins.{one_aside}
 use Rattle.pc_coord.proofs.Fresh.{unsent_idle}

@@ -1,9 +1,9 @@
-use Rattle.std.proofs.Common.{List, ◌≡◌, sym, ap, ◌∙◌, subst}
+use Rattle.std.proofs.Common.{List, sym, ap, ◌∙◌, subst, Contains}
 use Rattle.pc_call.specs.declared.call.OpenCall.{OpenCall}
 use Rattle.pc_call.specs.Learned.{known_heard}
 use Rattle.pc_call.specs.Losses.{is_lost_after}
 use Rattle.pc_call.specs.Stages.{IsStageTold, IsUndecidedAt, stage_told_if, stage_ts}
-use Rattle.pc_coord.proofs.Staging.{counted_stage, stage_aside, stage_idle, told_aside, told_shows, told_stays, told_tries}
+use Rattle.pc_coord.proofs.Staging.{counted_stage, stage_aside, stage_idle, told_aside, told_shows, told_stays, told_flies, told_lost, told_meta}
 use Rattle.pc_coord.proofs.Steps.{on_ok}
 use Rattle.pc_coord.proofs.Tying.{on_by}
 use Rattle.pc_coord.specs.Aside.{HasAside, KeepsAside}
@@ -14,6 +14,8 @@ use Rattle.pc_txn.specs.declared.txn.OpenTxn.{OpenTxn}
 use Rattle.pc_wave.specs.declared.message.Message.{Message}
 use Rattle.pc_wave.specs.Messages.{awaits_at, back_with, first_changed, wave_awaits}
 use Rattle.pc_coord.proofs.Joining.{goes_as, no_wait}
+use Rattle.pc_call.proofs.Faults.{stages_give_up}
+use Rattle.pc_txn.specs.Opened.{meta_now}
 use Rattle.pc_coord.proofs.coordinator.Coordinator.stage_told.Goals as goal
 
 pub returns-in-Staged-clause-knows : goal.returns-in-Staged-clause-knows
@@ -31,13 +33,13 @@ returns-in-Staged-clause-knows c = λ loses k h n is0 stages u at.
     (c.stage_told-told.ensures.stands s.session is.before s.begun n set k h is.counted is.in_call stages is.waited is.heard (subst (λ r. IsUndecidedAt r c.args.recorded) (sym c.in_ok-told.ensures) u) is.turn at) in
     let so = counted_stage c.args.number c.args.recorded c.args.step n call.wave x2 call.purpose stages in
     let purpose = ap (λ (n : OpenCall). n.purpose) c.stage_told-told.ensures.made ∙ so.1 in
-    let a = subst (λ (ms : List Message). KeepsAside s.pipelining k2 x2 call2.purpose s.later ms) (sym (ap (λ (n : OpenCall). n.wave) c.stage_told-told.ensures.made))
-    (subst (λ (y : OpenTxn). KeepsAside s.pipelining k2 y call2.purpose s.later (first_changed (awaits_at c.args.number) (back_with c.args.number told) call.wave)) (sym c.stage_told-told.ensures.told)
+    let a = subst (λ (ms : List Message). KeepsAside loses s.pipelining k2 x2 call2.purpose s.later ms) (sym (ap (λ (n : OpenCall). n.wave) c.stage_told-told.ensures.made))
+    (subst (λ (y : OpenTxn). KeepsAside loses s.pipelining k2 y call2.purpose s.later (first_changed (awaits_at c.args.number) (back_with c.args.number told) call.wave)) (sym c.stage_told-told.ensures.told)
     (told_aside loses s call x c.args.number told k h is n stages (stage_ts c.args.number call.wave) c.args.recorded c.args.step so.0 call2.purpose purpose)) in
     c.go_on.ensures.knows loses k2 is.ready w a (λ due. subst IsForMany (sym purpose) tt)
 
 pub returns-in-Staged-clause-waits : goal.returns-in-Staged-clause-waits
-returns-in-Staged-clause-waits c = λ loses k h n is stages u.
+returns-in-Staged-clause-waits c = λ loses k h n quiet is stages u.
     let m = c.args.number in
     let same = ap (λ (call : OpenCall). call.wave) c.stage_told-told.ensures.made ∙ ap (λ r. first_changed (awaits_at m) (back_with m r) c.args.call.wave) c.in_ok-told.ensures in
     on_ok c.go_on.result (AwaitsBy c.stage_told-told.new.self.wave c.args.self.now.later c.go_on.new.self.due) (AwaitsBy (first_changed (awaits_at m) (back_with m c.args.reply.now) c.args.call.wave) c.args.self.now.later c.go_on.new.self.due)
@@ -59,18 +61,20 @@ returns-in-Refused-clause-knows c = λ loses k h n is0 stages u0 at.
     let so = counted_stage c.args.number c.args.recorded c.args.step n call.wave x2 call.purpose stages in
     let purpose = ap (λ (n : OpenCall). n.purpose) c.stage_told-told.ensures.made ∙ so.1 in
     let ts = stage_ts c.args.number call.wave in
-    let aside = subst (λ (y : OpenTxn). HasAside k2 y s.later) (sym c.stage_told-told.ensures.told)
+    let aside = subst (λ (y : OpenTxn). HasAside loses k2 y s.later) (sym c.stage_told-told.ensures.told)
     (stage_aside loses s call x c.args.number told k h is n stages (told_shows loses s call x c.args.number told k h is n stages c.args.recorded u) (stage_told_if ts c.args.recorded c.args.step told x)
     (told_stays h.request told ts c.args.recorded c.args.step x)) in
     c.stage_refused.ensures.knows loses k2 is.in_call.s so.0 is.ready is.in_call.opened on.0 aside is.ready.course.may_wait on.1 purpose
-    (λ lost. told_tries loses s call x c.args.number told k h is n stages (sym (ap (λ (n : OpenCall). is_lost_after s.tries n.wave) c.stage_told-told.ensures.made) ∙ lost))
+    (λ lost. told_lost loses s call x c.args.number told k h is n stages x2 (λ anchor. ap (λ (y : OpenTxn). meta_now y anchor) c.stage_told-told.ensures.told ∙ told_meta told ts c.args.recorded c.args.step x anchor)
+    (λ f there. subst (λ (y : OpenTxn). Contains y.in_flight f) (sym c.stage_told-told.ensures.told) (told_flies told ts c.args.recorded c.args.step x f there))
+    (stages_give_up set c.args.recorded so.0 k2 x2 call2.wave (on.0 so.0 purpose) on.1) (sym (ap (λ (n : OpenCall). is_lost_after s.tries n.wave) c.stage_told-told.ensures.made) ∙ lost))
 
 pub returns-in-Refused-clause-waits : goal.returns-in-Refused-clause-waits
-returns-in-Refused-clause-waits c = λ loses k h n is stages u.
+returns-in-Refused-clause-waits c = λ loses k h n quiet is stages u.
     let s = c.args.self.now in
     let shows = told_shows loses s c.args.call c.args.txn c.args.number c.args.reply.now k h is n stages c.args.recorded u in
     on_by c.stage_refused.result (first_changed (awaits_at c.args.number) (back_with c.args.number c.args.reply.now) c.args.call.wave) s.later c.stage_refused.new.self.due
-    (stage_idle loses s c.args.call c.args.txn c.args.number c.args.reply.now k h is n stages shows) c.stage_refused.ensures.waits
+    (stage_idle loses s c.args.call c.args.txn c.args.number c.args.reply.now k h is n stages shows quiet) c.stage_refused.ensures.waits
 
 pub returns-in-Staged-clause-left : goal.returns-in-Staged-clause-left
 returns-in-Staged-clause-left c = λ n stages. c.go_on.ensures.left
@@ -90,13 +94,13 @@ returns-in-Staged-clause-joins c = λ loses k h n is0 stages u at.
     (c.stage_told-told.ensures.stands s.session is.before s.begun n set k h is.counted is.in_call stages is.waited is.heard (subst (λ r. IsUndecidedAt r c.args.recorded) (sym c.in_ok-told.ensures) u) is.turn at) in
     let so = counted_stage c.args.number c.args.recorded c.args.step n call.wave x2 call.purpose stages in
     let purpose = ap (λ (n : OpenCall). n.purpose) c.stage_told-told.ensures.made ∙ so.1 in
-    let a = subst (λ (ms : List Message). KeepsAside s.pipelining k2 x2 call2.purpose s.later ms) (sym (ap (λ (n : OpenCall). n.wave) c.stage_told-told.ensures.made))
-    (subst (λ (y : OpenTxn). KeepsAside s.pipelining k2 y call2.purpose s.later (first_changed (awaits_at c.args.number) (back_with c.args.number told) call.wave)) (sym c.stage_told-told.ensures.told)
+    let a = subst (λ (ms : List Message). KeepsAside loses s.pipelining k2 x2 call2.purpose s.later ms) (sym (ap (λ (n : OpenCall). n.wave) c.stage_told-told.ensures.made))
+    (subst (λ (y : OpenTxn). KeepsAside loses s.pipelining k2 y call2.purpose s.later (first_changed (awaits_at c.args.number) (back_with c.args.number told) call.wave)) (sym c.stage_told-told.ensures.told)
     (told_aside loses s call x c.args.number told k h is n stages (stage_ts c.args.number call.wave) c.args.recorded c.args.step so.0 call2.purpose purpose)) in
     c.go_on.ensures.joins set k2 w a
 
 pub returns-in-Staged-clause-goes_on : goal.returns-in-Staged-clause-goes_on
-returns-in-Staged-clause-goes_on c = λ loses k h n other is stages u waits.
+returns-in-Staged-clause-goes_on c = λ loses k h n other quiet is stages u waits.
     let m = c.args.number in
     let same = ap (λ (call : OpenCall). call.wave) c.stage_told-told.ensures.made ∙ ap (λ r. first_changed (awaits_at m) (back_with m r) c.args.call.wave) c.in_ok-told.ensures in
     goes_as c.go_on.result c.stage_told-told.new.self.wave (first_changed (awaits_at c.args.number) (back_with c.args.number c.args.reply.now) c.args.call.wave) c.go_on.new.self.due same (c.go_on.ensures.goes_on other (ap (wave_awaits other) same ∙ waits))
@@ -110,7 +114,7 @@ pub returns-in-Refused-clause-joins : goal.returns-in-Refused-clause-joins
 returns-in-Refused-clause-joins c = λ loses k h n is stages u at. c.stage_refused.ensures.joins
 
 pub returns-in-Refused-clause-goes_on : goal.returns-in-Refused-clause-goes_on
-returns-in-Refused-clause-goes_on c = λ loses k h n other is stages u waits.
+returns-in-Refused-clause-goes_on c = λ loses k h n other quiet is stages u waits.
     let s = c.args.self.now in
     let shows = told_shows loses s c.args.call c.args.txn c.args.number c.args.reply.now k h is n stages c.args.recorded u in
-    absurd (no_wait other (first_changed (awaits_at c.args.number) (back_with c.args.number c.args.reply.now) c.args.call.wave) waits (stage_idle loses s c.args.call c.args.txn c.args.number c.args.reply.now k h is n stages shows other))
+    absurd (no_wait other (first_changed (awaits_at c.args.number) (back_with c.args.number c.args.reply.now) c.args.call.wave) waits (stage_idle loses s c.args.call c.args.txn c.args.number c.args.reply.now k h is n stages shows quiet other))

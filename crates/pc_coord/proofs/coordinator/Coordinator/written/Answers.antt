@@ -1,4 +1,4 @@
-use Rattle.std.proofs.Common.{◌≡◌, false, Some, sym, ap, subst}
+use Rattle.std.proofs.Common.{Some, sym, ap, subst}
 use Rattle.pc_call.specs.Learned.{known_heard}
 use Rattle.pc_coord.proofs.Coming.{told_comes}
 use Rattle.pc_coord.proofs.Ending.{StaysBut, alone_waits, landed_one, not_at_once}

@@ -11,7 +11,7 @@ pub send_later-requires-clause-between : goal.send_later-requires-clause-between
 send_later-requires-clause-between g c = subst (λ s. IsBetweenWaves s.desk) (sym c.in_ok-request.ensures.same) c.requires.between
 
 pub end-requires-clause-between : goal.end-requires-clause-between
-end-requires-clause-between g c κs within = subst (λ s. IsBetweenWaves s.desk) (sym c.in_ok-request.ensures.same) c.requires.between
+end-requires-clause-between g c = subst (λ s. IsBetweenWaves s.desk) (sym c.in_ok-request.ensures.same) c.requires.between
 
 pub wave-requires-clause-between : goal.wave-requires-clause-between
 wave-requires-clause-between g c κs within = subst (λ s. IsBetweenWaves s.desk) (sym c.in_ok-request.ensures.same) c.requires.between

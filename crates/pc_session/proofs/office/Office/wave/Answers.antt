@@ -11,6 +11,20 @@ deliver-requires-clause-whole g c κs within = c.in_ok-join_awaited.ensures.whol
 pub deliver-requires-clause-none_waits : goal.deliver-requires-clause-none_waits
 deliver-requires-clause-none_waits g c κs within = c.in_ok-join_awaited.ensures.none_waits
 
+pub loop-init : goal.loop-init
+loop-init g c = (
+  c.in_ok-deliver.ensures.calls,
+  inside_both c.args.self.now c.join_awaited.new.self c.deliver.new.self c.in_ok-join_awaited.ensures.goes c.in_ok-deliver.ensures.goes,
+  c.in_ok-deliver.ensures.clock ∙ c.in_ok-join_awaited.ensures.clock,
+  c.in_ok-deliver.ensures.all,
+  c.in_ok-deliver.ensures.whole,
+)
+
+pub returns-in_err-deliver-clause-ended : goal.returns-in_err-deliver-clause-ended
+returns-in_err-deliver-clause-ended g c =
+    let p = err_from_is_err_and c.from_residual-in_err-deliver.result c.from_residual-in_err-deliver.ensures.1 in
+    rw (p.1, p.2) (inside_breaks c.args.self.now c.join_awaited.new.self c.deliver.new.self.desk c.in_err-deliver.field-0.0 c.in_ok-join_awaited.ensures.calls.track c.in_err-deliver.ensures.ended c.in_ok-join_awaited.ensures.goes)
+
 pub hear-requires-clause-none_waits : goal.hear-requires-clause-none_waits
 hear-requires-clause-none_waits g c = c.loop.invariant.3
 

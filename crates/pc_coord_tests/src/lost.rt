@@ -1,0 +1,121 @@
+//! A commit whose messages are lost, where a request may be sent twice without an answer.
+
+use pc_base::{Key, Priority, Timestamp, TxnId, Value};
+use pc_coord::{Coordinator, Next};
+use pc_proto::{Answer, Call, Keys, Reply, Request, View};
+use std::alloc::Global;
+use std::test::Fail;
+
+const TRIES: u32 = 2;
+
+const READING: u64 = 10;
+
+const ID: TxnId = TxnId {
+    session: 1,
+    number: 1,
+};
+
+/// Whether what is due is to be told, and just this; it was told then.
+fn tells(session: &mut Coordinator, answer: Answer) -> Option<bool> {
+    let next = session.next().ok()?;
+    session.told();
+    Some(next == Next::Tell(answer))
+}
+
+/// Whether what is due is a stage of one write that is in flight; it was sent under this number then.
+fn stages(session: &mut Coordinator, number: u64) -> Option<bool> {
+    let next = session.next().ok()?;
+    session.sent(number).ok()?;
+    match next {
+        Next::Send(Request::Stage { ts, writes, .. }) => {
+            Some(ts == Timestamp::new(READING, 0) && writes.len() == 1)
+        }
+        _ => Some(false),
+    }
+}
+
+/// Whether what is due is a commit at this timestamp; it was sent under this number then.
+fn commits(session: &mut Coordinator, number: u64, at: Timestamp) -> Option<bool> {
+    let next = session.next().ok()?;
+    session.sent(number).ok()?;
+    match next {
+        Next::Send(Request::Commit { ts, .. }) => Some(ts == at),
+        _ => Some(false),
+    }
+}
+
+/// Whether the wave is due, in which the message of this number is waited for.
+fn waits(session: &Coordinator, number: u64) -> Option<bool> {
+    let next = session.next().ok()?;
+    Some(next == Next::Wave && session.waits_for(number))
+}
+
+/// Whether a put is told written as soon as its message 1 went out, and message 2 is then the stage of its commit, beside it.
+fn stages_a_put(session: &mut Coordinator, alloc: Global) -> Option<bool> {
+    session.ask(Call::Begin(Priority::Normal), READING).ok()?;
+    let ts = Timestamp::new(READING, 0);
+    let begun = tells(session, Answer::Begun { id: ID, ts })?;
+    let key = Key::new(alloc, b"a").ok()?;
+    let value = Value::new(alloc, b"x").ok()?;
+    session.ask(Call::Put(key, value), READING).ok()?;
+    let put = matches!(session.next().ok()?, Next::Later(Request::Put { .. }));
+    session.sent(1).ok()?;
+    let written = tells(session, Answer::Written)?;
+    session.ask(Call::Commit, READING).ok()?;
+    let staged = stages(session, 2)?;
+    let beside = waits(session, 1)? && waits(session, 2)?;
+    session.heard(1, 1, &Reply::Written { ts }).ok()?;
+    Some(begun && put && written && staged && beside)
+}
+
+/// What each step of a commit is whose stage is lost, and lost once more.
+fn loses_its_stage(session: &mut Coordinator, alloc: Global) -> Option<[bool; 4]> {
+    let staged = stages_a_put(session, alloc)?;
+    session.lost(2).ok()?;
+    let again = stages(session, 3)?;
+    let waited = waits(session, 3)?;
+    session.lost(3).ok()?;
+    Some([
+        staged,
+        again,
+        waited,
+        tells(session, Answer::Unknown { id: ID })?,
+    ])
+}
+
+/// What each step of a commit is whose stage comes back undecided, above it, and whose commit is then lost, and lost once more.
+fn loses_its_commit(session: &mut Coordinator, alloc: Global) -> Option<[bool; 4]> {
+    let staged = stages_a_put(session, alloc)?;
+    let above = Timestamp::new(READING, 5);
+    let moved = View::Pending {
+        epoch: 0,
+        ts: above,
+    };
+    session.heard(2, 2, &Reply::Status(moved)).ok()?;
+    let first = commits(session, 3, above)?;
+    session.lost(3).ok()?;
+    let again = commits(session, 4, above)?;
+    session.lost(4).ok()?;
+    Some([
+        staged,
+        first,
+        again,
+        tells(session, Answer::Unknown { id: ID })?,
+    ])
+}
+
+#[test]
+fn a_stage_that_is_lost_twice_leaves_the_commit_unknown(rt: HostRuntime) -> Result<(), Fail> {
+    let splits = Keys::new(rt.alloc());
+    let mut session = Coordinator::new(rt.alloc(), 1, TRIES, true, &splits);
+    assert_eq!(rt; loses_its_stage(&mut session, rt.alloc()), Some([true; 4]));
+    Ok(())
+}
+
+#[test]
+fn a_commit_that_is_lost_twice_leaves_it_unknown(rt: HostRuntime) -> Result<(), Fail> {
+    let splits = Keys::new(rt.alloc());
+    let mut session = Coordinator::new(rt.alloc(), 1, TRIES, true, &splits);
+    assert_eq!(rt; loses_its_commit(&mut session, rt.alloc()), Some([true; 4]));
+    Ok(())
+}
