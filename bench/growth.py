@@ -1,8 +1,8 @@
 #!/usr/bin/env python3
-"""growth.py BINARY [N [PLAIN]]: how the time of `BINARY run` grows with the workload, and how it stands to a plain program's.
+"""growth.py BINARY [N [PLAIN [RUNS]]]: how the time of `BINARY run` grows with the workload, and how it stands to a plain program's.
 
-Each case runs with N/8, N/4, N/2 and N statements (N is 4000 where it is not given), five times each, every run in a process of its own. Each
-line that is printed: the case, the medians of the processor seconds at the four sizes, the exponent between the first and the last of them, that of
+Each case runs with N/8, N/4, N/2 and N statements (N is 4000 where it is not given), RUNS times each (five where that is not given), every run in a
+process of its own. Each line that is printed: the case, the medians of the processor seconds at the four sizes, the exponent between the first and the last of them, that of
 the entries in the journal between the same two, and, where PLAIN is given, the same of PLAIN, which runs in turn with BINARY so that both meet
 the same other work, and how many times its seconds BINARY takes at the two larger sizes. PLAIN must write the same bytes.
 """
@@ -14,7 +14,6 @@ import subprocess
 import sys
 import tempfile
 
-RUNS = 5
 PARTS = (8, 4, 2, 1)
 
 
@@ -114,14 +113,14 @@ def output(binary, path):
         return sink.read()
 
 
-def medians(binaries, path):
-    """The median of each program's seconds; they run in turn."""
+def medians(binaries, path, runs):
+    """The median of each program's seconds in so many runs; they run in turn."""
     with open(os.devnull, "wb") as sink:
-        runs = [[seconds(binary, path, sink) for binary in binaries] for _ in range(RUNS)]
-    return [statistics.median(run) for run in zip(*runs)]
+        times = [[seconds(binary, path, sink) for binary in binaries] for _ in range(runs)]
+    return [statistics.median(own) for own in zip(*times)]
 
 
-def measured(binaries, work):
+def measured(binaries, work, runs):
     """The seconds of each program, and the entries."""
     with tempfile.NamedTemporaryFile("w", suffix=".json") as file:
         json.dump(work, file)
@@ -131,7 +130,7 @@ def measured(binaries, work):
         for plain in binaries[1:]:
             if output(plain, file.name) != written:
                 raise RuntimeError("the plain program writes something else")
-        return medians(binaries, file.name), entries
+        return medians(binaries, file.name, runs), entries
 
 
 def exponent(counts):
@@ -144,13 +143,14 @@ def grown(times):
 
 
 def main():
-    if len(sys.argv) not in (2, 3, 4):
+    if len(sys.argv) not in (2, 3, 4, 5):
         print(__doc__, file=sys.stderr)
         return 2
     size = int(sys.argv[2]) if len(sys.argv) > 2 else 4000
-    binaries = [os.path.abspath(word) for word in sys.argv[1:2] + sys.argv[3:]]
+    binaries = [os.path.abspath(word) for word in sys.argv[1:2] + sys.argv[3:4]]
+    runs = int(sys.argv[4]) if len(sys.argv) > 4 else 5
     for name, made in CASES:
-        rows = [measured(binaries, made(size // part)) for part in PARTS]
+        rows = [measured(binaries, made(size // part), runs) for part in PARTS]
         own, *plain = zip(*(times for times, _ in rows))
         line = "%-28s %s, of entries %.2f" % (name, grown(own), exponent([entries for _, entries in rows]))
         for other in plain:
