@@ -29,7 +29,7 @@ use Rattle.pc_call.specs.Paced.{IsPaced}
 use Rattle.pc_call.specs.Rounding.{KeepsPace, MakesRound, IsPushedOnce}
 use Rattle.pc_call.specs.Serving.{AreReadsOf, HasBeatenBy, InCall, IsReadFor, IsOpenFor, IsSplit, LaysLast, LaysNext, NoOtherMetEighth, ReadsNothing, SendsAgain, Serves, ServesAbort, ServesBeat, ServesCommit, ServesProve, ServesRead, ServesRefresh, ServesWrite, WaitsMeanwhile, holder_met, holders_met, out_of, ServesQuery, ServesLastBeat}
 use Rattle.pc_call.specs.Waiting.{waits_on}
-use Rattle.pc_follows.specs.Heartbeats.{HasBeaten, is_heartbeat}
+use Rattle.pc_follows.specs.Heartbeats.{is_heartbeat}
 use Rattle.pc_follows.specs.PipelinedPuts.{heard_before, proves, was_in_flight}
 use Rattle.pc_proto.specs.declared.call.Call.{Call}
 use Rattle.pc_proto.specs.declared.reply.Reply.{Reply}
@@ -48,12 +48,12 @@ use Rattle.pc_txn.specs.Writing.{WasAskedAt}
 use Rattle.pc_wave.proofs.Changed.{found_all}
 use Rattle.pc_wave.proofs.ForCall.{same_before}
 use Rattle.pc_wave.proofs.Lists.{at_least-before}
-use Rattle.pc_wave.proofs.Rounds.{due_round, first_found, found_at, wave_again, wave_went}
+use Rattle.pc_wave.proofs.Rounds.{found_at, wave_again, wave_went}
 use Rattle.pc_wave.specs.declared.message.Message.{Message}
 use Rattle.pc_wave.specs.Due.{MadeRound}
 use Rattle.pc_wave.specs.declared.message.Progress.TheVariants as progresses
 use Rattle.pc_wave.specs.declared.step.Step.TheVariants as steps
-use Rattle.pc_wave.specs.Messages.{conflicts_at, first_changed, goes_again, has_answer, is_in_conflict, is_to_send, progress_conflicts, progress_has_answer, progress_to_send, step_of}
+use Rattle.pc_wave.specs.Messages.{conflicts_at, first_changed, goes_again, is_in_conflict, is_to_send, progress_conflicts, progress_has_answer, progress_to_send, step_of}
 use Rattle.pc_wave.specs.Standing.{AreOfTwo, IsAsFar, MessageStands, MetConflict, Pairwise, WaveStands, goes_beside}
 use Rattle.pc_world.specs.Answering.{IsRefreshReply, MayAnswer}
 use Rattle.pc_world.specs.Counting.{AtLeast}

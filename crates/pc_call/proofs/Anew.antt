@@ -1,65 +1,34 @@
 -- The messages of a wave with the one of which nothing is heard to be sent again, or without it.
-use Rattle.std.proofs.Common.{◌≡◌, ℕ, ◌+◌, ◌≤◌, nat_lt, zero, suc, ◌<◌, Bool, true, false, cond, not, ◌&&◌, ◌||◌, ◌⊎◌, inl, inr, length, is_some, position, List, [], ◌∷◌, ◌++◌, map, Option, Some, None, option_to_list, refl, sym, ap, ◌∙◌, subst, arith, All, Any, Contains, IsTrue}
+use Rattle.std.proofs.Common.{◌≡◌, ℕ, ◌+◌, ◌≤◌, nat_lt, zero, suc, ◌<◌, Bool, true, false, cond, not, ◌&&◌, ◌||◌, ◌⊎◌, inl, inr, length, is_some, position, List, [], ◌∷◌, ◌++◌, map, None, option_to_list, refl, sym, ap, ◌∙◌, subst, arith, All, Any}
 use Rattle.std.specs.List.{after_first, before_first, list_any, position_or_len}
-use Rattle.std.proofs.lemmas.Bool.{eqb-true, ltb-false}
+use Rattle.std.proofs.lemmas.Bool.{ltb-false}
 use Rattle.std.proofs.lemmas.Grind.{common_steps}
-use Rattle.std.proofs.lemmas.Option.{same_Some}
-use Rattle.std.proofs.lemmas.List.{append-nil}
-use Rattle.std.proofs.lemmas.List.Elements.{All-append, All-cons, All-head, All-nil, All-tail, All-weaker}
-use Rattle.pc_base.specs.declared.limits.TheConstants.{MOST_CONFLICTS}
-use Rattle.pc_base.specs.declared.transaction.TxnId.{TxnId}
-use Rattle.pc_call.proofs.Beside.{past_of}
-use Rattle.pc_call.proofs.Eighths.{at_least-weaker, same_sym, same_trans}
-use Rattle.pc_call.proofs.Lists.{all_behind, all_front, all_unmapped, kept_by}
-use Rattle.pc_call.proofs.StageLists.{front_two, order_kept}
-use Rattle.pc_call.specs.Beside.{AreAskedOrDone, IsAskedOrDone, is_query}
+use Rattle.std.proofs.lemmas.List.Elements.{All-cons, All-head, All-nil, All-tail, All-weaker}
+use Rattle.pc_call.proofs.Lists.{all_behind, kept_by}
+use Rattle.pc_call.specs.Beside.{is_query}
 use Rattle.pc_call.specs.declared.purpose.Purpose.{Purpose}
 use Rattle.pc_call.specs.declared.purpose.Purpose.TheVariants as purposes
 use Rattle.pc_call.specs.Losses.{is_late_out, stages_late, wave_lost}
 use Rattle.pc_call.specs.Met.{AreMetBy}
-use Rattle.pc_call.specs.Paced.{IsPaced}
-use Rattle.pc_call.specs.Serving.{AreReadsOf, InCall, IsAnswerTo, IsOpenFor, PutsEarlier, IsReadFor, LaysLast, LaysNext, MetNoOtherWrite, SendsAgain, Serves, ServesAbort, ServesBeat, ServesLastBeat, ServesProve, ServesQuery, ServesRead, ServesRefresh, ServesStage, ServesWrite, StageIsOut, StageStands, WaitsMeanwhile, holder_met, holders_met, out_of}
-use Rattle.pc_call.specs.Setting.{Setting}
-use Rattle.pc_call.specs.Waiting.{waits_on}
+use Rattle.pc_call.specs.Serving.{IsAnswerTo, IsOpenFor, MetNoOtherWrite, SendsAgain, holder_met, holders_met}
 use Rattle.pc_flight.specs.declared.write.WriteInFlight.{WriteInFlight}
-use Rattle.pc_base.specs.declared.span.Span.{Span}
-use Rattle.pc_follows.specs.AgainInOneWave.{sent_for_call}
-use Rattle.pc_follows.specs.RoundsMade.{rounds_made}
 use Rattle.pc_lists.proofs.Anywhere.{any_head, any_later}
 use Rattle.pc_proto.specs.declared.call.Call.{Call}
 use Rattle.pc_proto.specs.declared.call.Call.TheVariants as calls
-use Rattle.pc_proto.specs.declared.answer.Answer.{Answer}
 use Rattle.pc_proto.specs.declared.request.Request.{Request}
 use Rattle.pc_proto.specs.declared.request.Request.TheVariants as requests
-use Rattle.pc_proto.specs.declared.why.Why.{Why}
 use Rattle.pc_proto.specs.Requests.{is_stage}
-use Rattle.pc_reads.specs.ReadsStanding.{refresh_to}
 use Rattle.pc_reads.specs.Replies.{unrefreshed_in}
-use Rattle.pc_staging.proofs.Deciding.{live_kept, live_stage}
-use Rattle.pc_staging.proofs.Evidenced.{late_refuted, refuted_late, write_late}
-use Rattle.pc_staging.proofs.Hears.{evidence_of}
-use Rattle.pc_staging.specs.declared.stage_out.StageOut.{StageOut}
-use Rattle.pc_staging.specs.Kept.{is_live_at, is_refuted}
-use Rattle.pc_staging.specs.Standing.{IsEvidenceOf}
 use Rattle.pc_txn.specs.declared.txn.OpenTxn.{OpenTxn}
-use Rattle.pc_txn.specs.Opened.{own_get, own_scan}
-use Rattle.pc_txn.specs.Standing.{TxnStands}
-use Rattle.pc_wave.proofs.Changed.{any_none, found_all, found_passes, found_some}
-use Rattle.pc_wave.proofs.Lists.{at_least-fewer}
-use Rattle.pc_wave.proofs.Losing.{lost_stands}
 use Rattle.pc_wave.specs.declared.message.Message.{Message}
 use Rattle.pc_wave.specs.declared.message.Progress.{Progress}
 use Rattle.pc_wave.specs.declared.message.Progress.TheVariants as progresses
 use Rattle.pc_wave.specs.Messages.{awaits_at, first_changed, lost_of, one_lost_more, progress_awaits, progress_has_answer, progress_in_conflict, progress_to_send, wave_awaits}
-use Rattle.pc_wave.specs.Standing.{AreOfTwo, IsAsFar, MessageStands, Pairwise, WaveStands, sends_counted}
-use Rattle.pc_world.specs.Counting.{AtLeast}
+use Rattle.pc_wave.specs.Standing.{AreOfTwo, Pairwise}
 use Rattle.pc_world.specs.Known.{Known}
-use Rattle.pc_world.specs.Known.Traffic.{Heard, Sent, request_sent}
+use Rattle.pc_world.specs.Known.Traffic.{Heard, Sent}
 use Rattle.pc_world.specs.Known.Transactions.{Txn}
-use Rattle.pc_world.specs.RangeOf.{pieces}
 use Rattle.pc_world.specs.SameRequest.{IsSameRequest}
-use Rattle.pc_world.specs.StageFate.{IsLate}
-use Rattle.pc_world.specs.Tell.Refusal.{IsConflictOf}
 use Rattle.pc_call.proofs.Facts.{unsent_goes}
 
 -- The message whose reply is waited for is neither to be sent nor answered, and met no intent.

@@ -1,5 +1,5 @@
 -- Where writes are pipelined, a call that writes is told so as its put goes out.
-use Rattle.std.proofs.Common.{◌≡◌, ℕ, ◌+◌, ◌<◌, ◌≤◌, true, false, ◌⊎◌, inl, inr, List, [], ◌∷◌, Option, None, Some, find, length, refl, sym, ap, ◌∙◌, subst, arith, All, Any, Contains, IsTrue}
+use Rattle.std.proofs.Common.{◌≡◌, ℕ, ◌<◌, ◌≤◌, true, false, ◌⊎◌, inl, inr, List, [], ◌∷◌, Option, None, Some, length, refl, sym, ap, ◌∙◌, subst, arith, All}
 use Rattle.std.proofs.lemmas.List.Elements.{All-cons, All-contains, All-head, All-nil, All-push, All-weaker}
 use Rattle.std.proofs.lemmas.Option.{same_Some}
 use Rattle.pc_base.specs.declared.limits.TheConstants.{MOST_CONFLICTS}
@@ -7,7 +7,7 @@ use Rattle.pc_base.specs.Span.{same_key}
 use Rattle.pc_call.proofs.Eighths.{none_eighth}
 use Rattle.pc_call.proofs.Facts.{are_numbered, open_is}
 use Rattle.pc_call.proofs.Landing.{HasWritten, asks_for, not_false, written_told}
-use Rattle.pc_call.proofs.Lists.{all_behind, only_found}
+use Rattle.pc_call.proofs.Lists.{all_behind}
 use Rattle.pc_call.proofs.Steps.{first_back, one2, one_message, open2, write_sends}
 use Rattle.pc_call.specs.declared.purpose.Purpose.{Purpose}
 use Rattle.pc_call.specs.declared.purpose.Purpose.TheVariants as purposes
@@ -20,7 +20,6 @@ use Rattle.pc_flight.specs.declared.write.WriteInFlight.{WriteInFlight}
 use Rattle.pc_follows.specs.Eighth.{MetEighth}
 use Rattle.pc_follows.specs.PipelinedPuts.{IsToOwnPut}
 use Rattle.pc_lists.proofs.Anywhere.{any_last}
-use Rattle.pc_lists.proofs.Lists.{all_from_contains}
 use Rattle.pc_lists.proofs.Same.{same_key-self}
 use Rattle.pc_proto.specs.declared.answer.Answer.TheVariants as answers
 use Rattle.pc_proto.specs.declared.call.Call.{Call}

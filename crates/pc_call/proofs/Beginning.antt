@@ -31,7 +31,6 @@ use Rattle.pc_call.specs.Stages.{HasOutbox}
 use Rattle.pc_call.specs.Suiting.{SuitsFlightIn}
 use Rattle.pc_call.specs.Waiting.{depends_on, waits_for_some, waits_on}
 use Rattle.pc_flight.specs.declared.write.WriteInFlight.{WriteInFlight}
-use Rattle.pc_follows.specs.AgainInOneWave.{WasSentPastConflicts}
 use Rattle.pc_follows.specs.Heartbeats.{is_heartbeat}
 use Rattle.pc_follows.specs.PipelinedPuts.{heard_before, IsFull}
 use Rattle.pc_lists.proofs.Anywhere.{any_of}

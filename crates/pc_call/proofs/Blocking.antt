@@ -1,5 +1,5 @@
 -- An open call is told what blocks it, and its transaction stays open.
-use Rattle.std.proofs.Common.{◌≡◌, ℕ, ◌+◌, ◌≤◌, Bool, true, false, cond, find, ◌⊎◌, inl, inr, List, [], ◌∷◌, ◌++◌, arith, Option, None, Some, IfSome, refl, sym, ap, ◌∙◌, subst, All, Any, IsTrue}
+use Rattle.std.proofs.Common.{◌≡◌, ℕ, ◌+◌, Bool, true, false, cond, find, ◌⊎◌, inl, inr, List, [], ◌∷◌, ◌++◌, arith, Option, None, Some, IfSome, refl, sym, ap, ◌∙◌, subst, All, Any, IsTrue}
 use Rattle.std.proofs.lemmas.List.Elements.{All-cons, All-head, All-nil, All-tail, All-weaker}
 use Rattle.std.proofs.lemmas.Option.{same_Some}
 use Rattle.std.specs.Option.{option_map}
@@ -8,7 +8,6 @@ use Rattle.pc_call.specs.Beaten.{HasBeatenIn}
 use Rattle.pc_call.specs.Setting.{Setting}
 use Rattle.pc_base.specs.declared.transaction.TxnId.{TxnId}
 use Rattle.pc_call.proofs.Beating.{IsSilentHeard, IsSilentSent, beaten_beside, beaten_tells}
-use Rattle.pc_follows.specs.Heartbeats.{HasBeaten}
 use Rattle.pc_call.proofs.Again.{beside_quiet, beside_silent}
 use Rattle.pc_call.proofs.Eighths.{any_eighth, told_blocked}
 use Rattle.pc_call.proofs.Rounding.{HasBlock, IsBlockable, IsBlockedCall, IsStage, blocked_call, blocked_due, blocked_eighth, round_blocks}
@@ -57,7 +56,7 @@ use Rattle.pc_world.specs.Known.Statements.{Statement}
 use Rattle.pc_world.specs.Known.Traffic.{Heard}
 use Rattle.pc_world.specs.Known.Transactions.{Txn}
 use Rattle.pc_world.specs.Send.Recovery.{was_refused}
-use Rattle.pc_world.specs.Tell.Refusal.{IsConflictOf, IsUncommittedIn, MayBlock, MetEight}
+use Rattle.pc_world.specs.Tell.Refusal.{IsConflictOf, IsUncommittedIn, MetEight}
 
 -- another call than a commit asks for nothing here
 uncommitted : (k : Known) (call : Call) → (call ≡ calls.Commit → ⊥) → IsUncommittedIn k call

@@ -24,7 +24,6 @@ use Rattle.pc_call.specs.declared.purpose.Purpose.TheVariants as purposes
 use Rattle.pc_call.specs.Serving.{HasBeatenBy, InCall, IsOpenIn, Serves, ServesStage, StageStands, out_of}
 use Rattle.pc_call.specs.Telling.{MayBeTold}
 use Rattle.pc_follows.specs.FinishingJobs.{committed_fate, committing, finishing_messages, is_commit_told, left_by, left_committed, settling}
-use Rattle.pc_follows.specs.Heartbeats.{HasBeaten}
 use Rattle.pc_lists.proofs.Lists.{all_from_contains}
 use Rattle.pc_proto.specs.declared.answer.Answer.{Answer}
 use Rattle.pc_proto.specs.declared.answer.Answer.TheVariants as answers

@@ -23,7 +23,6 @@ use Rattle.pc_call.specs.Paced.{IsPaced}
 use Rattle.pc_call.specs.Serving.{InCall, IsCommitBelow, IsMetUpTo, IsRefreshGoneOut, IsRefreshUpTo, IsRefusedBy, HasBeatenBy, KeepsStages, MeetsByPut, MetNoOtherWrite, MetNoWrite, Serves, WaitsMeanwhile, WasRefusedIfCommit, out_of}
 use Rattle.pc_call.specs.Stages.{CommitsOnFrom, HasOutbox}
 use Rattle.pc_call.specs.Suiting.{SuitsFlightIn}
-use Rattle.pc_follows.specs.AgainInOneWave.{WasSentPastConflicts}
 use Rattle.pc_follows.specs.Heartbeats.{is_heartbeat}
 use Rattle.pc_proto.specs.declared.call.Call.TheVariants as calls
 use Rattle.pc_proto.specs.declared.reply.Reply.{Reply}

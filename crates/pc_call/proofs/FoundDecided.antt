@@ -1,5 +1,5 @@
 -- The record of a transaction that stages, or sends its last heartbeat, was heard to be decided: its call is told so.
-use Rattle.std.proofs.Common.{◌≡◌, ℕ, ◌+◌, ◌≤◌, max, Bool, true, false, cond, ◌&&◌, ◌||◌, inl, inr, List, [], ◌∷◌, ◌++◌, map, Option, Some, None, IfSome, is_some, refl, sym, ap, ◌∙◌, subst, arith, All, Any, Contains, IsTrue}
+use Rattle.std.proofs.Common.{◌≡◌, ℕ, ◌+◌, ◌≤◌, max, Bool, true, false, cond, ◌&&◌, ◌||◌, inl, inr, List, [], ◌∷◌, ◌++◌, map, Some, IfSome, is_some, refl, sym, ap, ◌∙◌, subst, arith, All, Contains, IsTrue}
 use Rattle.std.specs.List.{list_any}
 use Rattle.std.specs.Option.{option_map_or, option_or}
 use Rattle.std.proofs.lemmas.Bool.{and_from, and_parts, eq-eqb}
@@ -9,14 +9,13 @@ use Rattle.std.proofs.lemmas.Option.{same_Some}
 use Rattle.pc_call.proofs.Closing.{closing-left, closing-may, opened3}
 use Rattle.pc_call.proofs.Eighths.{any_eighth}
 use Rattle.pc_call.proofs.Ending.{EndsWith, IsFinalAs, anchor-last, fate_is, final_aborted, final_committed}
-use Rattle.pc_call.proofs.Facts.{open_is}
 use Rattle.pc_call.proofs.Told.{may_tell, still_open}
 use Rattle.pc_call.specs.Behind.{left_behind}
 use Rattle.pc_call.specs.declared.over.Left.{Left}
 use Rattle.pc_call.specs.declared.purpose.Purpose.{Purpose}
 use Rattle.pc_call.specs.Finished.{MayBeCommittedFirst, MayBeSettled, MayTellOver, left_at, left_messages}
 use Rattle.pc_call.specs.Learned.{known_heard, known_told}
-use Rattle.pc_call.specs.Serving.{InCall, IsOpenIn}
+use Rattle.pc_call.specs.Serving.{InCall}
 use Rattle.pc_call.specs.Setting.{Setting}
 use Rattle.pc_follows.specs.Eighth.{IsEndAnswer, TellsTheEighth}
 use Rattle.pc_follows.specs.FinishingJobs.{committed_fate, committing, finishing_messages, is_commit_told, left_committed, settling}
@@ -49,7 +48,7 @@ use Rattle.pc_world.specs.Known.Traffic.{Heard, replies_to}
 use Rattle.pc_world.specs.Known.Transactions.{Txn, meta_of, txn_heard, txn_told}
 use Rattle.pc_world.specs.MayTell.{is_past_range}
 use Rattle.pc_world.specs.Send.Settling.{ShowsFate}
-use Rattle.pc_world.specs.Views.{ShowsAborted, anchor_heard, fate_heard, shows_committed, shows_view}
+use Rattle.pc_world.specs.Views.{ShowsAborted, anchor_heard, shows_committed, shows_view}
 
 -- where no view of it was final, no commit of it was answered that it is committed
 pub none_told : (t : Txn) (heard : List Heard) (ts : ℕ) → All (IsUndecidedOf t) heard → list_any (is_commit_told t.id ts) heard ≡ false

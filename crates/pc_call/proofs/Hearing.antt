@@ -37,7 +37,6 @@ use Rattle.pc_call.specs.Paced.{IsPaced, was_met, was_pushed}
 use Rattle.pc_call.specs.Serving.{AreReadsOf, HasBeatenBy, InCall, IsAnswerTo, IsMetUpTo, IsOpenFor, IsOpenIn, IsReadFor, IsRefreshGoneOut, IsRefusedBy, IsSplit, KeepsStages, LaysLast, LaysNext, MayBePutAgain, MeetsByPut, MetNoOtherWrite, NoOtherMetEighth, NoneMetEighth, ReadsNothing, SendsAgain, Serves, ServesProve, ServesRead, ServesRefresh, ServesWrite, WaitsMeanwhile, WasRefusedIfCommit, conflicts_before, holders_met, out_of, IsOutOrLost}
 use Rattle.pc_call.specs.Suiting.{SuitsFlightIn}
 use Rattle.pc_call.specs.Waiting.{waits_on}
-use Rattle.pc_follows.specs.Heartbeats.{HasBeaten}
 use Rattle.pc_follows.specs.OwnStages.{refuses_stage}
 use Rattle.pc_follows.specs.PipelinedPuts.{heard_before, proves}
 use Rattle.pc_lists.proofs.Anywhere.{any_head, any_kept, any_later}
@@ -77,7 +76,7 @@ use Rattle.pc_wave.proofs.Hearing.{awaits_as, came_request, wave_heard}
 use Rattle.pc_wave.proofs.Lists.{at_least-before}
 use Rattle.pc_wave.specs.declared.message.Message.{Message}
 use Rattle.pc_wave.specs.declared.message.Progress.TheVariants as progresses
-use Rattle.pc_wave.specs.Messages.{awaits_at, back_with, back_with_by, first_changed, has_answer, is_to_send, progress_awaits, progress_has_answer, progress_to_send, wave_awaits}
+use Rattle.pc_wave.specs.Messages.{awaits_at, back_with, back_with_by, first_changed, has_answer, progress_awaits, progress_has_answer, progress_to_send, wave_awaits}
 use Rattle.pc_wave.specs.Standing.{AreOfTwo, HasMore, IsAsFar, IsHeardTo, IsOnItsWay, MessageStands, Pairwise, WaveStands, goes_beside}
 use Rattle.pc_world.specs.Answering.{IsRefreshReply, MayAnswer}
 use Rattle.pc_world.specs.Known.{Known}

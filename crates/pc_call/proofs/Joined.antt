@@ -1,5 +1,5 @@
 -- An open call goes on, whatever its messages are sent for: one goes out, a reply is heard, a round was made.
-use Rattle.std.proofs.Common.{◌≡◌, ℕ, true, false, List, [], Some, refl, sym, ap, ◌∙◌, subst, find, All}
+use Rattle.std.proofs.Common.{◌≡◌, ℕ, true, List, [], Some, refl, sym, ap, ◌∙◌, subst, find, All}
 use Rattle.pc_call.proofs.Again.{abort_again, beat_again, commit_again, last_again, prove_again, query_again, read_again, refresh_again, write_again}
 use Rattle.pc_call.proofs.Hearing.{call_proved, prove_hears, read_hears, refresh_hears, write_hears}
 use Rattle.pc_call.proofs.LastBeatSends.{last_beat_sends}
@@ -31,7 +31,6 @@ use Rattle.pc_wave.specs.Messages.{awaits_at, back_with, conflicts_at, first_cha
 use Rattle.pc_wave.specs.Standing.{IsHeardTo}
 use Rattle.pc_world.specs.Known.{Known, next_number}
 use Rattle.pc_world.specs.Known.Traffic.{Heard}
-use Rattle.pc_world.specs.StageFate.{SentStage}
 
 module _ (session clock count : ℕ) (set : Setting) (k : Known) (x : OpenTxn) (p : Purpose) (ms : List Message) (counted : IsCounted session clock count k) (w : InCall set k x p ms) where
   serves_as : (q : Purpose) → p ≡ q → Serves set k w.s w.t x w.stages q ms

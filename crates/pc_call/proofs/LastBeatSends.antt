@@ -1,5 +1,5 @@
 -- The last heartbeat of a commit that gives up goes out.
-use Rattle.std.proofs.Common.{◌≡◌, ℕ, ◌+◌, ◌≤◌, Bool, true, false, ◌||◌, ◌==◌, ◌⊎◌, inl, inr, List, [], ◌∷◌, ◌++◌, length, map, find, Option, Some, None, refl, sym, ap, ◌∙◌, subst, arith, All, Any, IsTrue}
+use Rattle.std.proofs.Common.{◌≡◌, ℕ, true, false, ◌||◌, ◌⊎◌, inl, inr, List, [], ◌∷◌, None, refl, sym, ap, ◌∙◌, subst, arith, All, IsTrue}
 use Rattle.std.proofs.lemmas.Bool.{eq-eqb}
 use Rattle.std.proofs.lemmas.List.{append-nil}
 use Rattle.std.proofs.lemmas.List.Elements.{All-push, All-weaker}
@@ -12,7 +12,7 @@ use Rattle.pc_call.specs.Learned.{known_sent}
 use Rattle.pc_call.specs.Opening.{after_send}
 use Rattle.pc_call.specs.Serving.{InCall, KeepsStages, Serves, ServesLastBeat, out_of}
 use Rattle.pc_call.specs.Setting.{Setting}
-use Rattle.pc_follows.specs.Heartbeats.{FindsAborted, IsBeatDue, is_heartbeat}
+use Rattle.pc_follows.specs.Heartbeats.{FindsAborted, is_heartbeat}
 use Rattle.pc_lists.proofs.Anywhere.{any_kept, any_weaker}
 use Rattle.pc_proto.specs.declared.answer.Answer.{Answer}
 use Rattle.pc_proto.specs.declared.request.Request.{Request}

@@ -1,5 +1,5 @@
 -- A commit that would give up while a recovery may have committed it sends its last heartbeat; and gives up once that showed a record that is not final.
-use Rattle.std.proofs.Common.{◌≡◌, ℕ, zero, suc, ◌+◌, ◌≤◌, ◌<◌, max, Bool, true, false, ◌||◌, ◌==◌, ◌⊎◌, inl, inr, List, [], ◌∷◌, ◌++◌, map, Option, Some, None, refl, sym, ap, ◌∙◌, subst, arith, All, Any, Contains, IsTrue}
+use Rattle.std.proofs.Common.{◌≡◌, ℕ, zero, suc, ◌+◌, ◌≤◌, Bool, true, false, ◌||◌, ◌==◌, ◌⊎◌, inl, inr, List, [], ◌∷◌, ◌++◌, map, Option, Some, None, refl, sym, ap, ◌∙◌, subst, arith, All, Any, Contains, IsTrue}
 use Rattle.std.proofs.lemmas.List.Elements.{All-cons, All-contains, All-head, All-nil, All-push, All-tail, All-weaker}
 use Rattle.std.proofs.lemmas.List.Folds.{list_any-append}
 use Rattle.std.proofs.lemmas.Option.{same_Some}
@@ -17,7 +17,6 @@ use Rattle.pc_call.proofs.Undecided.{no_final, stands_there, within_stamps}
 use Rattle.pc_call.proofs.WhyStays.{made_then, why_on, with_none}
 use Rattle.pc_call.specs.declared.purpose.Purpose.{Purpose}
 use Rattle.pc_call.specs.declared.purpose.Purpose.TheVariants as purposes
-use Rattle.pc_call.specs.Beaten.{HasBeatenIn}
 use Rattle.pc_call.specs.GivenUp.{GivesUpBy}
 use Rattle.pc_call.specs.GivingUp.{IsAfterAllHeard}
 use Rattle.pc_call.specs.Learned.{known_heard}

@@ -1,31 +1,28 @@
 -- Nothing is heard of a message of an open call: it is to be sent again; a stage that is late leaves the wave. Not yet of a call that commits.
-use Rattle.std.proofs.Common.{◌≡◌, ℕ, ◌+◌, ◌≤◌, nat_lt, zero, suc, ◌<◌, Bool, true, false, cond, not, ◌&&◌, ◌||◌, ◌==◌, ◌⊎◌, inl, inr, length, is_some, position, List, [], ◌∷◌, ◌++◌, map, Option, Some, None, option_to_list, refl, sym, ap, ◌∙◌, subst, arith, All, Any, Contains, IsTrue}
-use Rattle.std.specs.List.{after_first, before_first, list_any, position_or_len}
-use Rattle.std.proofs.lemmas.Bool.{eqb-true, ltb-false}
-use Rattle.std.proofs.lemmas.Grind.{common_steps}
+use Rattle.std.proofs.Common.{◌≡◌, ℕ, ◌+◌, ◌≤◌, ◌<◌, Bool, true, false, cond, not, ◌&&◌, ◌==◌, ◌⊎◌, inl, inr, List, [], ◌∷◌, ◌++◌, map, Some, None, refl, sym, ap, ◌∙◌, subst, arith, All, Any}
+use Rattle.std.specs.List.{list_any}
+use Rattle.std.proofs.lemmas.Bool.{eqb-true}
 use Rattle.std.proofs.lemmas.Option.{same_Some}
 use Rattle.std.proofs.lemmas.List.{append-nil}
-use Rattle.std.proofs.lemmas.List.Elements.{All-append, All-cons, All-head, All-nil, All-tail, All-weaker}
+use Rattle.std.proofs.lemmas.List.Elements.{All-append, All-cons, All-head, All-nil, All-weaker}
 use Rattle.pc_base.specs.declared.limits.TheConstants.{MOST_CONFLICTS}
 use Rattle.pc_base.specs.declared.transaction.TxnId.{TxnId}
 use Rattle.pc_call.proofs.Beside.{past_of}
 use Rattle.pc_call.proofs.Eighths.{at_least-weaker, same_sym, same_trans}
-use Rattle.pc_call.proofs.Lists.{all_behind, all_front, all_unmapped, kept_by}
+use Rattle.pc_call.proofs.Lists.{all_behind, all_front, all_unmapped}
 use Rattle.pc_call.proofs.StageLists.{front_two, order_kept, first_on, free_changed}
-use Rattle.pc_call.specs.Beside.{AreAskedOrDone, IsAskedOrDone, is_query}
+use Rattle.pc_call.specs.Beside.{AreAskedOrDone, IsAskedOrDone}
 use Rattle.pc_call.specs.declared.purpose.Purpose.{Purpose}
 use Rattle.pc_call.specs.declared.purpose.Purpose.TheVariants as purposes
-use Rattle.pc_call.specs.Losses.{is_late_out, stages_late, wave_lost}
+use Rattle.pc_call.specs.Losses.{stages_late, wave_lost}
 use Rattle.pc_call.specs.Met.{AreMetBy}
 use Rattle.pc_call.specs.Paced.{IsPaced}
-use Rattle.pc_call.specs.Serving.{AreReadsOf, InCall, IsAnswerTo, IsOpenFor, PutsEarlier, IsReadFor, LaysLast, LaysNext, MetNoOtherWrite, SendsAgain, Serves, ServesAbort, ServesBeat, ServesCommit, ServesLastBeat, ServesProve, ServesQuery, ServesRead, ServesRefresh, ServesStage, ServesWrite, StageIsOut, StageStands, WaitsMeanwhile, commit_asked, holder_met, holders_met, is_unsent, out_of, IsFirstUnmet}
+use Rattle.pc_call.specs.Serving.{AreReadsOf, InCall, IsOpenFor, PutsEarlier, IsReadFor, LaysLast, LaysNext, MetNoOtherWrite, SendsAgain, Serves, ServesAbort, ServesBeat, ServesCommit, ServesLastBeat, ServesProve, ServesQuery, ServesRead, ServesRefresh, ServesStage, ServesWrite, StageIsOut, StageStands, WaitsMeanwhile, commit_asked, holders_met, is_unsent, out_of, IsFirstUnmet}
 use Rattle.pc_call.specs.Setting.{Setting}
 use Rattle.pc_call.specs.Waiting.{waits_on}
-use Rattle.pc_flight.specs.declared.write.WriteInFlight.{WriteInFlight}
 use Rattle.pc_base.specs.declared.span.Span.{Span}
 use Rattle.pc_follows.specs.AgainInOneWave.{sent_for_call}
 use Rattle.pc_follows.specs.RoundsMade.{rounds_made}
-use Rattle.pc_lists.proofs.Anywhere.{any_head, any_later}
 use Rattle.pc_proto.specs.declared.call.Call.{Call}
 use Rattle.pc_proto.specs.declared.call.Call.TheVariants as calls
 use Rattle.pc_proto.specs.declared.answer.Answer.{Answer}
@@ -34,7 +31,6 @@ use Rattle.pc_proto.specs.declared.request.Request.TheVariants as requests
 use Rattle.pc_proto.specs.declared.why.Why.{Why}
 use Rattle.pc_proto.specs.Requests.{is_stage}
 use Rattle.pc_reads.specs.ReadsStanding.{refresh_to}
-use Rattle.pc_reads.specs.Replies.{unrefreshed_in}
 use Rattle.pc_staging.proofs.Deciding.{live_kept, live_stage}
 use Rattle.pc_staging.proofs.Evidenced.{late_refuted, refuted_late, write_late}
 use Rattle.pc_staging.proofs.Hears.{evidence_of}
@@ -50,12 +46,11 @@ use Rattle.pc_wave.proofs.Losing.{lost_stands}
 use Rattle.pc_wave.specs.declared.message.Message.{Message}
 use Rattle.pc_wave.specs.declared.message.Progress.{Progress}
 use Rattle.pc_wave.specs.declared.message.Progress.TheVariants as progresses
-use Rattle.pc_wave.specs.Messages.{awaits_at, first_changed, lost_of, one_lost_more, progress_awaits, progress_has_answer, progress_in_conflict, progress_to_send, wave_awaits}
+use Rattle.pc_wave.specs.Messages.{awaits_at, lost_of, one_lost_more, progress_awaits, wave_awaits}
 use Rattle.pc_wave.specs.Standing.{AreOfTwo, IsAsFar, MessageStands, Pairwise, WaveStands, sends_counted}
 use Rattle.pc_world.specs.Counting.{AtLeast}
 use Rattle.pc_world.specs.Known.{Known}
-use Rattle.pc_world.specs.Known.Traffic.{Heard, Sent, request_sent}
-use Rattle.pc_world.specs.Known.Transactions.{Txn}
+use Rattle.pc_world.specs.Known.Traffic.{Sent, request_sent}
 use Rattle.pc_world.specs.RangeOf.{pieces}
 use Rattle.pc_world.specs.SameRequest.{IsSameRequest}
 use Rattle.pc_world.specs.StageFate.{IsLate}

@@ -1,5 +1,5 @@
 -- The puts that wait in the outbox, once some of them joined a wave: the others wait as before, apart from its messages.
-use Rattle.std.proofs.Common.{◌≡◌, ℕ, ◌<◌, ◌==◌, Bool, true, false, cond, if◌then◌else◌, ◌⊎◌, inl, inr, List, [], ◌∷◌, ◌++◌, filter, find, map, Option, None, Some, refl, sym, ap, ◌∙◌, subst, arith, All, Any, Contains, IsTrue, zero, suc}
+use Rattle.std.proofs.Common.{◌≡◌, ℕ, ◌<◌, Bool, true, false, cond, if◌then◌else◌, ◌⊎◌, inl, inr, List, [], ◌∷◌, ◌++◌, filter, map, Option, None, Some, refl, sym, ap, ◌∙◌, subst, arith, All, Any, Contains, zero, suc}
 use Rattle.std.specs.List.{after_first, before_first}
 use Rattle.std.proofs.lemmas.Bool.{eq-eqb, eqb-true}
 use Rattle.std.proofs.lemmas.Grind.{common_steps}
@@ -7,12 +7,12 @@ use Rattle.std.proofs.lemmas.List.Elements.{All-append, All-cons, All-contains, 
 use Rattle.pc_base.specs.declared.span.Span.{Span}
 use Rattle.pc_call.proofs.Taken.{waits_as_before}
 use Rattle.pc_call.specs.declared.later.LaterPut.{LaterPut}
-use Rattle.pc_call.specs.Outbox.{AreToSendOrOnWay, IsApartFrom, IsBeforeAll, IsHeardOrLeft, IsLeftPut, IsOnWayAs, IsReplyToMessage, IsSentAs, OutboxStands, has_put, is_later_of, proof_by, proof_in, proofs_in, waiting_put, without_put, without_puts}
-use Rattle.pc_call.specs.Stages.{HasOutbox, KeepsOutbox, WaitsBeside, put_messages}
+use Rattle.pc_call.specs.Outbox.{AreToSendOrOnWay, IsApartFrom, IsBeforeAll, IsHeardOrLeft, IsOnWayAs, IsReplyToMessage, IsSentAs, OutboxStands, has_put, is_later_of, proof_by, proof_in, proofs_in, waiting_put, without_put, without_puts}
+use Rattle.pc_call.specs.Stages.{HasOutbox, KeepsOutbox, put_messages}
 use Rattle.pc_call.specs.Serving.{conflicts_before}
 use Rattle.pc_call.specs.Waiting.{waits_on}
 use Rattle.pc_flight.specs.declared.write.WriteInFlight.{WriteInFlight}
-use Rattle.pc_lists.proofs.Anywhere.{any_behind, any_head, any_kept, any_later, any_of, any_weaker}
+use Rattle.pc_lists.proofs.Anywhere.{any_head, any_kept, any_later, any_weaker}
 use Rattle.pc_follows.specs.PipelinedPuts.{heard_before}
 use Rattle.pc_lists.proofs.Lists.{all_from_contains, contains_cons, contains_nil}
 use Rattle.pc_proto.specs.declared.call.Call.{Call}
@@ -26,7 +26,7 @@ use Rattle.pc_wave.proofs.Changed.{found_passes}
 use Rattle.pc_wave.specs.declared.message.Message.{Message}
 use Rattle.pc_wave.specs.Messages.{awaits_at, is_out, is_to_send, message_on_way, message_to_send}
 use Rattle.pc_world.specs.Known.{Known}
-use Rattle.pc_world.specs.Known.Traffic.{Heard, Sent}
+use Rattle.pc_world.specs.Known.Traffic.{Sent}
 use Rattle.pc_world.specs.Known.Transactions.{Txn}
 use Rattle.pc_world.specs.Tell.Data.{sent_before}
 

@@ -1,6 +1,6 @@
 -- All for which a call waited is proved, and it goes on by its own messages.
-use Rattle.std.proofs.Common.{◌≡◌, ℕ, ◌+◌, ◌<◌, ◌≤◌, Bool, true, false, ◌||◌, ◌⊎◌, inl, inr, List, [], ◌∷◌, length, map, Option, None, Some, Result, Ok, Err, IfOk, refl, sym, ap, ◌∙◌, subst, arith, All, Any, IsTrue, lit<, ◌&&◌, not}
-use Rattle.std.proofs.lemmas.List.Elements.{All-cons, All-head, All-map, All-nil, All-weaker}
+use Rattle.std.proofs.Common.{◌≡◌, ℕ, ◌<◌, Bool, true, false, ◌||◌, ◌⊎◌, inl, inr, List, [], ◌∷◌, length, map, Option, None, Some, Result, Ok, Err, IfOk, refl, sym, ap, ◌∙◌, subst, arith, All, Any, IsTrue, lit<, ◌&&◌, not}
+use Rattle.std.proofs.lemmas.List.Elements.{All-cons, All-head, All-nil, All-weaker}
 use Rattle.pc_call.specs.Beaten.{HasBeatenIn}
 use Rattle.pc_call.specs.Beside.{IsPastOrNoQuery, is_query}
 use Rattle.pc_call.specs.Setting.{Setting}
@@ -18,16 +18,14 @@ use Rattle.pc_call.specs.declared.call.OpenCall.{OpenCall}
 use Rattle.pc_call.specs.declared.later.LaterPut.{LaterPut}
 use Rattle.pc_call.specs.declared.purpose.Purpose.{Purpose}
 use Rattle.pc_call.specs.declared.purpose.Purpose.TheVariants as purposes
-use Rattle.pc_call.specs.Ended.{HasBegun, laying, own_messages, own_messages_by}
+use Rattle.pc_call.specs.Ended.{HasBegun, own_messages, own_messages_by}
 use Rattle.pc_call.specs.Paced.{IsPaced}
 use Rattle.pc_call.specs.Pieces.{scan_messages, spans_in}
-use Rattle.pc_call.specs.Serving.{AreReadsOf, HasBeatenBy, InCall, IsOpenFor, IsReadFor, KeepsStages, ReadsNothing, SendsAgain, Serves, ServesProve, WaitsMeanwhile, holders_met, out_of, write_call, is_last_beat}
+use Rattle.pc_call.specs.Serving.{AreReadsOf, HasBeatenBy, InCall, IsOpenFor, IsReadFor, KeepsStages, ReadsNothing, SendsAgain, Serves, ServesProve, WaitsMeanwhile, out_of, write_call, is_last_beat}
 use Rattle.pc_call.specs.Stages.{KeepsOutbox}
 use Rattle.pc_call.specs.Waiting.{BeginsBehindProofs, depends_on, waits_on}
 use Rattle.pc_flight.specs.declared.write.WriteInFlight.{WriteInFlight}
-use Rattle.pc_follows.specs.AgainInOneWave.{WasSentPastConflicts}
 use Rattle.pc_follows.specs.Eighth.{MetEighth}
-use Rattle.pc_follows.specs.Heartbeats.{HasBeaten}
 use Rattle.pc_lists.proofs.Anywhere.{any_of}
 use Rattle.pc_proto.specs.declared.call.Call.{Call}
 use Rattle.pc_proto.specs.declared.call.Call.TheVariants as calls
@@ -51,9 +49,9 @@ use Rattle.pc_world.proofs.Pieces.{pieces-differ}
 use Rattle.pc_world.specs.Counting.{AtLeast}
 use Rattle.pc_world.specs.Known.{Known}
 use Rattle.pc_world.specs.Known.Reads.{read_heard}
-use Rattle.pc_world.specs.Known.Traffic.{Heard, Sent}
+use Rattle.pc_world.specs.Known.Traffic.{Sent}
 use Rattle.pc_world.specs.RangeOf.{AreDistinct, pieces}
-use Rattle.pc_world.specs.SameRequest.{IsSamePut, IsSameRequest}
+use Rattle.pc_world.specs.SameRequest.{IsSameRequest}
 use Rattle.pc_world.specs.Tell.Refusal.{IsConflictOf}
 
 -- a request that reads is of one with none that reads nothing

@@ -1,5 +1,5 @@
 -- The push in the round of a conflict that a stage met was refused: the commit is blocked by it.
-use Rattle.std.proofs.Common.{◌≡◌, ◌≢◌, ℕ, ◌+◌, ◌<◌, ◌≤◌, Bool, true, false, cond, ◌==◌, ◌⊎◌, inl, inr, List, [], ◌∷◌, ◌++◌, length, map, find, Option, Some, None, refl, sym, ap, ◌∙◌, subst, arith, append_assoc, All, Any, Contains, IsTrue, count_by}
+use Rattle.std.proofs.Common.{◌≡◌, ℕ, ◌+◌, ◌≤◌, Bool, true, false, cond, ◌==◌, ◌⊎◌, inl, inr, List, [], ◌∷◌, ◌++◌, length, map, find, Option, Some, None, refl, sym, ap, ◌∙◌, subst, arith, append_assoc, All, Any, Contains, IsTrue}
 use Rattle.std.specs.List.{list_any}
 use Rattle.std.proofs.lemmas.Bool.{and_parts}
 use Rattle.std.proofs.lemmas.List.Elements.{All-append, All-cons, All-contains, All-head, All-nil, All-tail, All-weaker}
@@ -15,7 +15,6 @@ use Rattle.pc_call.proofs.Facts.{are_numbered, before_is, open_by, unmoved}
 use Rattle.pc_call.proofs.FoundBlocked.{held_without, met_head}
 use Rattle.pc_call.proofs.JustSo.{just_so_beside}
 use Rattle.pc_call.proofs.Lists.{all_behind}
-use Rattle.pc_call.proofs.RefusedStage.{put_as}
 use Rattle.pc_call.proofs.StageAgain.{beside_commits, beside_refreshes, beside_unmoved}
 use Rattle.pc_call.proofs.StageHears.{conflict_no_stage}
 use Rattle.pc_call.proofs.StageLists.{find_behind, found_front, none_found}
@@ -36,7 +35,6 @@ use Rattle.pc_flight.specs.declared.write.WriteInFlight.{WriteInFlight}
 use Rattle.pc_follows.specs.NextBlock.{IsNextBlock}
 use Rattle.pc_follows.specs.RoundsMade.{rounds_made}
 use Rattle.pc_lists.proofs.Anywhere.{any_behind, any_kept}
-use Rattle.pc_lists.proofs.Counts.{one_if}
 use Rattle.pc_lists.proofs.Same.{same_txn-self}
 use Rattle.pc_proto.specs.declared.call.Call.TheVariants as calls
 use Rattle.pc_proto.specs.declared.meta.TxnMeta.{TxnMeta}
@@ -66,7 +64,7 @@ use Rattle.pc_wave.proofs.Tries.{idle_tried, or_parts}
 use Rattle.pc_wave.specs.declared.message.Message.{Message}
 use Rattle.pc_wave.specs.declared.message.Progress.TheVariants as progresses
 use Rattle.pc_wave.specs.declared.step.Step.TheVariants as steps
-use Rattle.pc_wave.specs.Messages.{is_in_conflict, is_out, is_pending, is_to_send, progress_out, step_of}
+use Rattle.pc_wave.specs.Messages.{is_in_conflict, is_out, is_pending, progress_out, step_of}
 use Rattle.pc_wave.specs.Standing.{CountsTries, IsAsFar, MessageStands, MetConflict, WaveStands, goes_beside}
 use Rattle.pc_world.specs.Answering.{MayAnswer}
 use Rattle.pc_world.specs.Counting.{AtLeast}

@@ -1,6 +1,5 @@
 -- A commit that stages asks for the write that blocks it, as its stage is not late; and where its stage is late, it gives up.
-use Rattle.std.proofs.Common.{◌≡◌, ◌≢◌, ℕ, zero, suc, ◌+◌, ◌<◌, ◌≤◌, Bool, true, false, not, ◌&&◌, ◌||◌, ◌==◌, cond, ◌⊎◌, inl, inr, List, [], ◌∷◌, ◌++◌, map, find, is_some, Option, Some, None, refl, sym, ap, ◌∙◌, subst, arith, All, Any, Contains, IsTrue}
-use Rattle.std.specs.List.{list_any}
+use Rattle.std.proofs.Common.{◌≡◌, ◌≢◌, ℕ, zero, suc, ◌+◌, ◌<◌, Bool, true, false, not, ◌&&◌, ◌||◌, ◌==◌, ◌⊎◌, inl, inr, List, [], ◌∷◌, map, find, Option, Some, None, refl, sym, ap, ◌∙◌, subst, arith, All, Any, Contains, IsTrue}
 use Rattle.std.proofs.lemmas.Bool.{and_parts, eqb-true}
 use Rattle.std.proofs.lemmas.List.Elements.{All-append, All-cons, All-contains, All-head, All-nil, All-tail, All-weaker}
 use Rattle.std.proofs.lemmas.Option.{same_Some}
@@ -16,19 +15,17 @@ use Rattle.pc_call.proofs.FoundBlocked.{first_met}
 use Rattle.pc_call.proofs.RefusedStage.{put_as}
 use Rattle.pc_call.proofs.StageLists.{found_front}
 use Rattle.pc_call.proofs.Unsent.{same_beside, same_put_only, unsent_plain}
-use Rattle.pc_call.specs.Beside.{AreAskedOrDone, IsAskedOrDone, IsDoneBeside, IsOfProved, IsOfWrite, IsPastOrNoQuery, asks_for_write, is_query}
+use Rattle.pc_call.specs.Beside.{AreAskedOrDone, IsAskedOrDone, IsOfProved, IsOfWrite, IsPastOrNoQuery, asks_for_write, is_query}
 use Rattle.pc_call.specs.BlockedStage.{IsBlockedStage}
 use Rattle.pc_call.specs.declared.later.LaterPut.{LaterPut}
 use Rattle.pc_call.specs.declared.purpose.Purpose.{Purpose}
 use Rattle.pc_call.specs.declared.purpose.Purpose.TheVariants as purposes
 use Rattle.pc_call.specs.GivenUp.{GivesUpBy}
 use Rattle.pc_call.specs.Met.{AreMetBy, HasMetConflict}
-use Rattle.pc_call.specs.Paced.{IsPaced}
 use Rattle.pc_call.specs.Queries.{query_by, query_of_blocked, query_of_put}
-use Rattle.pc_call.specs.Serving.{InCall, MeetsByPut, NoOtherMetEighth, SendsAgain, ServesQuery, StageIsNext, StageIsOut, StageStands}
+use Rattle.pc_call.specs.Serving.{InCall, MeetsByPut, NoOtherMetEighth, SendsAgain, StageStands}
 use Rattle.pc_call.specs.Setting.{Setting}
 use Rattle.pc_call.specs.Stages.{KeepsOutbox}
-use Rattle.pc_call.specs.Suiting.{SuitsFlightIn}
 use Rattle.pc_call.specs.Waiting.{SendsWrite}
 use Rattle.pc_flight.specs.declared.write.WriteInFlight.{WriteInFlight}
 use Rattle.pc_follows.specs.AgainInOneWave.{sent_for_call}

@@ -1,7 +1,7 @@
 -- The query of the write that blocked a stage found it: the write is proved, and the commit stages on without its put.
-use Rattle.std.proofs.Common.{◌≡◌, ◌≢◌, ℕ, zero, suc, ◌+◌, ◌<◌, ◌≤◌, Bool, true, false, not, cond, ◌&&◌, ◌||◌, ◌==◌, ◌⊎◌, inl, inr, List, [], ◌∷◌, ◌++◌, drop, filter, find, length, map, Option, Some, None, refl, sym, ap, ◌∙◌, subst, arith, All, Any, Contains, IsTrue, count_by}
+use Rattle.std.proofs.Common.{◌≡◌, ◌≢◌, ℕ, zero, suc, ◌+◌, ◌<◌, ◌≤◌, Bool, true, false, not, cond, ◌&&◌, ◌||◌, ◌==◌, ◌⊎◌, inl, inr, List, [], ◌∷◌, ◌++◌, drop, filter, find, length, map, Some, None, refl, sym, ap, ◌∙◌, subst, arith, All, Any, Contains, IsTrue, count_by}
 use Rattle.std.specs.List.{list_any}
-use Rattle.std.proofs.lemmas.Bool.{and_from, and_parts, eq-eqb, eqb-true, ne_eqb}
+use Rattle.std.proofs.lemmas.Bool.{and_from, and_parts, eq-eqb, ne_eqb}
 use Rattle.std.proofs.lemmas.List.{append-nil}
 use Rattle.std.proofs.lemmas.List.Elements.{All-append, All-cons, All-contains, All-head, All-nil, All-push, All-tail, All-weaker}
 use Rattle.std.proofs.lemmas.List.Folds.{list_any-append}
@@ -25,7 +25,7 @@ use Rattle.pc_call.proofs.QueryReady.{pipelined_by}
 use Rattle.pc_call.proofs.RefusedStage.{put_as}
 use Rattle.pc_call.proofs.StageLists.{found_front, front_two, first_on}
 use Rattle.pc_call.proofs.WhyStays.{made_then, with_none}
-use Rattle.pc_call.specs.Beside.{AreAskedOrDone, IsAskedOrDone, IsOfProved, IsPastOrNoQuery, asks_for_write, is_query}
+use Rattle.pc_call.specs.Beside.{AreAskedOrDone, IsAskedOrDone, IsOfProved, asks_for_write, is_query}
 use Rattle.pc_call.specs.declared.purpose.Purpose.{Purpose}
 use Rattle.pc_call.specs.declared.purpose.Purpose.TheVariants as purposes
 use Rattle.pc_call.specs.Learned.{known_heard}
@@ -33,7 +33,7 @@ use Rattle.pc_call.specs.Met.{AreMetBy, HasMetConflict}
 use Rattle.pc_call.specs.Missing.{IsAboveMisses}
 use Rattle.pc_call.specs.Paced.{IsPaced, was_met, was_pushed}
 use Rattle.pc_call.specs.Queries.{found_blocked, found_in, found_with, without_blocked}
-use Rattle.pc_call.specs.Serving.{GoesOutBefore, HasBeatenBy, InCall, IsOpenFor, IsOpenIn, PutsEarlier, IsRefusedBy, MeetsByPut, MetNoWrite, NoOtherMetEighth, SendsAgain, Serves, ServesQuery, ServesStage, StageIsOut, StageStands, WasRefusedIfCommit, holders_met, is_last_beat}
+use Rattle.pc_call.specs.Serving.{GoesOutBefore, HasBeatenBy, InCall, IsOpenFor, PutsEarlier, IsRefusedBy, MeetsByPut, MetNoWrite, NoOtherMetEighth, SendsAgain, ServesQuery, ServesStage, StageStands, WasRefusedIfCommit, holders_met, is_last_beat}
 use Rattle.pc_call.specs.Setting.{Setting}
 use Rattle.pc_call.specs.Suiting.{SuitsFlightIn}
 use Rattle.pc_call.specs.Waiting.{SendsWrite}
@@ -55,9 +55,8 @@ use Rattle.pc_proto.specs.Replies.{is_conflict, is_conflict_with}
 use Rattle.pc_proto.specs.Requests.{is_about, is_push_of, is_put, is_put_of, is_stage}
 use Rattle.pc_reads.specs.Replies.{unrefreshed_by}
 use Rattle.pc_refusals.proofs.Counted.{refusals_go}
-use Rattle.pc_refusals.specs.Moves.{CountsMoves, IsNoMove}
+use Rattle.pc_refusals.specs.Moves.{IsNoMove}
 use Rattle.pc_staging.proofs.Deciding.{late_stages}
-use Rattle.pc_staging.specs.Standing.{WasStagedAt}
 use Rattle.pc_txn.proofs.Again.{asked_heard}
 use Rattle.pc_txn.proofs.Late.{late_more}
 use Rattle.pc_txn.proofs.Laying.{known_one, seq_is}
@@ -68,7 +67,7 @@ use Rattle.pc_txn.specs.Counted.{IsCounted}
 use Rattle.pc_txn.specs.declared.txn.OpenTxn.{OpenTxn}
 use Rattle.pc_txn.specs.Opened.{meta_now, put_at, with_found}
 use Rattle.pc_txn.specs.Standing.{TxnStands, WasMissedAt}
-use Rattle.pc_wave.proofs.Changed.{found_all, found_passes}
+use Rattle.pc_wave.proofs.Changed.{found_all}
 use Rattle.pc_wave.proofs.Lists.{any_before, at_least-before}
 use Rattle.pc_wave.proofs.Standings.{IsOther, IsOtherSent, go_out-kept, stands-kept, here-kept}
 use Rattle.pc_wave.proofs.Tries.{row-heard}
@@ -76,18 +75,18 @@ use Rattle.pc_wave.specs.Course.{Course}
 use Rattle.pc_wave.specs.declared.message.Message.{Message}
 use Rattle.pc_wave.specs.declared.message.Progress.{Progress}
 use Rattle.pc_wave.specs.declared.message.Progress.TheVariants as progresses
-use Rattle.pc_wave.specs.Messages.{has_answer, is_in_conflict, is_to_send, wave_awaits}
-use Rattle.pc_wave.specs.Standing.{AreOfTwo, CountsTries, IsAsFar, IsHeardTo, MessageStands, Pairwise, WaveStands, goes_beside}
+use Rattle.pc_wave.specs.Messages.{is_in_conflict, wave_awaits}
+use Rattle.pc_wave.specs.Standing.{AreOfTwo, CountsTries, IsAsFar, IsHeardTo, MessageStands, Pairwise, WaveStands}
 use Rattle.pc_wave.specs.Tries.{IsUnheardOf, sends_waited}
 use Rattle.pc_world.specs.Answering.{MayAnswer}
-use Rattle.pc_world.specs.Known.{Known, open_txn}
+use Rattle.pc_world.specs.Known.{Known}
 use Rattle.pc_world.specs.Known.Traffic.{Heard, Sent, request_sent}
 use Rattle.pc_world.specs.Known.Transactions.{Txn, txn_heard}
 use Rattle.pc_world.specs.SameRequest.{IsSameRequest}
 use Rattle.pc_world.specs.StageFate.{IsLate, RefutesRecord, RefutesWrite, SentStage, is_write_refuted}
 use Rattle.pc_world.specs.Tell.Data.{sent_before}
 use Rattle.pc_world.specs.Tell.End.{shows_staging}
-use Rattle.pc_world.specs.Tell.Refusal.{IsConflictOf, is_heard, is_moved}
+use Rattle.pc_world.specs.Tell.Refusal.{IsConflictOf, is_moved}
 
 any_first : {X : Type 0} (P : X → Type 0) (x : X) (xs : List X) → Any P (x ∷ xs) → P x ⊎ Any P xs
 any_first P x xs (zero, y, inside, at, p) = inl (subst P (sym at) p)

@@ -1,6 +1,5 @@
 -- The query of a blocked write of the stage missed it: the stage is late, and the commit gives up, blocked.
-use Rattle.std.proofs.Common.{◌≡◌, ℕ, ◌+◌, ◌≤◌, max, Bool, true, false, ◌&&◌, ◌==◌, ◌⊎◌, inl, inr, List, [], ◌∷◌, ◌++◌, map, Option, Some, None, refl, sym, ap, ◌∙◌, subst, arith, All, Any, Contains, IsTrue}
-use Rattle.std.specs.List.{list_any}
+use Rattle.std.proofs.Common.{◌≡◌, ℕ, true, false, ◌&&◌, ◌==◌, ◌⊎◌, inl, inr, List, [], ◌∷◌, map, Some, None, refl, sym, ap, ◌∙◌, subst, arith, All, IsTrue}
 use Rattle.std.proofs.lemmas.Bool.{and_from, eq-eqb}
 use Rattle.std.proofs.lemmas.List.Elements.{All-contains, All-push, All-weaker}
 use Rattle.std.proofs.lemmas.Option.{same_Some}
@@ -16,11 +15,10 @@ use Rattle.pc_call.specs.declared.purpose.Purpose.{Purpose}
 use Rattle.pc_call.specs.declared.purpose.Purpose.TheVariants as purposes
 use Rattle.pc_call.specs.GivenUp.{GivesUpBy}
 use Rattle.pc_call.specs.Learned.{known_heard}
-use Rattle.pc_call.specs.Paced.{IsPaced}
 use Rattle.pc_call.specs.Queries.{blocker_of}
 use Rattle.pc_call.specs.Serving.{HasBeatenBy, InCall, MeetsByPut, Serves, ServesQuery, out_of}
 use Rattle.pc_call.specs.Setting.{Setting}
-use Rattle.pc_follows.specs.Heartbeats.{HasBeaten, is_heartbeat}
+use Rattle.pc_follows.specs.Heartbeats.{is_heartbeat}
 use Rattle.pc_follows.specs.NextBlock.{IsNextBlock}
 use Rattle.pc_follows.specs.RoundsMade.{gone_on, rounds_by, rounds_made, with_conflict}
 use Rattle.pc_lists.proofs.Anywhere.{any_last, any_weaker}
@@ -38,7 +36,6 @@ use Rattle.pc_txn.proofs.Querying.{query_missed}
 use Rattle.pc_txn.specs.Counted.{IsCounted}
 use Rattle.pc_txn.specs.declared.txn.OpenTxn.{OpenTxn}
 use Rattle.pc_txn.specs.Opened.{missed_at}
-use Rattle.pc_txn.specs.Queries.{own_query}
 use Rattle.pc_txn.specs.Standing.{IsStageHere, TxnStands}
 use Rattle.pc_wave.specs.declared.message.Message.{Message}
 use Rattle.pc_wave.specs.Messages.{wave_awaits}
@@ -46,7 +43,7 @@ use Rattle.pc_wave.specs.Standing.{IsHeardTo}
 use Rattle.pc_world.specs.Known.{Known}
 use Rattle.pc_world.specs.Known.Traffic.{Heard, Sent}
 use Rattle.pc_world.specs.Known.Transactions.{Txn, has_staged, is_stage_of, lists_write, txn_heard}
-use Rattle.pc_world.specs.StageFate.{IsLate, RefutesRecord, RefutesWrite, SentStage, is_write_refuted, stage_request}
+use Rattle.pc_world.specs.StageFate.{IsLate, RefutesRecord, RefutesWrite, is_write_refuted, stage_request}
 use Rattle.pc_world.specs.Tell.Refusal.{is_moved}
 
 module _ (session clock count : ℕ) (set : Setting) (k : Known) (x : OpenTxn) (p : Purpose) (ms : List Message) (counted : IsCounted session clock count k) (w : InCall set k x p ms)

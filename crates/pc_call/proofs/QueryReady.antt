@@ -1,6 +1,5 @@
 -- The query of a write that is blocked may be sent, as far as its purpose goes.
-use Rattle.std.proofs.Common.{◌≡◌, ℕ, ◌+◌, ◌≤◌, Bool, true, false, ◌&&◌, ◌==◌, inl, inr, List, [], ◌∷◌, None, Some, length, refl, sym, ap, ◌∙◌, subst, arith, All, Contains, IsTrue}
-use Rattle.std.specs.List.{list_any}
+use Rattle.std.proofs.Common.{◌≡◌, ℕ, ◌+◌, ◌≤◌, Bool, true, false, ◌&&◌, ◌==◌, inl, inr, List, [], ◌∷◌, None, refl, sym, ap, ◌∙◌, subst, arith, All, Contains, IsTrue}
 use Rattle.std.proofs.lemmas.Bool.{and_from, eq-eqb}
 use Rattle.std.proofs.lemmas.List.Elements.{All-cons, All-contains, All-head, All-nil}
 use Rattle.pc_base.specs.declared.actor.ActorId.TheVariants as actors
@@ -15,15 +14,14 @@ use Rattle.pc_call.specs.declared.purpose.Purpose.{Purpose}
 use Rattle.pc_call.specs.declared.purpose.Purpose.TheVariants as purposes
 use Rattle.pc_call.specs.Serving.{InCall, Serves, ServesQuery, out_of}
 use Rattle.pc_call.specs.Setting.{Setting}
-use Rattle.pc_call.specs.Suiting.{SuitsFlight, SuitsFlightIn}
+use Rattle.pc_call.specs.Suiting.{SuitsFlightIn}
 use Rattle.pc_flight.specs.declared.write.WriteInFlight.{WriteInFlight}
-use Rattle.pc_follows.specs.CallMessages.{IsFor, IsForCall, IsPipelinedFor}
+use Rattle.pc_follows.specs.CallMessages.{IsFor, IsPipelinedFor}
 use Rattle.pc_lists.proofs.Anywhere.{any_weaker}
 use Rattle.pc_lists.proofs.Lists.{contains_nil}
 use Rattle.pc_lists.proofs.Same.{same_txn-self}
 use Rattle.pc_proto.specs.declared.call.Call.{Call}
 use Rattle.pc_proto.specs.declared.call.Call.TheVariants as calls
-use Rattle.pc_proto.specs.declared.request.Request.{Request}
 use Rattle.pc_proto.specs.Stamps.{request_stamps}
 use Rattle.pc_staging.proofs.Hears.{own_each}
 use Rattle.pc_staging.specs.Kept.{is_just}
@@ -35,11 +33,10 @@ use Rattle.pc_txn.specs.Queries.{own_query}
 use Rattle.pc_txn.specs.Standing.{IsStageHere, TxnStands, WritesWithinReach}
 use Rattle.pc_wave.specs.declared.message.Message.{Message}
 use Rattle.pc_world.specs.Known.{Known}
-use Rattle.pc_world.specs.Known.Traffic.{Heard, Sent}
+use Rattle.pc_world.specs.Known.Traffic.{Sent}
 use Rattle.pc_world.specs.Known.Transactions.{Txn, has_staged, is_stage_of, lists_write}
-use Rattle.pc_world.specs.MaySend.{MaySendRow}
 use Rattle.pc_world.specs.Send.Recovery.{IsBlockedWrite}
-use Rattle.pc_world.specs.StageFate.{IsLate, SentStage, stage_request}
+use Rattle.pc_world.specs.StageFate.{IsLate, stage_request}
 
 -- the write timestamp is no greater than the next after the greatest that the session knows
 pub within_reach : (k : Known) (t : Txn) → k.high ≤ k.top → All (λ h. All (λ ts. ts ≤ k.top) (request_stamps h.request)) k.heard → WritesWithinReach k t → t.write_ts ≤ k.top + 1

@@ -11,7 +11,6 @@ use Rattle.pc_base.specs.declared.limits.TheConstants.{MOST_CONFLICTS}
 use Rattle.pc_base.specs.declared.span.Span.{Span}
 use Rattle.pc_base.specs.declared.span.Span.TheVariants.{One}
 use Rattle.pc_call.proofs.Beating.{beaten_tells}
-use Rattle.pc_follows.specs.Heartbeats.{HasBeaten}
 use Rattle.pc_call.proofs.Beginning.{any_true}
 use Rattle.pc_call.proofs.Eighths.{any_eighth, no_eighth, none_eighth}
 use Rattle.pc_call.proofs.Lists.{all_unmapped}

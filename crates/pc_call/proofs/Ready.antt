@@ -1,5 +1,5 @@
 -- Each message of an open call may be sent, as far as its purpose goes.
-use Rattle.std.proofs.Common.{◌≡◌, ℕ, ◌+◌, ◌≤◌, Bool, true, false, cond, ◌||◌, ◌⊎◌, inl, inr, not, List, [], ◌∷◌, map, find, Option, Some, None, refl, sym, ap, ◌∙◌, subst, arith, All, Any, Contains, IsTrue, zero, suc}
+use Rattle.std.proofs.Common.{◌≡◌, ℕ, ◌+◌, ◌≤◌, Bool, true, false, cond, ◌||◌, ◌⊎◌, inl, inr, not, List, [], ◌∷◌, map, Option, Some, None, refl, sym, ap, ◌∙◌, subst, arith, All, Any, Contains, IsTrue, suc}
 use Rattle.std.specs.List.{list_any}
 use Rattle.std.proofs.lemmas.Bool.{and_parts, eqb-true}
 use Rattle.std.proofs.lemmas.List.Elements.{All-cons, All-contains, All-head, All-map, All-nil, All-weaker}
@@ -47,7 +47,7 @@ use Rattle.pc_flight.specs.declared.write.WriteInFlight.{WriteInFlight}
 use Rattle.pc_txn.specs.declared.txn.OpenTxn.{OpenTxn}
 use Rattle.pc_txn.specs.Opened.{next_put, own_abort, own_commit, own_get, own_put, own_scan, put_at}
 use Rattle.pc_txn.specs.Silence.{own_beat}
-use Rattle.pc_txn.specs.Standing.{IsMissingJustBelow, TxnStands, WritesWithinReach}
+use Rattle.pc_txn.specs.Standing.{TxnStands, WritesWithinReach}
 use Rattle.pc_txn.specs.Writing.{IsNotWritten, WasAskedAt}
 use Rattle.pc_wave.specs.declared.message.Message.{Message}
 use Rattle.pc_wave.specs.declared.message.Progress.{Progress}
@@ -61,7 +61,7 @@ use Rattle.pc_follows.specs.PipelinedPuts.{IsFull, WaitsFor}
 use Rattle.pc_world.specs.Known.{Known, call_in, call_of, open_txn, reading_in}
 use Rattle.pc_world.specs.Known.Reads.{IsGoodAt, IsGoodTo, holds_span}
 use Rattle.pc_world.specs.Known.Statements.{Statement}
-use Rattle.pc_world.specs.Known.Traffic.{Heard, Sent}
+use Rattle.pc_world.specs.Known.Traffic.{Sent}
 use Rattle.pc_world.specs.Known.Transactions.{Txn}
 use Rattle.pc_world.specs.MaySend.{MaySendRow}
 use Rattle.pc_world.specs.RangeOf.{pieces}

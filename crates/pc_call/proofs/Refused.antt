@@ -9,7 +9,6 @@ use Rattle.pc_call.specs.Setting.{Setting}
 use Rattle.pc_base.specs.declared.limits.TheConstants.{MOST_CONFLICTS, MOST_REFUSALS}
 use Rattle.pc_call.proofs.Beside.{IsSentOnceMore, all_over}
 use Rattle.pc_call.proofs.Silent.{IsBeatPurpose}
-use Rattle.pc_follows.specs.Heartbeats.{HasBeaten}
 use Rattle.pc_call.proofs.Decided.{commit_known, commit_out, commit_said, commit_stands, commits}
 use Rattle.pc_call.proofs.Eighths.{none_eighth}
 use Rattle.pc_call.proofs.Facts.{unmoved}
@@ -29,7 +28,6 @@ use Rattle.pc_call.specs.Learned.{known_heard}
 use Rattle.pc_call.specs.Paced.{IsPaced}
 use Rattle.pc_call.specs.Serving.{InCall, IsCommitBelow, IsOpenIn, IsRefreshUpTo, IsRefusedBy, KeepsStages, MeetsByPut, MetNoWrite, NoneMetEighth, ServesCommit, WaitsMeanwhile, WasRefusedIfCommit, is_last_beat}
 use Rattle.pc_call.specs.Suiting.{SuitsFlightIn}
-use Rattle.pc_follows.specs.AgainInOneWave.{WasSentPastConflicts}
 use Rattle.pc_follows.specs.OwnStages.{refuses_stage}
 use Rattle.pc_lists.proofs.Anywhere.{any_kept, any_last, any_weaker}
 use Rattle.pc_proto.specs.declared.answer.Answer.TheVariants as answers

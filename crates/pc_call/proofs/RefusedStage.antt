@@ -40,9 +40,8 @@ use Rattle.pc_call.specs.Serving.{GoesOutBefore, InCall, IsOpenFor, IsOpenIn, Is
 use Rattle.pc_call.specs.Setting.{Setting}
 use Rattle.pc_call.specs.Stages.{CommitsOnFrom, IsFirstOut, IsUndecidedAt, eighth_holder, holder_of, is_at_eighth}
 use Rattle.pc_flight.specs.declared.write.WriteInFlight.{WriteInFlight}
-use Rattle.pc_follows.specs.AgainInOneWave.{WasSentPastConflicts, sent_for_call}
+use Rattle.pc_follows.specs.AgainInOneWave.{sent_for_call}
 use Rattle.pc_follows.specs.Eighth.{WasMovedEighth}
-use Rattle.pc_follows.specs.Heartbeats.{HasBeaten}
 use Rattle.pc_follows.specs.OwnStages.{refuses_stage}
 use Rattle.pc_follows.specs.RoundsMade.{all_passed, rounds_made}
 use Rattle.pc_lists.proofs.Anywhere.{any_kept, any_last, any_weaker}

@@ -1,5 +1,5 @@
 -- All refreshes of a commit were answered: the commit goes out, or its transaction restarts.
-use Rattle.std.proofs.Common.{◌≡◌, ℕ, ◌+◌, ◌≤◌, Bool, true, false, cond, ◌⊎◌, inl, inr, List, [], ◌∷◌, map, find, Option, None, Some, Result, Ok, Err, IfOk, OnOk, IfSome, is_some, refl, sym, ap, ◌∙◌, subst, arith, All, Any, Contains, IsTrue, zero, suc}
+use Rattle.std.proofs.Common.{◌≡◌, ℕ, ◌≤◌, Bool, true, false, cond, ◌⊎◌, inl, inr, List, [], ◌∷◌, map, find, Option, None, Some, IfSome, is_some, refl, sym, ap, ◌∙◌, subst, arith, All, Any, Contains, IsTrue, zero, suc}
 use Rattle.std.specs.List.Sorted.{IsStrictlySortedBy}
 use Rattle.std.specs.Option.{option_and_then}
 use Rattle.std.specs.List.{AllByRecursion as Each}
@@ -16,14 +16,13 @@ use Rattle.pc_call.specs.Setting.{Setting}
 use Rattle.pc_base.specs.declared.span.Span.{Span}
 use Rattle.pc_base.specs.declared.transaction.TxnId.{TxnId}
 use Rattle.pc_base.specs.SpanOrder.{span_cmp}
-use Rattle.pc_follows.specs.Heartbeats.{HasBeaten}
 use Rattle.pc_call.proofs.Beside.{IsSentOnceMore, all_over}
 use Rattle.pc_call.proofs.Facts.{unmoved}
 use Rattle.pc_call.proofs.Kept.{late_passed}
 use Rattle.pc_call.specs.Beside.{ArePastOrInFlight, IsPastOrNoQuery, IsPastOrInFlight, is_query}
 use Rattle.pc_call.specs.GivenUp.{GivesUpBy}
 use Rattle.pc_call.specs.Paced.{IsPaced}
-use Rattle.pc_call.specs.Stages.{DecidesNow, GoesOnOrGivesUp}
+use Rattle.pc_call.specs.Stages.{DecidesNow}
 use Rattle.pc_call.specs.declared.purpose.Purpose.{Purpose}
 use Rattle.pc_call.specs.declared.purpose.Purpose.TheVariants as purposes
 use Rattle.pc_call.specs.declared.refreshes.Refreshed.{Refreshed}
@@ -43,7 +42,6 @@ use Rattle.pc_reads.specs.Replies.{first_unrefreshed, shows_unrefreshed, unrefre
 use Rattle.pc_txn.specs.Counted.{IsCounted}
 use Rattle.pc_txn.specs.declared.txn.OpenTxn.{OpenTxn}
 use Rattle.pc_txn.specs.Standing.{TxnStands}
-use Rattle.pc_follows.specs.AgainInOneWave.{WasSentPastConflicts}
 use Rattle.pc_world.specs.StageFate.{IsLate}
 use Rattle.pc_wave.proofs.Changed.{found_all, found_none, found_passes}
 use Rattle.pc_wave.proofs.Dues.{may_be_due}

@@ -1,5 +1,5 @@
 -- A message of an open call that met an intent has its round, or its holder blocks the call.
-use Rattle.std.proofs.Common.{◌≡◌, ℕ, ◌+◌, ◌≤◌, ◌==◌, ◌&&◌, Bool, true, false, ◌⊎◌, inl, inr, List, [], ◌∷◌, ◌++◌, length, map, find, Option, Some, None, IfSome, refl, sym, ap, ◌∙◌, subst, arith, All, Contains, nat_le, cond}
+use Rattle.std.proofs.Common.{◌≡◌, ℕ, ◌≤◌, ◌==◌, ◌&&◌, Bool, true, false, ◌⊎◌, inl, inr, List, [], ◌∷◌, length, map, find, Option, Some, None, IfSome, refl, sym, ap, ◌∙◌, subst, arith, All, Contains, nat_le, cond}
 use Rattle.std.specs.List.{list_all}
 use Rattle.std.specs.Prelude.{⊤}
 use Rattle.std.proofs.lemmas.Bool.{ne_eqb, leb-true}
@@ -22,7 +22,6 @@ use Rattle.pc_call.specs.Sending.{IsConflictNow, read_at}
 use Rattle.pc_call.specs.Serving.{AreReadsOf, HasBeatenBy, InCall, KeepsStages, LaysLast, LaysNext, SendsAgain, Serves, StageStands, holder_met, out_of, write_call}
 use Rattle.pc_call.specs.Waiting.{BeginsBehindProofs}
 use Rattle.pc_follows.specs.EarlyTell.{IsCommitKnown}
-use Rattle.pc_follows.specs.Heartbeats.{HasBeaten}
 use Rattle.pc_lists.proofs.Lists.{contains_nil}
 use Rattle.pc_proto.specs.declared.call.Call.{Call}
 use Rattle.pc_proto.specs.declared.call.Call.TheVariants as calls
@@ -34,7 +33,7 @@ use Rattle.pc_proto.specs.declared.request.Request.TheVariants as requests
 use Rattle.pc_proto.specs.Replies.{holder_in}
 use Rattle.pc_proto.specs.Stamps.{request_stamps}
 use Rattle.pc_reads.specs.ReadsStanding.{refresh_to}
-use Rattle.pc_staging.specs.Kept.{is_just, is_staged_and_proved}
+use Rattle.pc_staging.specs.Kept.{is_just}
 use Rattle.pc_txn.proofs.Rows.{undecided, untold}
 use Rattle.pc_txn.specs.Counted.{IsCounted}
 use Rattle.pc_flight.specs.declared.write.WriteInFlight.{WriteInFlight}

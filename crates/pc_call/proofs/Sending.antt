@@ -1,5 +1,5 @@
 -- What is due of an open call may be given.
-use Rattle.std.proofs.Common.{◌≡◌, ◌⊎◌, ℕ, nat_le, Bool, true, false, cond, inl, inr, List, [], find, Option, None, Some, Result, Ok, Err, IfOk, refl, sym, ◌∙◌, subst, All}
+use Rattle.std.proofs.Common.{◌≡◌, ◌⊎◌, ℕ, nat_le, Bool, true, false, cond, inl, inr, List, find, Option, None, Some, Result, Ok, Err, IfOk, refl, sym, ◌∙◌, subst, All}
 use Rattle.pc_call.proofs.NextTurn.{in_turn}
 use Rattle.pc_call.proofs.Resending.{resent_first}
 use Rattle.pc_call.specs.Setting.{Setting}

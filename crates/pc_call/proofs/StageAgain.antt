@@ -49,7 +49,7 @@ use Rattle.pc_world.specs.Answering.{MayAnswer}
 use Rattle.pc_world.specs.Known.{Known}
 use Rattle.pc_world.specs.Known.Reads.{IsGoodAt}
 use Rattle.pc_world.specs.Known.Traffic.{Heard, Sent}
-use Rattle.pc_world.specs.StageFate.{IsLate, RefutesRecord, RefutesWrite, SentStage, is_write_refuted, stage_request}
+use Rattle.pc_world.specs.StageFate.{IsLate, RefutesRecord, RefutesWrite, SentStage, stage_request}
 use Rattle.pc_world.specs.Tell.End.{shows_staging}
 use Rattle.pc_world.specs.Tell.Refusal.{is_moved}
 

@@ -1,5 +1,5 @@
 -- A commit that stages is blocked by the eighth intent of a write: its messages stand but for the round of that conflict.
-use Rattle.std.proofs.Common.{◌≡◌, ℕ, zero, suc, ◌+◌, ◌≤◌, Bool, true, false, ◌&&◌, inl, inr, List, [], ◌∷◌, find, map, Some, None, refl, sym, ap, ◌∙◌, subst, arith, IsTrue, count_by}
+use Rattle.std.proofs.Common.{◌≡◌, ℕ, zero, suc, ◌+◌, ◌≤◌, Bool, true, inl, inr, List, [], ◌∷◌, find, map, Some, None, refl, sym, ap, ◌∙◌, subst, arith, IsTrue, count_by}
 use Rattle.std.proofs.lemmas.Bool.{and_from}
 use Rattle.std.proofs.lemmas.Option.{same_Some}
 use Rattle.pc_base.specs.declared.limits.TheConstants.{MOST_CONFLICTS}
@@ -32,7 +32,6 @@ use Rattle.pc_wave.specs.declared.message.Message.{Message}
 use Rattle.pc_wave.specs.Messages.{is_in_conflict}
 use Rattle.pc_world.specs.Counting.{AtLeast}
 use Rattle.pc_world.specs.Known.{Known}
-use Rattle.pc_world.specs.Known.Traffic.{Heard}
 use Rattle.pc_world.specs.Send.Recovery.{IsBlockedWrite, put_met}
 use Rattle.pc_world.specs.Tell.Refusal.{IsConflictOf}
 

@@ -1,7 +1,7 @@
 -- A put of a commit that stages came back: it met an intent, or its write was written.
 use Rattle.std.proofs.Common.{◌≡◌, ℕ, ◌+◌, ◌≤◌, Bool, true, false, cond, ◌⊎◌, inl, inr, List, [], ◌∷◌, ◌++◌, length, filter, find, Option, Some, None, refl, sym, ap, ◌∙◌, subst, arith, All, Any, Contains, IsTrue}
 use Rattle.std.proofs.lemmas.Bool.{and_parts}
-use Rattle.std.proofs.lemmas.List.Elements.{All-cons, All-contains, All-head, All-nil, All-push, All-tail, All-weaker}
+use Rattle.std.proofs.lemmas.List.Elements.{All-cons, All-contains, All-head, All-nil, All-push, All-weaker}
 use Rattle.std.proofs.lemmas.Option.{same_Some}
 use Rattle.pc_call.proofs.Beside.{proved_in}
 use Rattle.pc_call.proofs.Hearing.{found, heard_on, landed_again, made_so, met_again, met_leaves, met_open, met_same, more, numbered_now, other_open, own_said, same_request, stands_then, own_spared}

@@ -1,5 +1,5 @@
 -- A call that stages, that asks for a write of its stage, or that gives up behind a heartbeat goes on.
-use Rattle.std.proofs.Common.{◌≡◌, ℕ, Bool, true, false, List, refl, subst, All}
+use Rattle.std.proofs.Common.{◌≡◌, ℕ, true, List, refl, subst, All}
 use Rattle.pc_base.specs.declared.transaction.TxnId.{TxnId}
 use Rattle.pc_call.proofs.QuerySends as QuerySends
 use Rattle.pc_call.proofs.StageAgain.{goes_once_more}

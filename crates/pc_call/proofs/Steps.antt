@@ -1,10 +1,10 @@
 -- A message of an open call goes out.
-use Rattle.std.proofs.Common.{◌≡◌, ℕ, ◌+◌, ◌-◌, ◌≤◌, ◌==◌, Bool, true, false, cond, not, ◌||◌, ◌⊎◌, inl, inr, List, [], ◌∷◌, ◌++◌, length, map, find, take, Some, None, Option, refl, sym, ap, ◌∙◌, subst, arith, All, Any, Contains, IsTrue, unwrap_or, append_assoc, length-append, drop}
+use Rattle.std.proofs.Common.{◌≡◌, ℕ, ◌+◌, ◌-◌, ◌≤◌, ◌==◌, Bool, true, false, cond, not, ◌⊎◌, inl, inr, List, [], ◌∷◌, ◌++◌, length, map, find, take, Some, None, Option, refl, sym, ap, ◌∙◌, subst, arith, All, Any, Contains, IsTrue, unwrap_or, append_assoc, length-append, drop}
 use Rattle.std.proofs.Math.Seq.{take-append_seam}
 use Rattle.std.specs.List.{list_all, list_any}
 use Rattle.std.proofs.lemmas.List.{append-nil}
 use Rattle.std.proofs.lemmas.List.Elements.{All-cons, All-head, All-map, All-nil, All-push, All-weaker, Contains-push}
-use Rattle.std.proofs.lemmas.Bool.{eq-eqb, ne_eqb}
+use Rattle.std.proofs.lemmas.Bool.{ne_eqb}
 use Rattle.std.proofs.lemmas.List.Folds.{list_any_none}
 use Rattle.pc_call.proofs.Below.{below_sent}
 use Rattle.pc_call.proofs.JustSo.{just_so_sent}
@@ -36,7 +36,7 @@ use Rattle.pc_call.specs.Paced.{IsPaced}
 use Rattle.pc_call.specs.Serving.{AreReadsOf, HasBeatenBy, HasGoneOut, InCall, IsCommitCall, IsMetUpTo, IsOpenFor, IsOpenIn, IsReadFor, IsRefreshGoneOut, IsRefreshUpTo, IsSplit, KeepsStages, LaysLast, LaysNext, MayBePutAgain, MetNoOtherWrite, NoOtherMetEighth, ReadsNothing, SendsAgain, Serves, ServesAbort, ServesBeat, ServesCommit, ServesProve, ServesRead, ServesRefresh, ServesWrite, WaitsMeanwhile, WasRefusedIfCommit, commit_asked, conflicts_before, holders_met, is_unsent, out_of, write_call}
 use Rattle.pc_call.specs.Suiting.{SuitsFlightIn}
 use Rattle.pc_call.specs.Waiting.{waits_on}
-use Rattle.pc_follows.specs.Heartbeats.{HasBeaten, is_heartbeat}
+use Rattle.pc_follows.specs.Heartbeats.{is_heartbeat}
 use Rattle.pc_lists.proofs.Same.{same_key-equal, same_key-self}
 use Rattle.pc_proto.specs.declared.call.Call.{Call}
 use Rattle.pc_proto.specs.declared.call.Call.TheVariants as calls
@@ -69,7 +69,7 @@ use Rattle.pc_wave.proofs.Changed.{found_all, found_passes}
 use Rattle.pc_wave.proofs.Sending.{sends_first, wave_sent}
 use Rattle.pc_wave.specs.declared.message.Message.{Message}
 use Rattle.pc_wave.specs.declared.step.Step.TheVariants as steps
-use Rattle.pc_wave.specs.Messages.{first_changed, first_in_conflict, has_answer, is_to_send, progress_has_answer, sent_under, step_of, wave_awaits}
+use Rattle.pc_wave.specs.Messages.{first_changed, first_in_conflict, has_answer, is_to_send, progress_has_answer, sent_under, step_of}
 use Rattle.pc_wave.specs.Standing.{AreOfTwo, HasMore, Pairwise, WaveStands, goes_beside, CountsTries, MessageStands}
 use Rattle.pc_world.specs.Known.{Known, next_number}
 use Rattle.pc_world.specs.Known.Traffic.{Heard, Sent}

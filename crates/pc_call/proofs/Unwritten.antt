@@ -1,5 +1,5 @@
 -- A transaction that wrote nothing is committed, or rolled back, without a message.
-use Rattle.std.proofs.Common.{◌≡◌, ℕ, true, List, [], ◌++◌, Option, None, Some, refl, sym, ap, ◌∙◌, subst, arith, All, inl, inr}
+use Rattle.std.proofs.Common.{◌≡◌, ℕ, true, [], ◌++◌, Option, None, Some, refl, sym, ap, ◌∙◌, subst, arith, All, inl, inr}
 use Rattle.std.proofs.lemmas.List.Elements.{All-weaker}
 use Rattle.std.proofs.lemmas.Option.{same_Some}
 use Rattle.pc_call.specs.Setting.{Setting}

@@ -1,7 +1,6 @@
 -- What the sessions and recoverers of a workload leave when they finish.
-use Rattle.std.proofs.Common.{◌≡◌, ℕ, zero, suc, ◌+◌, ◌-◌, ◌<◌, ◌≤◌, ◌⊎◌, inl, inr, Bool, true, false, All, List, [], ◌∷◌, ◌++◌, length, map, slice_get, Some, refl, sym, ap, subst, ◌∙◌, arith}
+use Rattle.std.proofs.Common.{◌≡◌, ℕ, zero, suc, ◌+◌, ◌-◌, ◌<◌, ◌≤◌, ◌⊎◌, inl, inr, Bool, true, false, All, List, [], ◌∷◌, length, map, slice_get, Some, refl, sym, ap, subst, ◌∙◌, arith}
 use Rattle.std.proofs.lemmas.Option.{slice_get_within}
-use Rattle.std.specs.Prelude.{is_none}
 use Rattle.pc_base.specs.declared.actor.ActorId.{ActorId}
 use Rattle.pc_base.specs.declared.actor.ActorId.TheVariants as actors
 use Rattle.pc_closing.proofs.Leaving.{full_range_may_leave, going_may_leave, own_end_may_leave, stop_may_leave}
@@ -10,7 +9,6 @@ use Rattle.pc_desk.specs.Desk.{DeskMeaning, GivesOnce, IsReadyToGo, WaitingMessa
 use Rattle.pc_desk.specs.Ending.{EndsEarly, all_waiting}
 use Rattle.pc_desk.specs.Keeping.{KeepsEach, ReadsEach}
 use Rattle.pc_desk.specs.Waves.{KeepsWavesEach}
-use Rattle.pc_history.specs.declared.pair.Pair.{Pair}
 use Rattle.pc_history.specs.declared.view.Part.{Part}
 use Rattle.pc_proto.specs.declared.event.Event.{Event}
 use Rattle.pc_rounds.specs.Counted.{CountedMeaning, GoesInRounds, entries_made}

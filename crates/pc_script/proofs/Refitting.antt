@@ -2,7 +2,7 @@
 use Rattle.std.proofs.Common.{◌≡◌, ℕ, Bool, true, false, ◌&&◌, not, All, List, drop, [], map, Option, Some, None, IfSome, refl, sym, ap, subst, ◌∙◌}
 use Rattle.std.specs.Bool.{MatchBool}
 use Rattle.pc_base.specs.declared.actor.ActorId.{ActorId}
-use Rattle.pc_call.specs.Suiting.{SuitsFlightIn, SuitsFlightNext, SuitsFlightNextIn}
+use Rattle.pc_call.specs.Suiting.{SuitsFlightNext}
 use Rattle.pc_coord.specs.Knows.{IsHeld}
 use Rattle.pc_coord.specs.Suiting.{Suits, SuitsNext}
 use Rattle.pc_proto.specs.declared.answer.Answer.{Answer}

@@ -1,6 +1,5 @@
-use Rattle.std.proofs.Common.{[], ◌∷◌, ◌++◌, ap, refl, ◌∙◌}
+use Rattle.std.proofs.Common.{ap, refl, ◌∙◌}
 use Rattle.pc_call.proofs.Taking.{proof_step, put_step}
-use Rattle.pc_call.specs.Outbox.{proofs_in}
 use Rattle.pc_call.proofs.proves.proof_wave.Goals as goal
 
 pub loop-write-init : goal.loop-write-init

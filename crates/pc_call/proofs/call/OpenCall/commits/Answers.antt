@@ -1,8 +1,7 @@
-use Rattle.std.proofs.Common.{◌≡◌, ℕ, nat_lt, List, [], length, sym, ◌∙◌, subst}
+use Rattle.std.proofs.Common.{◌≡◌, nat_lt, List, length, sym, ◌∙◌, subst}
 use Rattle.pc_reads.specs.ReadsStanding.{refresh_to}
 use Rattle.pc_call.proofs.Committing.{behind_of, goes_at_once}
 use Rattle.pc_call.proofs.Deciding.{commits_fresh, decides_at_once}
-use Rattle.pc_call.proofs.Outboxes.{keeps_beside}
 use Rattle.pc_call.proofs.Takes.{commits_by, some_spans, takes_ok}
 use Rattle.pc_call.specs.Stages.{CommitsOnFrom}
 use Rattle.pc_call.specs.Suiting.{SuitsFlightIn}

@@ -1,4 +1,4 @@
-use Rattle.std.proofs.Common.{◌≡◌, ◌≢◌, [], sym, ◌∙◌}
+use Rattle.std.proofs.Common.{◌≡◌, sym, ◌∙◌}
 use Rattle.pc_call.proofs.Committing.{anchor_now}
 use Rattle.pc_call.proofs.Deciding.{decides_commits, none_there, some_there}
 use Rattle.pc_call.proofs.Takes.{commits_by, takes_one}

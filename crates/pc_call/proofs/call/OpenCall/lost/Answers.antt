@@ -1,8 +1,8 @@
-use Rattle.std.proofs.Common.{◌≡◌, ◌++◌, Option, cond, position, is_some, refl, sym, ap, ◌∙◌, subst}
+use Rattle.std.proofs.Common.{◌≡◌, ◌++◌, cond, position, is_some, refl, sym, ap, ◌∙◌, subst}
 use Rattle.std.specs.List.{after_first, before_first}
 use Rattle.pc_call.proofs.LostMessages.{lost_still}
 use Rattle.pc_call.proofs.Taken.{left_at}
-use Rattle.pc_call.specs.Losses.{is_late_out, wave_lost}
+use Rattle.pc_call.specs.Losses.{is_late_out}
 use Rattle.pc_call.specs.Serving.{InCall}
 use Rattle.pc_wave.specs.Messages.{awaits_at, first_changed, lost_of}
 use Rattle.pc_call.proofs.call.OpenCall.lost.Goals as goal
