@@ -29,7 +29,7 @@ use Rattle.pc_proto.specs.declared.reply.Reply.{Reply}
 use Rattle.pc_proto.specs.declared.reply.Reply.TheVariants as replies
 use Rattle.pc_proto.specs.declared.request.Request.{Request}
 use Rattle.pc_proto.specs.Replies.{holder_in}
-use Rattle.pc_proto.specs.Requests.{goal_in}
+use Rattle.pc_proto.specs.Requests.{goal_in, is_put}
 use Rattle.pc_session.proofs.Away.{any_there}
 use Rattle.pc_session.proofs.Again.{out_waits}
 use Rattle.pc_session.proofs.Due.{none_awaits}
@@ -45,12 +45,12 @@ use Rattle.pc_wave.specs.declared.message.Progress.TheVariants as progresses
 use Rattle.pc_wave.specs.declared.step.Step.TheVariants as steps
 use Rattle.pc_wave.specs.Due.{FollowsConflict, MadeRound}
 use Rattle.pc_wave.specs.Messages.{awaits_at, back_with, conflicts_at, first_changed, goes_again, is_in_conflict, is_out, is_to_send, progress_awaits, progress_out, progress_to_send, sent_under, step_of, wave_awaits}
-use Rattle.pc_wave.specs.Standing.{HasMore, IsAsFar, IsHeardTo, IsMessageAt, MessageStands}
+use Rattle.pc_wave.specs.Standing.{HasMore, IsAsFar, IsHeardTo, IsMessageAt, MessageStands, messages_for}
 use Rattle.pc_follows.specs.Eighth.{MetEighth}
 use Rattle.pc_follows.specs.FirstBlock.{IsBlockedBy}
 use Rattle.pc_follows.specs.Rounds.{AreConflictsOver, rounds_begun}
 use Rattle.pc_world.specs.Known.{Known, next_number}
-use Rattle.pc_world.specs.Known.Traffic.{Heard}
+use Rattle.pc_world.specs.Known.Traffic.{Heard, Sent}
 use Rattle.pc_world.specs.Send.Recovery.{was_refused}
 use Rattle.pc_proto.specs.declared.meta.TxnMeta.{TxnMeta}
 
@@ -133,11 +133,15 @@ none_any P xs none any = isnt (subst (Any P) none any)
     isnt : Any P [] → ⊥
     isnt any = omega (arith, any.2)
 
+none_any_of : (P : Sent → Type 0) (k : Known) (b : Bool) → k.sent_now ≡ [] → Any P (messages_for (b && false) k) → ⊥
+none_any_of P k true none any = none_any P k.sent_now none any
+none_any_of P k false none any = none_any P k.sent_now none any
+
 far_unsent : (k : Known) (r : Request) (conflicts : ℕ) (p : Progress) → k.sent_now ≡ [] → IsAsFar (record { loses = false; pipelines = false }) k r conflicts p → progress_to_send p ≡ true
 far_unsent k r conflicts progresses.ToSend none far = refl
-far_unsent k r conflicts (progresses.Sent number) none far = absurd (none_any (IsMessageAt number r) k.sent_now none far.0.out.now)
-far_unsent k r conflicts (progresses.Met number conflict) none far = absurd (none_any (IsMessageAt number r) k.sent_now none far.out.now)
-far_unsent k r conflicts (progresses.Answered number reply) none far = absurd (none_any (IsMessageAt number r) k.sent_now none far.0.out.now)
+far_unsent k r conflicts (progresses.Sent number) none far = absurd (none_any_of (IsMessageAt number r) k (is_put r) none far.0.out.now)
+far_unsent k r conflicts (progresses.Met number conflict) none far = absurd (none_any_of (IsMessageAt number r) k (is_put r) none far.out.now)
+far_unsent k r conflicts (progresses.Answered number reply) none far = absurd (none_any_of (IsMessageAt number r) k (is_put r) none far.0.out.now)
 
 pub asked_plain : (c : Coordination) (k : Known) → Knows false c k → k.sent_now ≡ [] → k.heard_now ≡ [] → (b : Bool) → c.pipelining ≡ b → b ≡ false → KeepsTurn false k c.due
 asked_plain c k knows sent heard b is plain = by c.due knows.stands

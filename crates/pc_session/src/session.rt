@@ -71,6 +71,7 @@ impl<'a, N: Named<CommitWorld>, C: Clock, V: Wire, G: Gate> Session<'a, N, C, V,
         requires whose { actor.part ≡ newcomer (actors.Session number) }
         requires there { IsActorOf actor.world (actors.Session number) }
         requires unread { C.reads clock ≡ 0 }
+        requires tries { 1 ≤ tries }
         requires limit { limit < 2 ^ 32 }
         requires stop { IfSome stop (λ n. 1 ≤ n) }
         requires splits { ranges.now.splits ≡ actor.world.splits }

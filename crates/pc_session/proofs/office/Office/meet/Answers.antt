@@ -5,6 +5,9 @@ use Rattle.pc_session.proofs.Learning.{meet_aside, meet_calls, meet_ends, meet_m
 use Rattle.pc_session.specs.Token.{TokenMeaning}
 use Rattle.pc_session.proofs.office.Office.meet.Goals as goal
 
+pub meet-requires-clause-track : goal.meet-requires-clause-track
+meet-requires-clause-track g c = c.follow.ensures.track (subst (λ s. KeepsTrack s.desk) (sym c.self.view_is) c.requires.calls.track)
+
 pub meet-requires-clause-may : goal.meet-requires-clause-may
 meet-requires-clause-may g c =
     let r = c.into_parts-step.result in

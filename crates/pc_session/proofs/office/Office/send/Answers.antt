@@ -34,12 +34,10 @@ returns-in-Ok-clause-ok g c =
     let d = c.send.new.self in
     let n = c.in_ok-number.number in
     let sent = c.in_ok-number.ensures.ok in
-    let waits = λ other. e.waits c.args.request other due in
-    let kept = e.kept c.args.request due in
-    let comes = λ o opened. e.comes o c.args.request opened due in (
-      sent_open _ c.args.reading c.args.request calls is may.0 may.2 between d c.sent.new.self n sent due e.knows waits kept e.session e.splits e.pipelines comes,
+    let kept = e.kept c.args.request due in (
+      sent_open _ c.args.reading c.args.request calls is may.0 may.2 between d c.sent.new.self n sent due e.knows (λ other. e.waits c.args.request other due) kept e.session e.splits e.pipelines (λ o opened. e.comes o c.args.request opened due),
       inside_from _ c.args.self.now _ c.self.view_is (sent_goes _ c.args.reading c.args.request calls is may.0 may.2 between d c.sent.new.self n sent e.session),
-      sent_between _ c.args.reading c.args.request calls is may.0 may.2 between d c.sent.new.self n sent due e.knows waits kept e.session e.splits e.pipelines comes,
+      sent_between _ c.args.reading c.args.request calls is may.0 may.2 between d c.sent.new.self n sent due e.knows (λ other. e.waits c.args.request other due) kept e.session e.splits e.pipelines (λ o opened. e.comes o c.args.request opened due),
     )
 
 pub returns-in_err-number-clause-ended : goal.returns-in_err-number-clause-ended

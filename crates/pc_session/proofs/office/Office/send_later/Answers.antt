@@ -51,7 +51,7 @@ returns-in-Ok-clause-ok g c =
     let n = c.in_ok-number.number in
     let sent = c.in_ok-number.ensures.ok in
     let put = c.in_ok-set_aside.ensures.ok in (
-      later_open _ c.args.reading c.args.request calls due may.0 may.2 between d n sent c.set_aside.new.self c.sent.new.self put e.knows (e.told c.args.request due) (e.waiting false (session_knows c.self.inside) c.args.request calls.one.knows due) e.session e.splits e.pipelines,
+      later_open _ c.args.reading c.args.request calls due may.0 may.2 between d n sent c.set_aside.new.self c.sent.new.self put e.knows (e.told c.args.request due) (e.waiting false _ c.args.request calls.one.knows due) e.session e.splits e.pipelines,
       inside_from _ c.args.self.now _ c.self.view_is (later_goes _ c.args.reading c.args.request calls due may.0 may.2 between d n sent c.set_aside.new.self c.sent.new.self put e.session),
       later_between _ c.args.reading c.args.request calls due may.0 may.2 between d n sent c.set_aside.new.self c.sent.new.self put,
     )
