@@ -15,33 +15,51 @@ const ID: TxnId = TxnId {
     number: 1,
 };
 
-/// Whether what is due is to be told, and just this; it was told then.
-fn tells(session: &mut Coordinator, answer: Answer) -> Option<bool> {
+/// Whether what is due is to be told, and just this.
+fn is_to_tell(session: &Coordinator, answer: &Answer) -> Option<bool> {
     let next = session.next().ok()?;
+    Some(matches!(&next, Next::Tell(told) if told == answer))
+}
+
+/// The same, and it was told then.
+fn tells(session: &mut Coordinator, answer: &Answer) -> Option<bool> {
+    let is = is_to_tell(session, answer)?;
     session.told();
-    Some(next == Next::Tell(answer))
+    Some(is)
 }
 
-/// Whether what is due is a stage of one write that is in flight; it was sent under this number then.
+/// Whether what is due is a put that is told written as it goes out.
+fn is_put(session: &Coordinator) -> Option<bool> {
+    let next = session.next().ok()?;
+    Some(matches!(&next, Next::Later(Request::Put { .. })))
+}
+
+/// Whether what is due is a stage of one write that is in flight.
+fn is_stage(session: &Coordinator) -> Option<bool> {
+    let next = session.next().ok()?;
+    Some(
+        matches!(&next, Next::Send(Request::Stage { ts, writes, .. }) if *ts == Timestamp::new(READING, 0) && writes.len() == 1),
+    )
+}
+
+/// Whether what is due is a commit at this timestamp.
+fn is_commit(session: &Coordinator, at: Timestamp) -> Option<bool> {
+    let next = session.next().ok()?;
+    Some(matches!(&next, Next::Send(Request::Commit { ts, .. }) if *ts == at))
+}
+
+/// Whether a stage of one write was due; it was sent under this number then.
 fn stages(session: &mut Coordinator, number: u64) -> Option<bool> {
-    let next = session.next().ok()?;
+    let is = is_stage(session)?;
     session.sent(number).ok()?;
-    match next {
-        Next::Send(Request::Stage { ts, writes, .. }) => {
-            Some(ts == Timestamp::new(READING, 0) && writes.len() == 1)
-        }
-        _ => Some(false),
-    }
+    Some(is)
 }
 
-/// Whether what is due is a commit at this timestamp; it was sent under this number then.
+/// Whether a commit at this timestamp was due; it was sent under this number then.
 fn commits(session: &mut Coordinator, number: u64, at: Timestamp) -> Option<bool> {
-    let next = session.next().ok()?;
+    let is = is_commit(session, at)?;
     session.sent(number).ok()?;
-    match next {
-        Next::Send(Request::Commit { ts, .. }) => Some(ts == at),
-        _ => Some(false),
-    }
+    Some(is)
 }
 
 /// Whether the wave is due, in which the message of this number is waited for.
@@ -50,22 +68,33 @@ fn waits(session: &Coordinator, number: u64) -> Option<bool> {
     Some(next == Next::Wave && session.waits_for(number))
 }
 
-/// Whether a put is told written as soon as its message 1 went out, and message 2 is then the stage of its commit, beside it.
-fn stages_a_put(session: &mut Coordinator, alloc: Global) -> Option<bool> {
-    session.ask(Call::Begin(Priority::Normal), READING).ok()?;
-    let ts = Timestamp::new(READING, 0);
-    let begun = tells(session, Answer::Begun { id: ID, ts })?;
+/// Asks a put of one key.
+fn ask_put(session: &mut Coordinator, alloc: Global) -> Option<()> {
     let key = Key::new(alloc, b"a").ok()?;
     let value = Value::new(alloc, b"x").ok()?;
-    session.ask(Call::Put(key, value), READING).ok()?;
-    let put = matches!(session.next().ok()?, Next::Later(Request::Put { .. }));
+    session.ask(Call::Put(key, value), READING).ok()
+}
+
+/// Whether a transaction is begun, and its put told written as soon as its message 1 went out.
+fn writes_at_once(session: &mut Coordinator, alloc: Global) -> Option<bool> {
+    session.ask(Call::Begin(Priority::Normal), READING).ok()?;
+    let ts = Timestamp::new(READING, 0);
+    let begun = tells(session, &Answer::Begun { id: ID, ts })?;
+    ask_put(session, alloc)?;
+    let put = is_put(session)?;
     session.sent(1).ok()?;
-    let written = tells(session, Answer::Written)?;
+    Some(begun && put && tells(session, &Answer::Written)?)
+}
+
+/// Whether message 2 is then the stage of its commit, and the wave waits for both; the put's reply is heard then.
+fn stages_a_put(session: &mut Coordinator, alloc: Global) -> Option<bool> {
+    let written = writes_at_once(session, alloc)?;
     session.ask(Call::Commit, READING).ok()?;
     let staged = stages(session, 2)?;
     let beside = waits(session, 1)? && waits(session, 2)?;
+    let ts = Timestamp::new(READING, 0);
     session.heard(1, 1, &Reply::Written { ts }).ok()?;
-    Some(begun && put && written && staged && beside)
+    Some(written && staged && beside)
 }
 
 /// What each step of a commit is whose stage is lost, and lost once more.
@@ -79,7 +108,7 @@ fn loses_its_stage(session: &mut Coordinator, alloc: Global) -> Option<[bool; 4]
         staged,
         again,
         waited,
-        tells(session, Answer::Unknown { id: ID })?,
+        tells(session, &Answer::Unknown { id: ID })?,
     ])
 }
 
@@ -100,7 +129,7 @@ fn loses_its_commit(session: &mut Coordinator, alloc: Global) -> Option<[bool; 4
         staged,
         first,
         again,
-        tells(session, Answer::Unknown { id: ID })?,
+        tells(session, &Answer::Unknown { id: ID })?,
     ])
 }
 
