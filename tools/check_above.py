@@ -9,7 +9,8 @@ bodies and their proofs of functions are left out, and definitions and laws stay
            files those that --whole names are read whole, all others as statements: a dozen functions take a few minutes
 
 With --stated or --alone the statements are holes, so --allow-holes goes with them; what counts are the goals and errors of the functions
-and lemma files that are read whole. It helps whoever changes a crate high in the picture on a machine where nothing is proved yet. It is
+and lemma files that are read whole; without that flag what cites a statement is left unchecked. Goals that a function leaves to `search` are not
+tried while a function that it calls has no proof, so this says nothing of them. It helps whoever changes a crate high in the picture on a machine where nothing is proved yet. It is
 no verdict: only `rt ci` is.
 """
 import argparse
