@@ -97,47 +97,51 @@ fn stages_a_put(session: &mut Coordinator, alloc: Global) -> Option<bool> {
     Some(written && staged && beside)
 }
 
+/// Whether a stage was due and is waited for, which went out under this number; it is lost then.
+fn loses_a_stage(session: &mut Coordinator, number: u64) -> Option<bool> {
+    let is = stages(session, number)? && waits(session, number)?;
+    session.lost(number).ok()?;
+    Some(is)
+}
+
+/// Whether a commit at this timestamp was due, which went out under this number; it is lost then.
+fn loses_a_commit(session: &mut Coordinator, number: u64, at: Timestamp) -> Option<bool> {
+    let is = commits(session, number, at)?;
+    session.lost(number).ok()?;
+    Some(is)
+}
+
+/// The stage, message 2, comes back undecided, with the record at this timestamp.
+fn comes_back_above(session: &mut Coordinator, ts: Timestamp) -> Option<()> {
+    let moved = View::Pending { epoch: 0, ts };
+    session.heard(2, 2, &Reply::Status(moved)).ok()
+}
+
 /// What each step of a commit is whose stage is lost, and lost once more.
-fn loses_its_stage(session: &mut Coordinator, alloc: Global) -> Option<[bool; 4]> {
+fn loses_its_stage(session: &mut Coordinator, alloc: Global) -> Option<[bool; 3]> {
     let staged = stages_a_put(session, alloc)?;
     session.lost(2).ok()?;
-    let again = stages(session, 3)?;
-    let waited = waits(session, 3)?;
-    session.lost(3).ok()?;
-    Some([
-        staged,
-        again,
-        waited,
-        tells(session, &Answer::Unknown { id: ID })?,
-    ])
+    let again = loses_a_stage(session, 3)?;
+    let unknown = tells(session, &Answer::Unknown { id: ID })?;
+    Some([staged, again, unknown])
 }
 
 /// What each step of a commit is whose stage comes back undecided, above it, and whose commit is then lost, and lost once more.
 fn loses_its_commit(session: &mut Coordinator, alloc: Global) -> Option<[bool; 4]> {
     let staged = stages_a_put(session, alloc)?;
     let above = Timestamp::new(READING, 5);
-    let moved = View::Pending {
-        epoch: 0,
-        ts: above,
-    };
-    session.heard(2, 2, &Reply::Status(moved)).ok()?;
-    let first = commits(session, 3, above)?;
-    session.lost(3).ok()?;
-    let again = commits(session, 4, above)?;
-    session.lost(4).ok()?;
-    Some([
-        staged,
-        first,
-        again,
-        tells(session, &Answer::Unknown { id: ID })?,
-    ])
+    comes_back_above(session, above)?;
+    let first = loses_a_commit(session, 3, above)?;
+    let again = loses_a_commit(session, 4, above)?;
+    let unknown = tells(session, &Answer::Unknown { id: ID })?;
+    Some([staged, first, again, unknown])
 }
 
 #[test]
 fn a_stage_that_is_lost_twice_leaves_the_commit_unknown(rt: HostRuntime) -> Result<(), Fail> {
     let splits = Keys::new(rt.alloc());
     let mut session = Coordinator::new(rt.alloc(), 1, TRIES, true, &splits);
-    assert_eq!(rt; loses_its_stage(&mut session, rt.alloc()), Some([true; 4]));
+    assert_eq!(rt; loses_its_stage(&mut session, rt.alloc()), Some([true; 3]));
     Ok(())
 }
 
