@@ -1,5 +1,5 @@
 #!/usr/bin/env python3
-"""database.py BINARY: entries per second and peak memory of `BINARY run` on two workloads.
+"""database.py BINARY: entries per second and peak memory of `BINARY run` on two workloads, each with pipelined writes and without.
 
 Each line that is printed: the workload, its entries, seconds, entries per second, and the peak memory in MiB.
 """
@@ -14,13 +14,13 @@ def clock(start):
     return {"start": start, "step": 1}
 
 
-def one_session():
+def one_session(pipelining):
     """20,000 puts on distinct keys, in 200 transactions of one session."""
     script = [{"do": [{"put": ["k%05d" % (100 * t + n), "v"]} for n in range(100)]} for t in range(200)]
-    return {"version": 1, "pipelining": False, "turns": [], "sessions": [{"clock": clock(10), "script": script}]}
+    return {"version": 1, "pipelining": pipelining, "turns": [], "sessions": [{"clock": clock(10), "script": script}]}
 
 
-def eight_sessions():
+def eight_sessions(pipelining):
     """2,000 transactions of eight sessions on sixteen shared keys, in turns, one call of each session after another."""
     sessions = []
     for s in range(8):
@@ -37,7 +37,7 @@ def eight_sessions():
     for _ in range(1000):
         for s in range(8):
             turns += ["s%d" % (s + 1), "b%d" % (s + 1)]
-    return {"version": 1, "pipelining": False, "splits": ["a04", "a08", "a12"], "turns": turns, "sessions": sessions}
+    return {"version": 1, "pipelining": pipelining, "splits": ["a04", "a08", "a12"], "turns": turns, "sessions": sessions}
 
 
 def measure(binary, name, work):
@@ -50,7 +50,7 @@ def measure(binary, name, work):
         print("%s: status %d" % (name, child.returncode))
         return False
     entries = output.split(b"\nreport\n")[0].count(b"\n") - 2
-    print("%-30s %8d entries %8.2f s %10.0f entries/s" % (name, entries, seconds, entries / seconds), end="")
+    print("%-42s %8d entries %8.2f s %10.0f entries/s" % (name, entries, seconds, entries / seconds), end="")
     return True
 
 
@@ -58,7 +58,8 @@ def main():
     if len(sys.argv) != 2:
         print(__doc__, file=sys.stderr)
         return 2
-    for name, work in (("one session, 20,000 puts", one_session()), ("eight sessions, shared keys", eight_sessions())):
+    shapes = (("one session, 20,000 puts", one_session), ("eight sessions, shared keys", eight_sessions))
+    for name, work in [(name + how, shape(p)) for name, shape in shapes for p, how in ((True, ", pipelined"), (False, ""))]:
         # Each in a child of its own, so that the peak of one run is not that of the other.
         pid = os.fork()
         if pid == 0:

@@ -1,10 +1,10 @@
 #!/usr/bin/env python3
-"""growth.py BINARY [N [PLAIN]]: how the time of `BINARY run` grows with the workload, and how it stands to a plain program's.
+"""growth.py BINARY [N [PLAIN [RUNS]]]: how the time of `BINARY run` grows with the workload, and how it stands to a plain program's.
 
-Each case runs in a process of its own, five times with N and five times with 2 N statements (N is 2000 where it is not given). Each line
-that is printed: the case, the medians of the processor seconds at both sizes, the exponent between them, that of the entries in the journal
-between the two sizes, and, where PLAIN is given, the same of PLAIN, which runs in turn with BINARY so that both meet the same other work, and
-how many times its seconds BINARY takes at the larger size. PLAIN must write the same bytes.
+Each case runs with N/8, N/4, N/2 and N statements (N is 4000 where it is not given), RUNS times each (five where that is not given), every run in a
+process of its own. Each line that is printed: the case, the medians of the processor seconds at the four sizes, the exponent between the first and the last of them, that of
+the entries in the journal between the same two, and, where PLAIN is given, the same of PLAIN, which runs in turn with BINARY so that both meet
+the same other work, and how many times its seconds BINARY takes at the two larger sizes. PLAIN must write the same bytes.
 """
 import json
 import math
@@ -14,7 +14,7 @@ import subprocess
 import sys
 import tempfile
 
-RUNS = 5
+PARTS = (8, 4, 2, 1)
 
 
 def session(items, start=10):
@@ -113,14 +113,14 @@ def output(binary, path):
         return sink.read()
 
 
-def medians(binaries, path):
-    """The median of each program's seconds; they run in turn."""
+def medians(binaries, path, runs):
+    """The median of each program's seconds in so many runs; they run in turn."""
     with open(os.devnull, "wb") as sink:
-        runs = [[seconds(binary, path, sink) for binary in binaries] for _ in range(RUNS)]
-    return [statistics.median(run) for run in zip(*runs)]
+        times = [[seconds(binary, path, sink) for binary in binaries] for _ in range(runs)]
+    return [statistics.median(own) for own in zip(*times)]
 
 
-def measured(binaries, work):
+def measured(binaries, work, runs):
     """The seconds of each program, and the entries."""
     with tempfile.NamedTemporaryFile("w", suffix=".json") as file:
         json.dump(work, file)
@@ -130,25 +130,31 @@ def measured(binaries, work):
         for plain in binaries[1:]:
             if output(plain, file.name) != written:
                 raise RuntimeError("the plain program writes something else")
-        return medians(binaries, file.name), entries
+        return medians(binaries, file.name, runs), entries
 
 
-def grown(one, two):
-    return "%8.3f s %8.3f s   exponent %.2f" % (one, two, math.log(two / one, 2))
+def exponent(counts):
+    """By which power of the statements this grew, from the first size to the last."""
+    return math.log(counts[-1] / counts[0], PARTS[0] / PARTS[-1])
+
+
+def grown(times):
+    return "%s   exponent %.2f" % (" ".join("%7.3f" % time for time in times), exponent(times))
 
 
 def main():
-    if len(sys.argv) not in (2, 3, 4):
+    if len(sys.argv) not in (2, 3, 4, 5):
         print(__doc__, file=sys.stderr)
         return 2
-    size = int(sys.argv[2]) if len(sys.argv) > 2 else 2000
-    binaries = [os.path.abspath(word) for word in sys.argv[1:2] + sys.argv[3:]]
+    size = int(sys.argv[2]) if len(sys.argv) > 2 else 4000
+    binaries = [os.path.abspath(word) for word in sys.argv[1:2] + sys.argv[3:4]]
+    runs = int(sys.argv[4]) if len(sys.argv) > 4 else 5
     for name, made in CASES:
-        one, few = measured(binaries, made(size))
-        two, many = measured(binaries, made(2 * size))
-        line = "%-28s %s, of entries %.2f" % (name, grown(one[0], two[0]), math.log(many / few, 2))
-        if len(binaries) > 1:
-            line += "   plain %s   %.2f times" % (grown(one[1], two[1]), two[0] / two[1])
+        rows = [measured(binaries, made(size // part), runs) for part in PARTS]
+        own, *plain = zip(*(times for times, _ in rows))
+        line = "%-28s %s, of entries %.2f" % (name, grown(own), exponent([entries for _, entries in rows]))
+        for other in plain:
+            line += "   plain %s   times %.2f %.2f" % (grown(other), own[-2] / other[-2], own[-1] / other[-1])
         print(line, flush=True)
     return 0
 

@@ -149,10 +149,10 @@ def turn(value, place, sessions, recoverers):
 
 def workload(value):
     names = ("version", "pipelining", "turns", "sessions", "recoverers", "splits", "limit", "reruns", "opening")
-    members(value, "workload", names, ("version", "pipelining", "sessions"))
+    members(value, "workload", names, ("version", "sessions"))
     number(value["version"], "version")
     need(value["version"] == 1, "version", "it is 1")
-    need(value["pipelining"] is False, "pipelining", "it is false so far")
+    need(isinstance(value.get("pipelining", True), bool), "pipelining", "it is true or false")
     listed(value["sessions"], "sessions")
     need(1 <= len(value["sessions"]) <= 64, "sessions", "there are 1 to 64")
     counts = [session(one, f"sessions[{at}]", len(value["sessions"]), "turns" in value) for at, one in enumerate(value["sessions"])]

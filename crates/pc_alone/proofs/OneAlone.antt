@@ -94,7 +94,7 @@ first-of (x ∷ []) is = (x, refl)
 first-of (x ∷ y ∷ ys) is = absurd (let none : ⊥ = omega (arith, is) in none)
 
 -- what Follows asks of an event is what is asked of one session alone
-calls-as : (k : Known) (event : Event) → SendsForCall k event → SendsForCallOrRecord k event
+calls-as : (k : Known) (event : Event) → SendsForCall false k event → SendsForCallOrRecord k event
 calls-as k (events.Send number range request) is = inl is
 calls-as k event is = tt
 
@@ -277,7 +277,7 @@ module _ (work : Workload) (rules : ActorId → ℕ → ℕ → Bool) (head : He
     tidy = λ before e later split me.
         let k = keeps before e later split me in
         record {
-          calls = calls-as (known_at head the_session before) e.event k.calls;
+          calls = calls-as (known_at head the_session before) e.event (subst (λ b. SendsForCall b (known_at head the_session before) e.event) of.unpipelined k.calls);
           puts = puts-as (known_at head the_session before) e.event (heard-before before e later split);
           early = k.early_tell;
           aborts = k.aborts;

@@ -16,7 +16,7 @@ use Rattle.pc_proto.specs.declared.call.Call.{Call}
 use Rattle.pc_proto.specs.declared.event.Event.{Event}
 use Rattle.pc_proto.specs.declared.event.Event.TheVariants as events
 use Rattle.pc_proto.specs.declared.request.Request.{Request}
-use Rattle.pc_turns.specs.Order.{AsksIfNext, AsksPartly, AsksWhole, FinishesIfLeft, GoInTurns, GoOnThreads, GoesByItself, IsInBetween, TakesOne, UnlessEnded, entries_by, events_of, is_at_end}
+use Rattle.pc_turns.specs.Order.{AsksIfNext, AsksPartly, AsksWhole, FinishesIfLeft, FinishesWhole, GoInTurns, GoOnThreads, GoesByItself, IsInBetween, TakesOne, UnlessEnded, entries_by, events_of, is_at_end}
 use Rattle.pc_turns.specs.Order.GoesByItself.{Passed, Ended, Onwards}
 use Rattle.pc_world.proofs.Knowing.{known_push}
 use Rattle.pc_follows.specs.FinishingJobs.{jobs_of}
@@ -182,6 +182,14 @@ hears-after_tell own p answer is all =
     subst HearsEach (sym (known_push own p))
     (hears-each (learn p k) (λ m there. heard-more m k.heard _ (heard-in k all m (subst (λ l. Contains l m) sent there))))
 
+-- what was heard was heard when more was done
+heard-kept : (before xs : List (Pair Event)) (m : Sent) → is_heard (known_of before).heard m ≡ true → is_heard (known_of (before ++ xs)).heard m ≡ true
+heard-kept before [] m is = subst (λ l. is_heard (known_of l).heard m ≡ true) (sym (append-nil before)) is
+heard-kept before (x ∷ xs) m is =
+    let k = known_of before in
+    subst (λ l. is_heard (known_of l).heard m ≡ true) (append_assoc before (x ∷ []) xs)
+    (heard-kept (before ++ x ∷ []) xs m (subst (λ k. is_heard k.heard m ≡ true) (sym (known_push before x)) (heard-more m k.heard (option_to_list (heard_by x.entry.event x.named k.sent)) is)))
+
 -- ---- what an entry that asks or tells finds
 
 pub record IsGoodAt (before : List (Pair Event)) (p : Pair Event) : Type 0 where
@@ -307,18 +315,27 @@ module _ (own : List (Pair Event)) (heard : TellsHeard own) where
         by false is takes (inr over) = absurd (let both = sym over ∙ is in cc both)
 
     finishes-good : (before part : List (Pair Event)) → Goes before → (jobs : List (List Request)) → UnlessEnded (ended 1 before) part (FinishesIfLeft next ended 1 jobs before part) → AllGood before part × Goes (before ++ part)
-    finishes-good before part goes jobs takes = by (ended 1 before) takes
+    finishes-good before part goes jobs takes = by (ended 1 before) refl takes goes
       where
-        left : (jobs : List (List Request)) → FinishesIfLeft next ended 1 jobs before part → AllGood before part × Goes (before ++ part)
-        left [] nothing = (nothing-good before part nothing, still before part nothing goes)
-        left (job ∷ jobs) is = elim is [
-          | inl done ↦ (between-good before part done.within, inl done.heard)
+        whole-heard : HearsEach (known_of before) → FinishesWhole 1 before part → HearsEach (known_of (before ++ part))
+        whole-heard all done =
+            let later = known_of (before ++ part) in
+            hears-each later (λ m there. elim (All-contains (λ m. IsTrue (is_heard later.heard m) ⊎ Contains (known_of before).sent m) later.sent m done.heard there) [
+              | inl heard ↦ heard
+              | inr was ↦ heard-kept before part m (heard-in (known_of before) all m was)
+            ])
+
+        left : HearsEach (known_of before) → (jobs : List (List Request)) → FinishesIfLeft next ended 1 jobs before part → AllGood before part × Goes (before ++ part)
+        left all [] nothing = (nothing-good before part nothing, still before part nothing (inl all))
+        left all (job ∷ jobs) is = elim is [
+          | inl done ↦ (between-good before part done.within, inl (whole-heard all done))
           | inr broken ↦ (between-good before part broken.0.within, inr broken.1)
         ]
 
-        by : (b : Bool) → UnlessEnded b part (FinishesIfLeft next ended 1 jobs before part) → AllGood before part × Goes (before ++ part)
-        by true nothing = (nothing-good before part nothing, still before part nothing goes)
-        by false takes = left jobs takes
+        by : (b : Bool) → ended 1 before ≡ b → UnlessEnded b part (FinishesIfLeft next ended 1 jobs before part) → Goes before → AllGood before part × Goes (before ++ part)
+        by true is nothing goes = (nothing-good before part nothing, still before part nothing goes)
+        by false is takes (inl all) = left all jobs takes
+        by false is takes (inr over) = absurd (let both = sym over ∙ is in cc both)
 
     module _ (mine : All (λ p. p.entry.actor ≡ actors.Session 1) own) where
       share : (before after : List (Pair Event)) → own ≡ before ++ after → entries_by 1 before ≡ before

@@ -1,6 +1,5 @@
 -- Entries that `insert_entry` keeps in the order of their keys: what is found under a key, and that the order stays.
 use Rattle.std.proofs.Common.{◌≡◌, Bool, true, false, not, cond, List, [], ◌∷◌, filter, find, None, Some, refl, sym, ap, ◌∙◌}
-use Rattle.std.proofs.lemmas.Cmp.{tied_itself}
 use Rattle.std.specs.BTreeMap.{insert_entry, is_at}
 use Rattle.std.specs.Cmp.{IsTotalOrder}
 use Rattle.std.specs.declared.cmp.Ordering.{Ordering}

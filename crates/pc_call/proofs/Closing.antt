@@ -1,5 +1,5 @@
 -- A transaction ends with the final view that was heard last.
-use Rattle.std.proofs.Common.{◌≡◌, ℕ, ◌≤◌, Bool, true, false, ◌||◌, cond, List, [], ◌∷◌, ◌++◌, map, Some, IfSome, IsTrue, refl, sym, ap, ◌∙◌, subst, arith, Contains}
+use Rattle.std.proofs.Common.{◌≡◌, ℕ, ◌≤◌, Bool, true, false, ◌||◌, cond, List, [], ◌∷◌, ◌++◌, map, None, Some, IfSome, IsTrue, refl, sym, ap, ◌∙◌, subst, arith, Contains}
 use Rattle.std.proofs.lemmas.List.Folds.{list_any-append}
 use Rattle.std.specs.List.{list_any}
 use Rattle.std.specs.Option.{option_or}
@@ -48,7 +48,7 @@ module _ (k : Known) (x : OpenTxn) (t : Txn) (anchor : List ℕ) (fate : Fate) (
   others3 = map (txn_heard k.sent (Some h)) open_in.others
 
   abbrev left : Left
-  left = record { meta = meta_of t anchor; fate = fate; locks = t.locks }
+  left = record { meta = meta_of t anchor; staged = None; fate = fate; locks = t.locks }
 
   pub open3 : IsOpenIn k3 t3
   open3 = record { others = others3; is_open = open_in.is_open; first = ap (map (txn_heard k.sent (Some h))) open_in.first }

@@ -1,16 +1,20 @@
 -- Nothing of a call met its eighth where none of its messages did.
-use Rattle.std.proofs.Common.{◌≡◌, ℕ, ◌+◌, ◌<◌, inl, inr, List, [], ◌∷◌, Some, zero, suc, sym, ap, ◌∙◌, subst, arith, All}
+use Rattle.std.proofs.Common.{◌≡◌, ℕ, ◌+◌, ◌<◌, Bool, true, false, inl, inr, List, [], ◌∷◌, Some, zero, suc, sym, ap, ◌∙◌, subst, arith, All}
 use Rattle.std.proofs.lemmas.List.Elements.{All-cons, All-head, All-nil, All-tail}
 use Rattle.std.proofs.lemmas.Option.{same_Some}
 use Rattle.pc_base.specs.declared.limits.TheConstants.{MOST_CONFLICTS}
+use Rattle.pc_base.specs.declared.transaction.TxnId.{TxnId}
 use Rattle.pc_call.specs.Serving.{NoOtherMetEighth}
+use Rattle.pc_call.specs.Telling.{TellsAfterEighth}
 use Rattle.pc_proto.specs.declared.answer.Answer.{Answer}
+use Rattle.pc_proto.specs.declared.answer.Answer.TheVariants as answers
 use Rattle.pc_proto.specs.declared.call.Call.TheVariants as calls
 use Rattle.pc_proto.specs.declared.request.Request.{Request}
 use Rattle.pc_proto.specs.declared.request.Request.TheVariants as requests
 use Rattle.pc_wave.proofs.Lists.{at_least-fewer}
 use Rattle.pc_wave.specs.declared.message.Message.{Message}
 use Rattle.pc_wave.specs.Standing.{MessageStands}
+use Rattle.pc_wave.specs.Course.{Course}
 use Rattle.pc_world.specs.Counting.{AtLeast}
 use Rattle.pc_follows.specs.Eighth.{IsBlockedAnswer, IsMovedAnswer, MetEighth, TellsTheEighth, WasMovedEighth}
 use Rattle.pc_world.specs.Known.{Known}
@@ -41,20 +45,20 @@ module _ {X : Type 0} (P Q : X → Type 0) (all : (x : X) → P x → Q x) where
   at_least-weaker (suc n) (x ∷ xs) (inl (p, rest)) = inl (all x p, at_least-weaker n xs rest)
   at_least-weaker (suc n) (x ∷ xs) (inr rest) = inr (at_least-weaker (suc n) xs rest)
 
-module _ (k : Known) (ms : List Message) (fewer : NoOtherMetEighth k.heard_now ms) where
-  none_of : (r : Request) → MetEighth k r → (xs : List Message) → All (MessageStands k) xs → All (λ m. m.conflicts < MOST_CONFLICTS) xs → All (λ m. IsSameRequest m.request r → ⊥) xs
+module _ (c : Course) (k : Known) (waits : Request → Type 0) (ms : List Message) (fewer : NoOtherMetEighth waits k.heard_now ms) where
+  none_of : (r : Request) → MetEighth k r → (xs : List Message) → All (MessageStands c k) xs → All (λ m. m.conflicts < MOST_CONFLICTS) xs → All (λ m. IsSameRequest m.request r → ⊥) xs
   none_of r eight [] stand few = All-nil (λ (m : Message). IsSameRequest m.request r → ⊥)
   none_of r eight (m ∷ xs) stand few =
-      let st = All-head (MessageStands k) m xs stand in
+      let st = All-head (MessageStands c k) m xs stand in
       let low = All-head (λ (m : Message). m.conflicts < MOST_CONFLICTS) m xs few in
       All-cons (λ (m : Message). IsSameRequest m.request r → ⊥) m xs
       (λ same. st.counted.no_more (at_least-fewer (IsConflictOf m.request) (m.conflicts + 1) MOST_CONFLICTS k.heard_now (omega (arith, low))
       (at_least-weaker (IsConflictOf r) (IsConflictOf m.request) (λ h c. record { same = same_trans m.request r h.request same c.same; conflict = c.conflict }) MOST_CONFLICTS k.heard_now eight)))
-      (none_of r eight xs (All-tail (MessageStands k) m xs stand) (All-tail (λ (m : Message). m.conflicts < MOST_CONFLICTS) m xs few))
+      (none_of r eight xs (All-tail (MessageStands c k) m xs stand) (All-tail (λ (m : Message). m.conflicts < MOST_CONFLICTS) m xs few))
 
   -- no request met its eighth where each message met fewer
-  pub none_eighth : All (MessageStands k) ms → All (λ m. m.conflicts < MOST_CONFLICTS) ms → (r : Request) → MetEighth k r → ⊥
-  none_eighth stand few r eight = fewer r (none_of r eight ms stand few) eight
+  pub none_eighth : All (MessageStands c k) ms → All (λ m. m.conflicts < MOST_CONFLICTS) ms → (r : Request) → (waits r → ⊥) → MetEighth k r → ⊥
+  none_eighth stand few r left eight = fewer r left (none_of r eight ms stand few) eight
 
 -- a call that is no commit may be told anything then
 pub no_eighth : (k : Known) (w : Statement) (answer : Answer) → k.statement ≡ Some w → (w.call ≡ calls.Commit → ⊥) → ((r : Request) → MetEighth k r → ⊥) → (s : Statement) → k.statement ≡ Some s → TellsTheEighth k s answer
@@ -72,10 +76,26 @@ no_eighth_move k w answer opened call none s is =
 pub told_moved : (k : Known) (w : Statement) (answer : Answer) → k.statement ≡ Some w → w.call ≡ calls.Commit → IsMovedAnswer answer → (s : Statement) → k.statement ≡ Some s → TellsTheEighth k s answer
 told_moved k w answer opened call moved s is =
     let same : w ≡ s = same_Some w s (sym opened ∙ is) in
-    record { blocked = λ no r eight. absurd (no (sym (ap (λ (s : Statement). s.call) same) ∙ call)); moved = λ asked eight. moved }
+    record { blocked = λ no r eight. absurd (no (sym (ap (λ (s : Statement). s.call) same) ∙ call)); moved = λ asked eight. inl moved }
 
 -- another call that is told that it is blocked
 pub told_blocked : (k : Known) (w : Statement) (answer : Answer) → k.statement ≡ Some w → (w.call ≡ calls.Commit → ⊥) → IsBlockedAnswer answer → (s : Statement) → k.statement ≡ Some s → TellsTheEighth k s answer
 told_blocked k w answer opened other blocked s is =
     let same : w ≡ s = same_Some w s (sym opened ∙ is) in
     record { blocked = λ no r eight. blocked; moved = λ asked eight. absurd (other (ap (λ (s : Statement). s.call) same ∙ asked)) }
+
+-- so it may be told, whether messages may be lost or not
+pub any_eighth : (loses : Bool) (k : Known) (answer : Answer) → ((s : Statement) → k.statement ≡ Some s → TellsTheEighth k s answer) → (s : Statement) → k.statement ≡ Some s → TellsAfterEighth loses k s answer
+any_eighth false k answer tells s is = tells s is
+any_eighth true k (answers.Unavailable faults) tells s is = tt
+any_eighth true k (answers.Unknown id) tells s is = tt
+any_eighth true k answer tells s is = tells s is
+
+-- where they may, a call of which a message is lost is told so first
+pub lost_eighth : (loses : Bool) → loses ≡ true → (k : Known) (s : Statement) (faults : ℕ) → TellsAfterEighth loses k s (answers.Unavailable faults)
+lost_eighth true is k s faults = tt
+lost_eighth false is k s faults = absurd cc
+
+pub unknown_eighth : (loses : Bool) → loses ≡ true → (k : Known) (s : Statement) (id : TxnId) → TellsAfterEighth loses k s (answers.Unknown id)
+unknown_eighth true is k s id = tt
+unknown_eighth false is k s id = absurd cc

@@ -120,7 +120,7 @@ module _ (t : Txn) (anchor : List ℕ) (fate : Fate) (heard : List Heard) (h : H
 
   -- and they may be sent
   pub may_finish : (k : Known) (t2 : Txn) → k.heard ≡ heard ++ h ∷ [] → greatest_of (view_stamps ends.view) ≤ k.top → Contains k.txns t2 → t2.id ≡ t.id → t2.locks ≡ t.locks
-      → MayBeSettled k (record { meta = meta_of t anchor; fate = fate; locks = t.locks })
+      → MayBeSettled k (record { meta = meta_of t anchor; staged = None; fate = fate; locks = t.locks })
   may_finish k t2 all low there same locks = record {
     resolve =
         subst (λ hs. Any (ShowsFate t.id fate) hs) (sym all)

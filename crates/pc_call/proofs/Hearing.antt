@@ -1,38 +1,48 @@
 -- A reply to a message of an open call is heard, and the call goes on.
 use Rattle.std.proofs.Common.{◌≡◌, ℕ, ◌+◌, ◌≤◌, max, not, Bool, true, false, cond, ◌&&◌, ◌||◌, ◌==◌, ◌<◌, ◌⊎◌, inl, inr, List, [], ◌∷◌, ◌++◌, length, map, filter, find, Option, Some, None, refl, sym, ap, ◌∙◌, subst, arith, All, Any, Contains, IsTrue, count_by, append_assoc}
 use Rattle.std.specs.List.{list_any}
-use Rattle.std.specs.Option.{option_to_list}
 use Rattle.std.proofs.lemmas.List.{append-nil}
-use Rattle.std.proofs.lemmas.List.Elements.{All-cons, All-map, All-nil, All-push, All-weaker}
-use Rattle.std.proofs.lemmas.Bool.{and_from, eq-eqb}
+use Rattle.std.proofs.lemmas.List.Elements.{All-cons, All-contains, All-map, All-nil, All-push, All-weaker}
+use Rattle.std.proofs.lemmas.Bool.{and_from, eq-eqb, ne_eqb}
 use Rattle.std.proofs.lemmas.Option.{same_Some}
-use Rattle.pc_base.specs.declared.limits.TheConstants.{MOST_CONFLICTS}
-use Rattle.pc_base.specs.declared.transaction.TxnId.{TxnId}
+use Rattle.pc_call.proofs.Below.{below_heard}
+use Rattle.pc_call.proofs.JustSo.{just_so_heard}
+use Rattle.pc_call.specs.Beaten.{HasBeatenIn}
+use Rattle.pc_call.specs.Setting.{Setting}
+use Rattle.pc_base.specs.declared.limits.TheConstants.{MOST_CONFLICTS, MOST_IN_FLIGHT}
 use Rattle.pc_base.specs.Span.{same_key}
-use Rattle.pc_base.specs.Transaction.{same_txn}
+use Rattle.pc_call.proofs.Settled.{settled_heard}
+use Rattle.pc_call.proofs.StillReplies.{above_put, conflict_heard, conflict_refutes, conflict_unwritten, fewer_suit, held_once, is_still, landed_writes, no_push, put_back, reads_still, refresh_kind, refresh_no_conflict, refreshes_still, shorter, still_about, still_goes_on, still_heard, still_moves, still_no_put, still_quiet, still_unasked, still_refuses}
 use Rattle.pc_call.proofs.Behind.{not_behind}
 use Rattle.pc_call.proofs.Beating.{beaten_heard}
-use Rattle.pc_call.proofs.Beside.{IsAskedOrBeside, IsSentOnceMore, all_past, asked-kept}
-use Rattle.pc_call.proofs.Eighths.{none_eighth, same_sym}
-use Rattle.pc_call.proofs.Facts.{are_numbered, open_is}
-use Rattle.pc_call.proofs.Holders.{holders_heard, is_id, met_by}
-use Rattle.pc_call.proofs.Lists.{all_behind, all_unmapped, kept_by, only_found}
-use Rattle.pc_call.proofs.Meeting.{any_changed, gone_out_on, low-more, low_now, met-more}
+use Rattle.pc_call.proofs.Beside.{IsAskedOrBeside, asked-kept, waits_as}
+use Rattle.pc_call.proofs.Eighths.{same_sym}
+use Rattle.pc_call.proofs.Facts.{are_numbered, open_is, unsent_goes, unsent_unlost}
+use Rattle.pc_call.proofs.Full.{full_stays, full_back, full_from}
+use Rattle.pc_call.proofs.Holders.{holders_heard}
+use Rattle.pc_call.proofs.Intents.{put_again_on}
+use Rattle.pc_call.proofs.Kept.{kept_on, none_kept}
+use Rattle.pc_call.proofs.Lists.{all_behind, all_changed, all_unmapped, all_with, any_other, kept_by, only_found}
+use Rattle.pc_call.proofs.Meeting.{any_changed, any_goes_on, gone_out_on, low-more, low_now, met-more}
 use Rattle.pc_call.proofs.Silent.{AreSilent, IsBeatPurpose, IsSilent, silent}
 use Rattle.pc_call.proofs.Turning.{back_out, turn_heard}
-use Rattle.pc_call.specs.Beside.{AreAskedOrDone, ArePastOrBeside}
+use Rattle.pc_call.proofs.StageLists.{order_kept}
+use Rattle.pc_call.specs.Beside.{AreAskedOrDone}
 use Rattle.pc_call.specs.declared.purpose.Purpose.{Purpose}
 use Rattle.pc_call.specs.declared.purpose.Purpose.TheVariants as purposes
-use Rattle.pc_call.specs.Ended.{landed_first, landed_with, laying, laying_as, laying_first}
+use Rattle.pc_call.specs.Ended.{landed_awaited, landed_by, landed_with}
 use Rattle.pc_call.specs.Learned.{known_heard}
-use Rattle.pc_call.specs.Opening.{GoesOn}
+use Rattle.pc_call.specs.Missing.{IsAboveMisses}
 use Rattle.pc_call.specs.Paced.{IsPaced, was_met, was_pushed}
-use Rattle.pc_call.specs.Serving.{AreReadsOf, HasBeatenBy, InCall, IsAnswerTo, IsMetUpTo, IsOpenIn, IsReadFor, IsRefreshGoneOut, IsRefusedBy, IsSplit, LaysLast, LaysNext, MetNoOtherWrite, NoOtherMetEighth, Serves, ServesRead, ServesRefresh, ServesWrite, WasRefusedIfCommit, WroteNothingNew, holders_met, out_of, write_call}
-use Rattle.pc_follows.specs.Heartbeats.{HasBeaten}
-use Rattle.pc_lists.proofs.Anywhere.{any_head, any_kept, any_last, any_later}
-use Rattle.pc_lists.proofs.Lists.{contains_head}
-use Rattle.pc_lists.proofs.Same.{same_key-self}
-use Rattle.pc_lists.proofs.Counts.{count-cons, count-push, one_if}
+use Rattle.pc_call.specs.Serving.{AreReadsOf, HasBeatenBy, InCall, IsAnswerTo, IsMetUpTo, IsOpenFor, IsOpenIn, IsReadFor, IsRefreshGoneOut, IsRefusedBy, IsSplit, KeepsStages, LaysLast, LaysNext, MayBePutAgain, MeetsByPut, MetNoOtherWrite, NoOtherMetEighth, NoneMetEighth, ReadsNothing, SendsAgain, Serves, ServesProve, ServesRead, ServesRefresh, ServesWrite, WaitsMeanwhile, WasRefusedIfCommit, conflicts_before, holders_met, out_of, IsOutOrLost}
+use Rattle.pc_call.specs.Suiting.{SuitsFlightIn}
+use Rattle.pc_call.specs.Waiting.{waits_on}
+use Rattle.pc_follows.specs.OwnStages.{refuses_stage}
+use Rattle.pc_follows.specs.PipelinedPuts.{heard_before, proves}
+use Rattle.pc_lists.proofs.Anywhere.{any_head, any_kept, any_later}
+use Rattle.pc_lists.proofs.Lists.{all_from_contains, contains_filter, contains_in_filter}
+use Rattle.pc_lists.proofs.Same.{same_key-equal}
+use Rattle.pc_lists.proofs.Counts.{count-push, one_if}
 use Rattle.pc_proto.specs.declared.call.Call.{Call}
 use Rattle.pc_proto.specs.declared.call.Call.TheVariants as calls
 use Rattle.pc_proto.specs.declared.meta.TxnMeta.{TxnMeta}
@@ -42,193 +52,43 @@ use Rattle.pc_proto.specs.declared.reply.Reply.TheVariants as replies
 use Rattle.pc_proto.specs.declared.request.Request.{Request}
 use Rattle.pc_proto.specs.declared.request.Request.TheVariants as requests
 use Rattle.pc_proto.specs.Replies.{is_conflict, is_conflict_with, is_written}
-use Rattle.pc_proto.specs.Requests.{is_put_of, is_about, is_push_of}
+use Rattle.pc_proto.specs.Requests.{is_about, is_put, is_put_of}
 use Rattle.pc_proto.specs.Stamps.{greatest_of, reply_stamps}
-use Rattle.pc_reads.specs.ReadsStanding.{refresh_to}
 use Rattle.pc_reads.specs.Replies.{unrefreshed_by, unrefreshed_in}
 use Rattle.pc_refusals.proofs.Counted.{refusals_go}
 use Rattle.pc_refusals.specs.Moves.{IsNoMove}
+use Rattle.pc_txn.proofs.Again.{asked_heard}
 use Rattle.pc_txn.proofs.Keeping.{quiet_leaves, stands_on}
+use Rattle.pc_txn.proofs.Late.{late_more}
 use Rattle.pc_txn.proofs.Laying.{put_landed, seq_low}
 use Rattle.pc_txn.proofs.Puts.{puts-one, puts-own}
+use Rattle.pc_txn.proofs.Writes.{proved-key, proved-seq}
 use Rattle.pc_txn.specs.Counted.{IsCounted}
 use Rattle.pc_flight.specs.InFlight.{is_another}
 use Rattle.pc_flight.specs.declared.write.WriteInFlight.{WriteInFlight}
 use Rattle.pc_txn.specs.declared.txn.OpenTxn.{OpenTxn}
-use Rattle.pc_txn.specs.Opened.{landed_at, meta_now, opened_as, own_get, own_put, own_scan}
-use Rattle.pc_txn.specs.Standing.{HasMovedOn, LeavesAsIs, TxnStands, is_plain, is_query_of}
-use Rattle.pc_txn.specs.Writing.{PutsUpTo}
+use Rattle.pc_txn.specs.Opened.{landed_at, meta_now, opened_as, own_put, put_at}
+use Rattle.pc_txn.specs.Standing.{HasMovedOn, LeavesAsIs, TxnStands, WasMissedAt, is_plain}
+use Rattle.pc_txn.specs.Writing.{PutsUpTo, WasAskedAt, finds}
 use Rattle.pc_wave.proofs.Changed.{found_all, found_passes, found_some}
+use Rattle.pc_wave.proofs.ForCall.{same_before}
 use Rattle.pc_wave.proofs.Hearing.{awaits_as, came_request, wave_heard}
 use Rattle.pc_wave.proofs.Lists.{at_least-before}
 use Rattle.pc_wave.specs.declared.message.Message.{Message}
-use Rattle.pc_wave.specs.Messages.{awaits_at, back_with, back_with_by, first_changed, progress_awaits, wave_awaits}
-use Rattle.pc_wave.specs.Standing.{HasMore, IsAsFar, IsHeardTo, IsMessageAt, IsOnItsWay, MessageStands, WaveStands, goes_beside}
+use Rattle.pc_wave.specs.declared.message.Progress.TheVariants as progresses
+use Rattle.pc_wave.specs.Messages.{awaits_at, back_with, back_with_by, first_changed, has_answer, progress_awaits, progress_has_answer, progress_to_send, wave_awaits}
+use Rattle.pc_wave.specs.Standing.{AreOfTwo, HasMore, IsAsFar, IsHeardTo, IsOnItsWay, MessageStands, Pairwise, WaveStands, goes_beside}
 use Rattle.pc_world.specs.Answering.{IsRefreshReply, MayAnswer}
-use Rattle.pc_follows.specs.Eighth.{MetEighth}
-use Rattle.pc_follows.specs.PipelinedPuts.{IsHeardOf, IsToOwnPut}
 use Rattle.pc_world.specs.Known.{Known}
-use Rattle.pc_world.specs.Known.Statements.{Statement}
 use Rattle.pc_world.specs.Known.Traffic.{Heard, Sent}
-use Rattle.pc_world.specs.Known.Transactions.{Txn, meta_of, txn_heard}
-use Rattle.pc_world.specs.Known.Writes.{Write, last_seq_of}
-use Rattle.pc_world.specs.RangeOf.{pieces}
-use Rattle.pc_world.specs.Send.Put.{AsksFor}
-use Rattle.pc_world.specs.StageFate.{SentStage, is_write_refuted}
+use Rattle.pc_world.specs.Known.Transactions.{Txn, meta_of, raised_to, txn_heard}
+use Rattle.pc_world.specs.Known.Writes.{Write, last_seq_of, proved_at}
+use Rattle.pc_world.specs.StageFate.{SentCommit, SentStage, is_write_refuted}
 use Rattle.pc_world.specs.SameRequest.{IsSameRequest}
-use Rattle.pc_world.specs.Tell.Data.{IsFirstPut, IsPutFor, MayTellWritten, sent_before}
+use Rattle.pc_world.specs.Tell.Data.{IsFirstPut, sent_before}
 use Rattle.pc_world.specs.Tell.Refusal.{IsConflictOf, is_moved}
 
-every : {X : Type 0} (P : X → Type 0) → ((x : X) → P x) → (xs : List X) → All P xs
-every P all [] = All-nil P
-every P all (x ∷ xs) = All-cons P x xs (all x) (every P all xs)
-
--- A request that reads or refreshes.
-abbrev pub is_still : Request → Bool
-is_still (requests.Get id epoch seq ts key) = true
-is_still (requests.Scan id epoch seq ts span) = true
-is_still (requests.Refresh id from to span) = true
-is_still r = false
-
-max-zero : (n : ℕ) → max n 0 ≡ n
-max-zero n = omega arith
-
--- the reply to such a request changes nothing of a transaction
-still_heard : (t : Txn) (sent : List Sent) (number step : ℕ) (reply : Reply) (r : Request) → is_still r ≡ true → txn_heard sent (Some (record { number = number; request = r; reply = reply; step = step })) t ≡ t
-still_heard t sent number step reply (requests.Get id epoch seq ts key) e = ap (λ n. record t { write_ts = n }) (max-zero t.write_ts)
-still_heard t sent number step reply (requests.Scan id epoch seq ts span) e = ap (λ n. record t { write_ts = n }) (max-zero t.write_ts)
-still_heard t sent number step reply (requests.Refresh id from to span) e = ap (λ n. record t { write_ts = n }) (max-zero t.write_ts)
-still_heard t sent number step reply r e = absurd cc
-
-still_quiet : (r : Request) → is_still r ≡ true → is_plain r ≡ true
-still_quiet (requests.Get id epoch seq ts key) e = refl
-still_quiet (requests.Scan id epoch seq ts span) e = refl
-still_quiet (requests.Refresh id from to span) e = refl
-still_quiet r e = absurd cc
-
-still_unasked : (id : TxnId) (r : Request) → is_still r ≡ true → is_query_of id r ≡ false
-still_unasked id (requests.Get other epoch seq ts key) e = refl
-still_unasked id (requests.Scan other epoch seq ts span) e = refl
-still_unasked id (requests.Refresh other from to span) e = refl
-still_unasked id r e = absurd cc
-
-still_about : (id : TxnId) (r : Request) → is_still r ≡ true → is_about id r ≡ false
-still_about id (requests.Get other epoch seq ts key) e = refl
-still_about id (requests.Scan other epoch seq ts span) e = refl
-still_about id (requests.Refresh other from to span) e = refl
-still_about id r e = absurd cc
-
-cond_same : {A : Type 0} (b : Bool) (a : A) → cond b a a ≡ a
-cond_same true a = refl
-cond_same false a = refl
-
--- nor does a conflict of a put
-conflict_heard : (t : Txn) (sent : List Sent) (number step : ℕ) (reply : Reply) (meta : TxnMeta) (seq ts : ℕ) (key : List ℕ) (value : Option (List ℕ)) → is_conflict reply ≡ true
-    → txn_heard sent (Some (record { number = number; request = requests.Put meta seq ts key value; reply = reply; step = step })) t ≡ t
-conflict_heard t sent number step (replies.Conflict holder at place) meta seq ts key value e =
-    let F : ℕ → List Write → Txn = λ n w. record t { write_ts = max t.write_ts n; writes = w } in
-    ap (λ n. F n (cond (same_txn meta.id t.id && meta.epoch == t.epoch) t.writes t.writes)) (cond_same (same_txn meta.id t.id) 0)
-    ∙ ap (F 0) (cond_same (same_txn meta.id t.id && meta.epoch == t.epoch) t.writes)
-    ∙ ap (λ n. record t { write_ts = n }) (max-zero t.write_ts)
-conflict_heard t sent number step reply meta seq ts key value e = absurd cc
-
--- nor refutes one a stage
-conflict_refutes : (s : SentStage) (reply : Reply) (meta : TxnMeta) (seq ts : ℕ) (key : List ℕ) (value : Option (List ℕ)) → is_conflict reply ≡ true → is_write_refuted s (requests.Put meta seq ts key value) reply ≡ false
-conflict_refutes s (replies.Conflict holder at place) meta seq ts key value e = refl
-conflict_refutes s reply meta seq ts key value e = absurd cc
-
-conflict_unwritten : (reply : Reply) → is_conflict reply ≡ true → is_written reply ≡ false
-conflict_unwritten (replies.Conflict holder ts key) e = refl
-conflict_unwritten reply e = absurd cc
-
--- the one write that was in flight has left
-gone_from : (f : WriteInFlight) → filter (is_another f.key f.seq) (f ∷ []) ≡ []
-gone_from f =
-    ap (λ b. cond b (f ∷ []) []) (ap not (and_from (f.seq == f.seq) (same_key f.key f.key) (eq-eqb f.seq f.seq refl) (same_key-self f.key)))
-
-no_push : (id : TxnId) (r : Request) → goes_beside r ≡ false → is_push_of id r ≡ false
-no_push id (requests.Push holder by level now goal) e = absurd cc
-no_push id r e = refl
-
--- a reply shows no more holders than it is a conflict with
-held_once : (id : TxnId) (reply : Reply) → count_by (is_id id) (option_to_list (met_by reply)) ≤ one_if (is_conflict_with id reply)
-held_once id (replies.Conflict holder ts key) = let e = count-cons (is_id id) holder.id [] in omega arith
-held_once id reply = omega arith
-
-reads_still : (splits : List (List ℕ)) (x : OpenTxn) (call : Call) (rs : List Request) → AreReadsOf splits x call rs → All (λ r. is_still r ≡ true) rs
-reads_still splits x (calls.Get key) rs e =
-    subst (λ rs. All (λ r. is_still r ≡ true) rs) (sym e) (All-cons (λ r. is_still r ≡ true) (own_get x key) [] refl (All-nil (λ r. is_still r ≡ true)))
-reads_still splits x (calls.Scan span) rs e =
-    subst (λ rs. All (λ r. is_still r ≡ true) rs) (sym e)
-    (All-map (λ r. is_still r ≡ true) (λ p. own_scan x p.1) (pieces splits span) (every (λ p. is_still (own_scan x p.1) ≡ true) (λ p. refl) (pieces splits span)))
-reads_still splits x call rs e = absurd e
-
-refreshes_still : (x : OpenTxn) (rs : List Request) → rs ≡ map (refresh_to x.id x.reads.ts x.write_ts) x.reads.spans → All (λ r. is_still r ≡ true) rs
-refreshes_still x rs e =
-    subst (λ rs. All (λ r. is_still r ≡ true) rs) (sym e)
-    (All-map (λ r. is_still r ≡ true) (refresh_to x.id x.reads.ts x.write_ts) x.reads.spans (every (λ span. is_still (refresh_to x.id x.reads.ts x.write_ts span) ≡ true) (λ span. refl) x.reads.spans))
-
--- what refreshes is answered so
-pub refresh_kind : (r : Request) (reply : Reply) (x : OpenTxn) (rs : List Request) → rs ≡ map (refresh_to x.id x.reads.ts x.write_ts) x.reads.spans → All (λ r. (reply : Reply) → MayAnswer r reply → IsRefreshReply reply) rs
-refresh_kind r reply x rs e =
-    let P : Request → Type 0 = λ r. (reply : Reply) → MayAnswer r reply → IsRefreshReply reply in
-    subst (λ rs. All P rs) (sym e) (All-map P (refresh_to x.id x.reads.ts x.write_ts) x.reads.spans (every (λ span. P (refresh_to x.id x.reads.ts x.write_ts span)) (λ span reply may. may) x.reads.spans))
-
-refresh_no_conflict : (reply : Reply) → IsRefreshReply reply → is_conflict reply ≡ false
-refresh_no_conflict replies.Refreshed is = refl
-refresh_no_conflict (replies.Unrefreshed key ts) is = refl
-refresh_no_conflict reply is = absurd is
-
-still_moves : (r : Request) (reply : Reply) → is_still r ≡ true → is_moved r reply ≡ false
-still_moves (requests.Get id epoch seq ts key) reply e = refl
-still_moves (requests.Scan id epoch seq ts span) reply e = refl
-still_moves (requests.Refresh id from to span) reply e = refl
-still_moves r reply e = absurd cc
-
-asks_for : (s : Statement) (key : List ℕ) (value : Option (List ℕ)) → s.call ≡ write_call key value → AsksFor (Some s.call) key value
-asks_for s key None e = ap (λ c. Some c) e
-asks_for s key (Some value) e = ap (λ c. Some c) e
-
-put_back : (one other : Txn) → one.id ≡ other.id → one.epoch ≡ other.epoch → (key : List ℕ) (value : Option (List ℕ)) (seq : ℕ) (r : Request) → IsPutFor one key value seq r → IsPutFor other key value seq r
-put_back one other id epoch key value seq (requests.Put meta at_seq ts at_key at_value) p = (p.0 ∙ id, p.1 ∙ epoch, p.2, p.3, p.4)
-put_back one other id epoch key value seq r p = absurd p
-
-first_same : (one other : Txn) (seq : ℕ) (before : List Sent) → one.id ≡ other.id → one.epoch ≡ other.epoch
-    → list_any (λ m. is_put_of one.id one.epoch seq m.request) before ≡ list_any (λ m. is_put_of other.id other.epoch seq m.request) before
-first_same one other seq before id epoch =
-    ap (λ i. list_any (λ m. is_put_of i one.epoch seq m.request) before) id ∙ ap (λ e. list_any (λ m. is_put_of other.id e seq m.request) before) epoch
-
-first_by : (one other : Txn) (seq : ℕ) (before : List Sent) → one.id ≡ other.id → one.epoch ≡ other.epoch → list_any (λ m. is_put_of other.id other.epoch seq m.request) before ≡ false
-    → list_any (λ m. is_put_of one.id one.epoch seq m.request) before ≡ false
-first_by one other seq before id epoch none = first_same one other seq before id epoch ∙ none
-
-not_false : {b : Bool} → b ≡ false → IsTrue (not b)
-not_false {b = b} e = subst (λ b. IsTrue (not b)) (sym e) refl
-
--- The write of an open call was heard to be written: none is in flight, and the call may be told so; or, where the write was of an earlier call, the
--- call has sent no write of its own yet. No request met its eighth.
-pub record IsLanded (ms : List Message) (again : Bool) (k : Known) (x : OpenTxn) : Type 0 where
-  pub t : Txn
-  pub open_in : IsOpenIn k t
-  pub stands : TxnStands k [] None t x
-  pub cause : x.cause ≡ whys.Client
-  pub s : Statement
-  pub opened : k.statement ≡ Some s
-  pub key : List ℕ
-  pub value : Option (List ℕ)
-  pub call : s.call ≡ write_call key value
-  pub was : (y : OpenTxn) → laying_first ms y ≡ Some (laying y key value)
-  pub none_in_flight : x.in_flight ≡ []
-  pub split : IsSplit k
-  pub paced : IsPaced [] k.heard_now
-  pub unmet : (r : Request) → MetEighth k r → ⊥
-  pub past : ArePastOrBeside k
-  pub beaten : HasBeaten k t
-  pub told : again ≡ false → MayTellWritten k s
-  pub heard : again ≡ false → IsHeardOf false k s t
-  pub next : again ≡ true → WroteNothingNew k s t
-
-module _ (session clock count : ℕ) (splits : List (List ℕ)) (k : Known) (x : OpenTxn) (p : Purpose) (ms : List Message) (counted : IsCounted session clock count k) (w : InCall splits k x p ms)
+module _ (session clock count : ℕ) (set : Setting) (k : Known) (x : OpenTxn) (p : Purpose) (ms : List Message) (counted : IsCounted session clock count k) (w : InCall set k x p ms)
     (number : ℕ) (reply : Reply) (h : Heard) (waited : wave_awaits number ms ≡ true) (is : IsHeardTo k number reply h) where
   abbrev k2 : Known
   k2 = known_heard h k
@@ -242,11 +102,11 @@ module _ (session clock count : ℕ) (splits : List (List ℕ)) (k : Known) (x :
   pub found : (m : Message) × (find (awaits_at number) ms ≡ Some m)
   found = found_some (awaits_at number) ms waited
 
-  stands_m : MessageStands k found.0
-  stands_m = found_all (awaits_at number) (MessageStands k) ms found.0 found.1 w.wave.stand
+  stands_m : MessageStands set.course k found.0
+  stands_m = found_all (awaits_at number) (MessageStands set.course k) ms found.0 found.1 w.wave.stand
 
-  pub far : IsOnItsWay k number found.0.request × (found.0.conflicts < MOST_CONFLICTS)
-  far = subst (λ p. IsAsFar k found.0.request found.0.conflicts p) (awaits_as number found.0.progress (found_passes (awaits_at number) ms found.0 found.1)) stands_m.as_far
+  pub far : IsOnItsWay set.course k number found.0.request × (found.0.conflicts < MOST_CONFLICTS)
+  far = subst (λ p. IsAsFar set.course k found.0.request found.0.conflicts p) (awaits_as number found.0.progress (found_passes (awaits_at number) ms found.0 found.1)) stands_m.as_far
 
   pub same_request : h.request ≡ found.0.request
   same_request = same_Some h.request found.0.request (sym is.asked ∙ far.0.out.said)
@@ -257,8 +117,8 @@ module _ (session clock count : ℕ) (splits : List (List ℕ)) (k : Known) (x :
   pub gone : HasMovedOn k k2 [] (h ∷ [])
   gone = record { sent = sym (append-nil k.sent); heard = refl; begun = omega arith; high = omega arith }
 
-  pub wave2 : WaveStands k2 ms2
-  wave2 = wave_heard k k2 ms number reply h w.wave waited is more
+  pub wave2 : WaveStands set.course k2 ms2
+  wave2 = wave_heard set.course k k2 ms number reply h w.wave waited is more
 
   requests2 : map (λ m. m.request) ms2 ≡ map (λ m. m.request) ms
   requests2 = kept_by (awaits_at number) (back_with number reply) (λ (m : Message). m.request) ms (came_request number reply)
@@ -276,13 +136,17 @@ module _ (session clock count : ℕ) (splits : List (List ℕ)) (k : Known) (x :
   not_beside : goes_beside h.request ≡ false
   not_beside = ap goes_beside same_request ∙ stands_m.no_round
 
-  pub fewer2 : NoOtherMetEighth k2.heard_now ms2
-  fewer2 r none eight =
+  -- what waited in the call
+  abbrev pub waits : Request → Type 0
+  waits = WaitsMeanwhile p w.t.id w.t.epoch x.in_flight
+
+  pub fewer_by : (now : Request → Type 0) → ((r : Request) → waits r → now r) → NoOtherMetEighth now k2.heard_now ms2
+  fewer_by now on r none others eight =
       let P : Request → Type 0 = λ q. IsSameRequest q r → ⊥ in
-      let before : All (λ (m : Message). P m.request) ms = all_unmapped P (λ (m : Message). m.request) ms (subst (λ rs. All P rs) requests2 (All-map P (λ (m : Message). m.request) ms2 none)) in
+      let before : All (λ (m : Message). P m.request) ms = all_unmapped P (λ (m : Message). m.request) ms (subst (λ rs. All P rs) requests2 (All-map P (λ (m : Message). m.request) ms2 others)) in
       let here : P h.request = subst P (sym same_request) (found_all (awaits_at number) (λ (m : Message). P m.request) ms found.0 found.1 before) in
       let no : IsConflictOf r h → ⊥ = λ c. here (same_sym r h.request c.same) in
-      w.fewer r before (at_least-before (IsConflictOf r) MOST_CONFLICTS k.heard_now (h ∷ []) (All-cons (λ h. IsConflictOf r h → ⊥) h [] no (All-nil (λ h. IsConflictOf r h → ⊥))) eight)
+      w.fewer r (λ left. none (on r left)) before (at_least-before (IsConflictOf r) MOST_CONFLICTS k.heard_now (h ∷ []) (All-cons (λ h. IsConflictOf r h → ⊥) h [] no (All-nil (λ h. IsConflictOf r h → ⊥))) eight)
 
   pub paced2 : IsPaced (holders_met ms2) k2.heard_now
   paced2 = record {
@@ -304,37 +168,46 @@ module _ (session clock count : ℕ) (splits : List (List ℕ)) (k : Known) (x :
         omega arith;
   }
 
-  pub done2 : AreAskedOrDone k2 (map (λ m. m.request) ms2)
-  done2 =
-      subst (AreAskedOrDone k2) (sym requests2)
-      (asked-kept k k2 [] (h ∷ []) more (map (λ m. m.request) ms) (All-nil (IsAskedOrBeside (map (λ (m : Message). m.request) ms)))
-      (λ r none. All-cons (λ h. IsConflictOf r h → ⊥) h [] (λ c. of_request (λ q. IsSameRequest q r → ⊥) none (same_sym r h.request c.same)) (All-nil (λ h. IsConflictOf r h → ⊥))) w.done)
+  pub done_by : (now : Request → Type 0) → ((r : Request) → waits r → now r) → AreAskedOrDone now k2 (map (λ m. m.request) ms2)
+  done_by now on =
+      subst (AreAskedOrDone now k2) (sym requests2)
+      (waits_as waits now k2 (map (λ m. m.request) ms) on
+      (asked-kept k k2 [] (h ∷ []) more (map (λ m. m.request) ms) waits (All-nil (IsAskedOrBeside (map (λ (m : Message). m.request) ms)))
+      (λ r none. All-cons (λ h. IsConflictOf r h → ⊥) h [] (λ c. of_request (λ q. IsSameRequest q r → ⊥) none (same_sym r h.request c.same)) (All-nil (λ h. IsConflictOf r h → ⊥))) w.done))
 
   -- a heartbeat is heard only where that is the purpose
-  pub beaten_on : (IsBeatPurpose p → ⊥) → HasBeaten k2 t2
-  beaten_on other = by p other w.beaten (silent splits k w.s w.t x p ms w.serves)
+  pub beaten_on : (IsBeatPurpose p → ⊥) → HasBeatenIn set.course.loses k2 t2
+  beaten_on other = by p other w.beaten (silent set k w.s w.t x w.stages p ms w.serves)
     where
-      on : All (λ m. IsSilent m.request) ms → HasBeaten k w.t → HasBeaten k2 t2
-      on none b = beaten_heard k w.t h w.open_in (subst IsSilent (sym same_request) (found_all (awaits_at number) (λ (m : Message). IsSilent m.request) ms found.0 found.1 none)) b
+      on : All (λ m. IsSilent m.request) ms → HasBeatenIn set.course.loses k w.t → HasBeatenIn set.course.loses k2 t2
+      on none b = beaten_heard set.course.loses k w.t h w.open_in (subst IsSilent (sym same_request) (found_all (awaits_at number) (λ (m : Message). IsSilent m.request) ms found.0 found.1 none)) b
 
-      by : (q : Purpose) → (IsBeatPurpose q → ⊥) → HasBeatenBy q k w.t → AreSilent q ms → HasBeaten k2 t2
+      by : (q : Purpose) → (IsBeatPurpose q → ⊥) → (set.course.loses ≡ false → HasBeatenBy q k w.t) → AreSilent q ms → HasBeatenIn set.course.loses k2 t2
       by (purposes.Beat call reading) never b none = absurd (never tt)
+      by (purposes.Prove call all) never b none = on none b
       by purposes.Read never b none = on none b
-      by (purposes.Write again) never b none = on none b
-      by (purposes.Refresh n) never b none = on none b
+      by purposes.Write never b none = on none b
+      by (purposes.Refresh n puts) never b none = on none b
+      by (purposes.Stage n) never b none = on none b
+      by (purposes.Query n holder puts) never b none = on none b
       by (purposes.Commit n) never b none = on none b
+      by (purposes.LastBeat answer reading) never b none = absurd (never tt)
       by (purposes.Abort why) never b none = on none b
 
-  beaten2 : HasBeatenBy p k2 t2
-  beaten2 = by p beaten_on
+  beaten2 : set.course.loses ≡ false → HasBeatenBy p k2 t2
+  beaten2 = by p w.beaten beaten_on
     where
-      by : (q : Purpose) → ((IsBeatPurpose q → ⊥) → HasBeaten k2 t2) → HasBeatenBy q k2 t2
-      by (purposes.Beat call reading) on = tt
-      by purposes.Read on = on (λ is. is)
-      by (purposes.Write again) on = on (λ is. is)
-      by (purposes.Refresh n) on = on (λ is. is)
-      by (purposes.Commit n) on = on (λ is. is)
-      by (purposes.Abort why) on = on (λ is. is)
+      by : (q : Purpose) → (set.course.loses ≡ false → HasBeatenBy q k w.t) → ((IsBeatPurpose q → ⊥) → HasBeatenIn set.course.loses k2 t2) → set.course.loses ≡ false → HasBeatenBy q k2 t2
+      by (purposes.Beat call reading) b on = b
+      by (purposes.Prove call all) b on = on (λ is. is)
+      by purposes.Read b on = on (λ is. is)
+      by purposes.Write b on = on (λ is. is)
+      by (purposes.Refresh n puts) b on = on (λ is. is)
+      by (purposes.Stage n) b on = on (λ is. is)
+      by (purposes.Query n holder puts) b on = on (λ is. is)
+      by (purposes.Commit n) b on = on (λ is. is)
+      by (purposes.LastBeat answer reading) b on = λ quiet. tt
+      by (purposes.Abort why) b on = on (λ is. is)
 
   pub split2 : IsSplit k2
   split2 = record {
@@ -342,27 +215,46 @@ module _ (session clock count : ℕ) (splits : List (List ℕ)) (k : Known) (x :
     sent = w.split.sent;
     heard_first = w.split.heard_first;
     heard = ap (λ hs. hs ++ h ∷ []) w.split.heard ∙ append_assoc w.split.heard_first k.heard_now (h ∷ []);
+    unheard = w.split.unheard;
   }
 
-  -- the call goes on where the reply leaves its transaction as it is
-  gone_on : t2 ≡ w.t → LeavesAsIs w.t h → out_of p ms2 ≡ out_of p ms → Serves splits k2 w.s w.t x p ms2 → InCall splits k2 x p ms2
-  gone_on same leaves out serves = record {
-    t = w.t;
-    open_in = record { others = map (txn_heard k.sent (Some h)) w.open_in.others; is_open = w.open_in.is_open; first = ap (map (txn_heard k.sent (Some h))) w.open_in.first ∙ ap (λ t. t ∷ map (txn_heard k.sent (Some h)) w.open_in.others) same };
-    stands =
-        subst (λ o. TxnStands k2 [] o w.t x) (sym out)
-        (stands_on k k2 [] (out_of p ms) w.t x [] (h ∷ []) w.stands gone (All-nil (λ (m : Sent). IsTrue (is_plain m.request))) (All-cons (LeavesAsIs w.t) h [] leaves (All-nil (LeavesAsIs w.t))));
-    cause = w.cause;
+  pub still_kept : KeepsStages p k2 w.stages
+  still_kept = kept_on p k k2 w.stages (late_more k.heard (h ∷ [])) w.kept
+
+  pub open2 : IsOpenIn k2 t2
+  open2 = record { others = map (txn_heard k.sent (Some h)) w.open_in.others; is_open = w.open_in.is_open; first = ap (map (txn_heard k.sent (Some h))) w.open_in.first }
+
+  -- the call goes on where its transaction and its purpose do
+  pub heard_on : refuses_stage h.request h.reply ≡ false → (stages : List SentStage) (x2 : OpenTxn) → TxnStands k2 stages (out_of p ms2) t2 x2 → KeepsStages p k2 stages → x2.cause ≡ whys.Client → ((r : Request) → waits r → WaitsMeanwhile p t2.id t2.epoch x2.in_flight r)
+      → SuitsFlightIn set.course.pipelines w.s.call x2.in_flight → Serves set k2 w.s t2 x2 stages p ms2 → InCall set k2 x2 p ms2
+  heard_on spared stages x2 st kept client on suits serves = record {
+    t = t2;
+    open_in = open2;
+    stages = stages;
+    stands = st;
+    kept = kept;
+    cause = client;
     s = w.s;
     opened = w.opened;
     split = split2;
     wave = wave2;
     paced = paced2;
-    fewer = fewer2;
-    done = done2;
-    beaten = subst (HasBeatenBy p k2) same beaten2;
+    fewer = fewer_by (WaitsMeanwhile p t2.id t2.epoch x2.in_flight) on;
+    done = done_by (WaitsMeanwhile p t2.id t2.epoch x2.in_flight) on;
+    below = λ goes. below_heard k w.t h w.open_in (subst (MayAnswer h.request) (sym is.told) is.kind) spared (w.below goes);
+    beaten = beaten2;
+    plain = suits;
     serves = serves;
   }
+
+  -- so it does where the reply leaves its transaction as it is
+  pub gone_on : refuses_stage h.request h.reply ≡ false → t2 ≡ w.t → LeavesAsIs w.t h → out_of p ms2 ≡ out_of p ms → Serves set k2 w.s w.t x w.stages p ms2 → InCall set k2 x p ms2
+  gone_on spared same leaves out serves =
+      heard_on spared w.stages x
+      (subst (λ t. TxnStands k2 w.stages (out_of p ms2) t x) (sym same)
+      (subst (λ o. TxnStands k2 w.stages o w.t x) (sym out)
+      (stands_on k k2 w.stages (out_of p ms) w.t x [] (h ∷ []) w.stands gone (All-nil (λ (m : Sent). IsTrue (is_plain m.request))) (All-cons (LeavesAsIs w.t) h [] leaves (All-nil (LeavesAsIs w.t))))))
+      still_kept w.cause (λ r left. left) w.plain (subst (λ t. Serves set k2 w.s t x w.stages p ms2) (sym same) serves)
 
   module _ (still : is_still h.request ≡ true) where
     still_same : t2 ≡ w.t
@@ -382,12 +274,21 @@ module _ (session clock count : ℕ) (splits : List (List ℕ)) (k : Known) (x :
           by later true here = let same : y ≡ found.0 = cc in any_head (λ r. r ≡ h.request) y.request (map (λ (m : Message). m.request) ys) (ap (λ (m : Message). m.request) same ∙ sym same_request)
           by later false f = any_later (λ r. r ≡ h.request) y.request (map (λ (m : Message). m.request) ys) (later f)
 
-  read_serves : ServesRead splits k w.s x ms → ServesRead splits k2 w.s x ms2
+  read_serves : ServesRead set.splits k w.s x ms → ServesRead set.splits k2 w.s x ms2
   read_serves r = record {
-    asked = subst (λ rs. AreReadsOf splits x w.s.call rs) (sym requests2) r.asked;
-    none_in_flight = r.none_in_flight;
+    asked = subst (λ rs. AreReadsOf set.splits x w.s.call rs) (sym requests2) r.asked;
+    clear = r.clear;
     heard = All-push (IsReadFor (map (λ m. m.request) ms2)) k.heard_now h (subst (λ rs. All (IsReadFor rs) k.heard_now) (sym requests2) r.heard) (inr in_requests);
   }
+
+  -- a reply that is no conflict is met by nothing
+  pub no_conflict_meets : is_conflict h.reply ≡ false → MeetsByPut h
+  no_conflict_meets plain met = let e : false ≡ true = sym plain ∙ met in absurd cc
+
+  pub eighth_on : is_conflict h.reply ≡ false → NoneMetEighth w.t.id w.t.epoch x.in_flight k.heard_now → NoneMetEighth w.t.id w.t.epoch x.in_flight k2.heard_now
+  eighth_on plain none r proved eight =
+      none r proved (at_least-before (IsConflictOf r) MOST_CONFLICTS k.heard_now (h ∷ [])
+      (All-cons (λ h. IsConflictOf r h → ⊥) h [] (λ c. let e : false ≡ true = sym plain ∙ c.conflict in absurd cc) (All-nil (λ h. IsConflictOf r h → ⊥))) eight)
 
   refused-more : (m : Sent) → WasRefusedIfCommit w.t.write_ts k.heard_now m → WasRefusedIfCommit w.t.write_ts k2.heard_now m
   refused-more m r = λ commits. any_kept (IsRefusedBy w.t.write_ts m) k.heard_now (h ∷ []) (r commits)
@@ -397,34 +298,39 @@ module _ (session clock count : ℕ) (splits : List (List ℕ)) (k : Known) (x :
       let P : Heard → Type 0 = λ h. h.number ≤ length k.sent in
       all_behind P w.split.heard_first k.heard_now (subst (λ hs. All P hs) w.split.heard (are_numbered session clock count k counted).heard)
 
-  refresh_serves : (n : ℕ) → is_still h.request ≡ true → ServesRefresh n k w.s w.t x ms → ServesRefresh n k2 w.s w.t x ms2
-  refresh_serves n still r =
+  refresh_serves : (n : ℕ) (puts : List Message) → is_still h.request ≡ true → ServesRefresh set.course.loses n puts k w.s w.t x ms → ServesRefresh set.course.loses n puts k2 w.s w.t x ms2
+  refresh_serves n puts still r =
       let kind : IsRefreshReply reply = of_request (λ r. (reply : Reply) → MayAnswer r reply → IsRefreshReply reply) (refresh_kind h.request reply x (map (λ m. m.request) ms) r.asked) reply is.kind in
+      let plain : is_conflict h.reply ≡ false = ap is_conflict is.told ∙ refresh_no_conflict reply kind in
       record {
         commits = record {
           call = r.commits.call;
           anchor = r.commits.anchor;
           anchored = r.commits.anchored;
-          none_in_flight = r.commits.none_in_flight;
           few = r.commits.few;
           moves =
               refusals_go n k k2 [] (h ∷ []) r.commits.moves more numbered_now (All-nil (λ (m : Sent). length k.sent + 1 ≤ m.number))
               (All-cons IsNoMove h [] (still_moves h.request h.reply still) (All-nil IsNoMove));
-          unmet = All-push (λ h. is_conflict h.reply ≡ false) k.heard_now h r.commits.unmet (ap is_conflict is.told ∙ refresh_no_conflict reply kind);
+          met = All-push MeetsByPut k.heard_now h r.commits.met (no_conflict_meets plain);
         };
         refused = All-weaker (WasRefusedIfCommit w.t.write_ts k.heard_now) (WasRefusedIfCommit w.t.write_ts k2.heard_now) refused-more k.sent_now r.refused;
         refreshes = r.refreshes;
         behind = r.behind;
         asked = requests2 ∙ r.asked;
-        sent =
+        sent = λ quiet.
             All-weaker (λ m. IsRefreshGoneOut w.t.write_ts ms m.request) (λ m. IsRefreshGoneOut w.t.write_ts ms2 m.request)
-            (λ m out. gone_out_on w.t.write_ts (awaits_at number) (back_with number reply) (λ q y at g. record { asked = came_request number reply y ∙ g.asked; out = back_out number reply y }) ms m.request out) k.sent_now r.sent;
-        in_turn = turn_heard number reply ms r.in_turn;
+            (λ m out. gone_out_on w.t.write_ts (awaits_at number) (back_with number reply) (λ q y at g. record { asked = came_request number reply y ∙ g.asked; out = back_out number reply y }) ms m.request out) k.sent_now (r.sent quiet);
+        in_turn = λ quiet. turn_heard number reply ms (r.in_turn quiet);
         held =
             All-push (MetNoOtherWrite ms2) k.heard_now h
             (All-weaker (MetNoOtherWrite ms) (MetNoOtherWrite ms2) (met-more (awaits_at number) (back_with number reply) awaited_met ms) k.heard_now r.held)
             (inr (any_changed (awaits_at number) (back_with number reply) (IsAnswerTo h) ms found.0 found.1 (answered_by (is_conflict reply) (refresh_no_conflict reply kind))));
         low = All-push (IsMetUpTo k2.top) k.heard_now h (All-weaker (IsMetUpTo k.top) (IsMetUpTo k2.top) (low-more k.top k2.top (omega arith)) k.heard_now r.low) (low_now k2.top h (omega arith));
+        none_eighth = eighth_on plain r.none_eighth;
+        settled = settled_heard k w.t h w.open_in plain (λ rounds. still_goes_on (Some w.t) h h.request h.reply rounds still) r.settled;
+        counted =
+            All-weaker (λ f. MayBePutAgain set.course.loses k w.t f.seq (conflicts_before f.seq puts)) (λ f. MayBePutAgain set.course.loses k2 w.t f.seq (conflicts_before f.seq puts))
+            (λ f c. put_again_on k k2 [] (h ∷ []) more set.course.loses w.t f.seq (conflicts_before f.seq puts) (All-nil (λ m. is_put m.request ≡ false)) (All-cons (λ h. is_put h.request ≡ false) h [] (still_no_put h.request still) (All-nil (λ h. is_put h.request ≡ false))) c) x.in_flight r.counted;
       }
     where
       awaited_met : (m : Message) → awaits_at number m ≡ true → unrefreshed_in m.progress ≡ None
@@ -440,12 +346,16 @@ module _ (session clock count : ℕ) (splits : List (List ℕ)) (k : Known) (x :
   new_on : All (λ m. IsFirstPut k w.s w.t m → ⊥) k.sent_now → All (λ m. IsFirstPut k2 w.s w.t m → ⊥) k.sent_now
   new_on a = All-weaker (λ m. IsFirstPut k w.s w.t m → ⊥) (λ m. IsFirstPut k2 w.s w.t m → ⊥) (λ m none f. none (first_back m f)) k.sent_now a
 
-  module _ (again : Bool) (e : p ≡ purposes.Write again) (r : ServesWrite again k w.s w.t x ms) where
+  -- what was heard moves no stage or commit, where this reply does not
+  no_move_on : All IsNoMove k.heard_now → IsNoMove h → All IsNoMove k2.heard_now
+  no_move_on still one = All-push IsNoMove k.heard_now h still one
+
+  module _ (e : p ≡ purposes.Write) (none : w.stages ≡ []) (r : ServesWrite k w.s w.t x ms) where
     out_is : out_of p ms ≡ None
     out_is = ap (λ q. out_of q ms) e
 
     st : TxnStands k [] None w.t x
-    st = subst (λ o. TxnStands k [] o w.t x) out_is w.stands
+    st = subst (λ ss. TxnStands k ss None w.t x) none (subst (λ o. TxnStands k w.stages o w.t x) out_is w.stands)
 
     at_number : awaits_at number r.m ≡ true
     at_number = one_waits (awaits_at number r.m) (sym (ap (wave_awaits number) r.one) ∙ waited)
@@ -463,12 +373,12 @@ module _ (session clock count : ℕ) (splits : List (List ℕ)) (k : Known) (x :
     ms2_is = ap (first_changed (awaits_at number) (back_with number reply)) r.one ∙ ap (λ b. cond b (back_with number reply r.m ∷ []) (r.m ∷ [])) at_number
 
     module _ (conflict : is_conflict reply ≡ true) where
-      lays_on : LaysNext k w.s w.t x r.key r.value again r.m ⊎ LaysLast k w.s w.t x r.key r.value again r.m → InCall splits k2 x p ms2
+      lays_on : LaysNext k w.s w.t x r.key r.value r.m ⊎ LaysLast k w.t x r.key r.value r.m → InCall set k2 x p ms2
       lays_on (inl l) = let f : false ≡ true = ap (progress_awaits number) (sym l.to_send) ∙ at_number in absurd cc
       lays_on (inr l) =
           let said : h.request ≡ own_put x l.anchor l.w = same_request ∙ sym (ap (λ (m : Message). m.request) is_m) ∙ l.said in
           let meta : TxnMeta = meta_now x l.anchor in
-          let there : Contains x.in_flight l.w = subst (λ f. Contains f l.w) (sym l.in_flight) (contains_head l.w []) in
+          let there : Contains x.in_flight l.w = l.there in
           let same : t2 ≡ w.t =
           ap (λ q. txn_heard k.sent (Some (record { number = h.number; request = q; reply = h.reply; step = h.step })) w.t) said
           ∙ ap (λ y. txn_heard k.sent (Some (record { number = h.number; request = own_put x l.anchor l.w; reply = y; step = h.step })) w.t) is.told
@@ -482,131 +392,309 @@ module _ (session clock count : ℕ) (splits : List (List ℕ)) (k : Known) (x :
             put = subst (PutsUpTo w.t (last_seq_of w.t.writes)) (sym said) put_now;
             unwritten = λ seq put. ap is_written is.told ∙ conflict_unwritten reply conflict;
             unrefuted = λ s whose. ap (is_write_refuted s h.request) is.told ∙ ap (λ q. is_write_refuted s q reply) said ∙ conflict_refutes s reply meta l.w.seq x.write_ts l.w.key l.w.value conflict;
+            unfound = λ epoch seq. ap (λ q. finds w.t.id epoch seq q h.reply) said;
           } in
-          gone_on same leaves (ap (λ q. out_of q ms2) e ∙ sym out_is)
-          (subst (λ q. Serves splits k2 w.s w.t x q ms2) (sym e) (record {
+          gone_on (ap (λ q. refuses_stage q h.reply) said) same leaves (ap (λ q. out_of q ms2) e ∙ sym out_is)
+          (subst (λ q. Serves set k2 w.s w.t x w.stages q ms2) (sym e) (record {
             key = r.key;
             value = r.value;
             call = r.call;
             m = back_with number reply r.m;
             one = ms2_is;
+            unmoved = no_move_on r.unmoved (ap (λ q. is_moved q h.reply) said);
             lays = inr (record {
               w = l.w;
-              in_flight = l.in_flight;
+              there = l.there;
               place = l.place;
               what = l.what;
               anchor = l.anchor;
               anchored = l.anchored;
               said = came_request number reply r.m ∙ l.said;
               first = l.first;
-              old = λ f. new_on (l.old f);
-              before = l.before;
             });
           }))
 
-      write_on : InCall splits k2 x p ms2
+      write_on : InCall set k2 x p ms2
       write_on = lays_on r.lays
 
-    few_m : found.0.conflicts < MOST_CONFLICTS
-    few_m = far.1
+  -- ---- a write of an earlier call
 
-    came_back : is_conflict reply ≡ false → IsSentOnceMore (back_with number reply r.m)
-    came_back plain = subst (λ b. IsSentOnceMore (back_with_by b number reply r.m)) (sym plain) refl
+  module _ (call : Call) (all : Bool) (own : SendsAgain call all k w.t x found.0) where
+    own_sent : found.0.progress ≡ progresses.Sent number
+    own_sent = awaits_as number found.0.progress (found_passes (awaits_at number) ms found.0 found.1)
 
-    unmet1 : (q : Request) → MetEighth k q → ⊥
-    unmet1 =
-        none_eighth k ms w.fewer w.wave.stand
-        (subst (λ ms. All (λ (m : Message). m.conflicts < MOST_CONFLICTS) ms) (sym r.one)
-        (All-cons (λ (m : Message). m.conflicts < MOST_CONFLICTS) r.m [] (subst (λ (m : Message). m.conflicts < MOST_CONFLICTS) (sym is_m) few_m) (All-nil (λ (m : Message). m.conflicts < MOST_CONFLICTS))))
+    pub flies : Contains x.in_flight own.w
+    flies = own.there (ap progress_has_answer own_sent)
 
-    unmet2 : is_conflict h.reply ≡ false → (q : Request) → MetEighth k2 q → ⊥
-    unmet2 plain q eight =
-        unmet1 q
-        (at_least-before (IsConflictOf q) MOST_CONFLICTS k.heard_now (h ∷ [])
-        (All-cons (λ h. IsConflictOf q h → ⊥) h [] (λ c. let e : false ≡ true = sym plain ∙ c.conflict in absurd cc) (All-nil (λ h. IsConflictOf q h → ⊥))) eight)
+    pub own_said : h.request ≡ put_at x own.anchor own.ts own.w
+    own_said = same_request ∙ own.said
 
-    module _ (at : ℕ) (written : reply ≡ replies.Written at) where
-      low : at ≤ k2.high
-      low = let f : greatest_of (reply_stamps h.reply) ≡ max 0 at = ap (λ y. greatest_of (reply_stamps y)) (is.told ∙ written) in omega (arith, f)
+    -- it is no stage
+    pub own_spared : refuses_stage h.request h.reply ≡ false
+    own_spared = ap (λ q. refuses_stage q h.reply) own_said
 
-      landed : LaysNext k w.s w.t x r.key r.value again r.m ⊎ LaysLast k w.s w.t x r.key r.value again r.m → IsLanded ms again k2 (landed_first ms at h.step x)
-      landed (inl l) = let f : false ≡ true = ap (progress_awaits number) (sym l.to_send) ∙ at_number in absurd cc
-      landed (inr l) =
-          let f : WriteInFlight = l.w in
-          let meta : TxnMeta = meta_now x l.anchor in
-          let there : Contains x.in_flight f = subst (λ fs. Contains fs f) (sym l.in_flight) (contains_head f []) in
-          let said : h.request ≡ own_put x l.anchor f = same_request ∙ sym (ap (λ (m : Message). m.request) is_m) ∙ l.said in
-          let same : t2 ≡ txn_heard k.sent (Some (record { number = h.number; request = own_put x l.anchor f; reply = replies.Written at; step = h.step })) w.t =
-          ap (λ q. txn_heard k.sent (Some (record { number = h.number; request = q; reply = h.reply; step = h.step })) w.t) said
-          ∙ ap (λ y. txn_heard k.sent (Some (record { number = h.number; request = own_put x l.anchor f; reply = y; step = h.step })) w.t) (is.told ∙ written) in
-          let made : landed_first ms at h.step x ≡ landed_at f.key f.seq at h.step x = ap (λ ms. landed_first ms at h.step x) r.one ∙ ap (λ q. landed_with q at h.step x) l.said in
-          let stands2 : TxnStands k2 [] None t2 (landed_first ms at h.step x) =
-          subst (TxnStands k2 [] None t2) (sym made)
-          (put_landed k [] None w.t x st f there k2 h meta x.write_ts at f.value (ap (λ x. x.id) st.same) (ap (λ x. x.epoch) st.same) said (is.told ∙ written) gone low) in
-          let id : t2.id ≡ w.t.id = ap (λ t. t.id) same in
-          let epoch : t2.epoch ≡ w.t.epoch = ap (λ t. t.epoch) same in
-          let own_id : x.id ≡ w.t.id = ap (λ x. x.id) st.same in
-          let own_epoch : x.epoch ≡ w.t.epoch = ap (λ x. x.epoch) st.same in
-          let opened2 : IsOpenIn k2 t2 = record { others = map (txn_heard k.sent (Some h)) w.open_in.others; is_open = w.open_in.is_open; first = ap (map (txn_heard k.sent (Some h))) w.open_in.first } in
-          let out : Any (IsMessageAt number found.0.request) k.sent_now = far.0.out.now in
-          let first : again ≡ false → IsFirstPut k2 w.s t2 out.1 = λ own. record {
-            seq = f.seq;
-            key = r.key;
-            value = r.value;
-            asked = asks_for w.s r.key r.value r.call;
-            put = subst (λ q. IsPutFor t2 r.key r.value f.seq q) (sym (out.4.asked ∙ sym same_request ∙ said)) (own_id ∙ sym id, own_epoch ∙ sym epoch, refl, l.place, l.what);
-            first = not_false (first_by t2 w.t f.seq (sent_before k) id epoch (l.first own));
-          } in
-          record {
-            t = t2;
-            open_in = opened2;
-            stands = stands2;
-            cause = ap (λ x. x.cause) made ∙ w.cause;
-            s = w.s;
-            opened = w.opened;
-            key = r.key;
-            value = r.value;
-            call = r.call;
-            was = λ y. ap (λ ms. laying_first ms y) r.one ∙ ap (λ q. laying_as q y) l.said ∙ ap (λ key. Some (laying y key f.value)) l.place ∙ ap (λ value. Some (laying y r.key value)) l.what;
-            none_in_flight = ap (λ x. x.in_flight) made ∙ ap (filter (is_another f.key f.seq)) l.in_flight ∙ gone_from f;
-            split = split2;
-            paced = record { pushes = λ id. let a = paced2.pushes id in omega arith; behind = paced2.behind };
-            unmet = unmet2 (ap is_conflict (is.told ∙ written));
-            past = all_past k2 ms2 wave2 done2 (subst (λ ms. All IsSentOnceMore ms) (sym ms2_is) (All-cons IsSentOnceMore (back_with number reply r.m) [] (came_back (ap is_conflict written)) (All-nil IsSentOnceMore)));
-            beaten = beaten_on (λ beat. subst IsBeatPurpose e beat);
-            told = λ own. record { t = t2; opened = open_is k2 t2 opened2; sent = (out.0, out.1, out.2, out.3, first own) };
-            heard = λ own.
-                any_last (λ h. IsToOwnPut k2 w.s t2 h × IsTrue (is_written h.reply)) k.heard_now h
-                (record { m = out.1; sent = (out.0, out.2, out.3); own = first own; to = is.numbered ∙ sym out.4.numbered }, ap is_written (is.told ∙ written));
-            next = λ old. All-weaker (λ m. IsFirstPut k w.s w.t m → ⊥) (λ m. IsFirstPut k2 w.s t2 m → ⊥)
-                (λ m none f. none (record {
-                  seq = f.seq;
-                  key = f.key;
-                  value = f.value;
-                  asked = f.asked;
-                  put = put_back t2 w.t id epoch f.key f.value f.seq m.request f.put;
-                  first = subst (λ b. IsTrue (not b)) (first_same t2 w.t f.seq (sent_before k) id epoch) f.first;
-                })) k.sent_now (l.old old);
+    own_asked : WasAskedAt w.t own.w.seq own.ts
+    own_asked = elim own.goes_at [ inl now ↦ let f : false ≡ true = sym (ap progress_to_send own_sent) ∙ unsent_goes found.0 now.0 in absurd cc | inr was ↦ was.0 ]
+
+    module _ (stages : List SentStage) (commit : Option SentCommit) (st : TxnStands k stages commit w.t x) (conflict : is_conflict reply ≡ true) where
+      pub met_same : t2 ≡ w.t
+      met_same =
+          ap (λ q. txn_heard k.sent (Some (record { number = h.number; request = q; reply = h.reply; step = h.step })) w.t) own_said
+          ∙ ap (λ y. txn_heard k.sent (Some (record { number = h.number; request = put_at x own.anchor own.ts own.w; reply = y; step = h.step })) w.t) is.told
+          ∙ conflict_heard w.t k.sent h.number h.step reply (meta_now x own.anchor) own.w.seq own.ts own.w.key own.w.value conflict
+
+      met_put : PutsUpTo w.t (last_seq_of w.t.writes) (put_at x own.anchor own.ts own.w)
+      met_put =
+          subst (λ y. PutsUpTo w.t (last_seq_of w.t.writes) (put_at y own.anchor own.ts own.w)) (sym st.same)
+          (puts-one w.t own.w.seq (last_seq_of w.t.writes) (put_at (opened_as x.shown x.cause x.reads.spans x.in_flight x.staging w.t) own.anchor own.ts own.w)
+          (puts-own (meta_of w.t own.anchor) own.w.seq own.ts own.w.key own.w.value) (seq_low k stages commit w.t x st own.w flies))
+
+      pub met_leaves : LeavesAsIs w.t h
+      met_leaves = record {
+        other = ap (is_about w.t.id) own_said;
+        put = subst (PutsUpTo w.t (last_seq_of w.t.writes)) (sym own_said) met_put;
+        unwritten = λ seq put. ap is_written is.told ∙ conflict_unwritten reply conflict;
+        unrefuted = λ s whose. ap (is_write_refuted s h.request) is.told ∙ ap (λ q. is_write_refuted s q reply) own_said ∙ conflict_refutes s reply (meta_now x own.anchor) own.w.seq own.ts own.w.key own.w.value conflict;
+        unfound = λ epoch seq. ap (λ q. finds w.t.id epoch seq q h.reply) own_said;
+      }
+
+      met_own : SendsAgain call all k2 w.t x (back_with number reply found.0)
+      met_own =
+          subst (λ b. SendsAgain call all k2 w.t x (back_with_by b number reply found.0)) (sym conflict) (record {
+            w = own.w;
+            waits = own.waits;
+            before = own.before;
+            anchor = own.anchor;
+            anchored = own.anchored;
+            ts = own.ts;
+            said = own.said;
+            low = own.low;
+            goes_at = inr (own_asked, λ to_send none. absurd cc);
+            there = λ none. flies;
+          })
+
+      -- the messages prove their writes on
+      pub met_again : (ys : List Message) → find (awaits_at number) ys ≡ Some found.0 → Pairwise AreOfTwo ys → All (SendsAgain call all k w.t x) ys → All (SendsAgain call all k2 w.t x) (first_changed (awaits_at number) (back_with number reply) ys)
+      met_again ys there differ again = all_changed AreOfTwo (awaits_at number) (back_with number reply) (SendsAgain call all k w.t x) (SendsAgain call all k2 w.t x) found.0 (λ a. met_own) met_other ys there differ again
+        where
+          another : (y : Message) → AreOfTwo y found.0 ⊎ AreOfTwo found.0 y → IsSameRequest y.request h.request → ⊥
+          another y (inl two) same = two.differ (subst (λ q. IsSameRequest y.request q) same_request same)
+          another y (inr two) same = two.back (subst (λ q. IsSameRequest y.request q) same_request same)
+
+          met_other : (y : Message) → AreOfTwo y found.0 ⊎ AreOfTwo found.0 y → SendsAgain call all k w.t x y → SendsAgain call all k2 w.t x y
+          met_other y apart a = record {
+            w = a.w;
+            waits = a.waits;
+            before = a.before;
+            anchor = a.anchor;
+            anchored = a.anchored;
+            ts = a.ts;
+            said = a.said;
+            low = a.low;
+            goes_at = elim a.goes_at [ inl now ↦ inl now | inr was ↦ inr (was.0, just_so_heard k k2 h refl y (another y apart) was.1) ];
+            there = a.there;
           }
 
-      write_landed : IsLanded ms again k2 (landed_first ms at h.step x)
-      write_landed = landed r.lays
+      pub met_open : (f : WriteInFlight) (y : Message) → IsOpenFor f y → IsOpenFor f (back_with number reply y)
+      met_open f y goes = ((goes.0.0, goes.0.1, came_request number reply y ∙ goes.0.2), subst (λ b. has_answer (back_with_by b number reply y) ≡ false) (sym conflict) refl)
 
-  heard_by : (q : Purpose) → p ≡ q → Serves splits k w.s w.t x q ms → GoesOn q reply → InCall splits k2 x p ms2
-  heard_by (purposes.Beat call reading) e r on = absurd on
-  heard_by purposes.Read e r on =
-      let still : is_still h.request ≡ true = of_request (λ r. is_still r ≡ true) (reads_still splits x w.s.call (map (λ m. m.request) ms) r.asked) in
-      gone_on (still_same still) (still_leaves still) (ap (λ q. out_of q ms2) e ∙ sym (ap (λ q. out_of q ms) e)) (subst (λ q. Serves splits k2 w.s w.t x q ms2) (sym e) (read_serves r))
-  heard_by (purposes.Write again) e r on = write_on again e r on
-  heard_by (purposes.Refresh n) e r on =
+    module _ (stages : List SentStage) (commit : Option SentCommit) (st : TxnStands k stages commit w.t x) (at : ℕ) (written : reply ≡ replies.Written at) (above : IsAboveMisses k.heard h.request h.reply) where
+      abbrev pub x2 : OpenTxn
+      x2 = landed_at own.w.key own.w.seq at h.step x
+
+      pub made_so : landed_awaited number ms at h.step x ≡ x2
+      made_so = ap (λ o. landed_by o at h.step x) found.1 ∙ ap (λ q. landed_with q at h.step x) own.said
+
+      low_then : at ≤ k2.high
+      low_then = let f : greatest_of (reply_stamps h.reply) ≡ max 0 at = ap (λ y. greatest_of (reply_stamps y)) (is.told ∙ written) in omega (arith, f)
+
+      above_then : (ts : ℕ) → WasMissedAt k.heard w.t.id w.t.epoch own.w.key own.w.seq ts → ts < at
+      above_then = above_put k w.t x (ap (λ x. x.id) st.same) (ap (λ x. x.epoch) st.same) own.anchor own.w own.ts at h own_said (is.told ∙ written) above
+
+      pub stands_then : TxnStands k2 stages commit t2 x2
+      stands_then =
+          put_landed k stages commit w.t x st own.w flies k2 h (meta_now x own.anchor) own.ts at own.w.value (ap (λ x. x.id) st.same) (ap (λ x. x.epoch) st.same) own_said (is.told ∙ written) above_then gone low_then
+
+      pub risen : w.t.write_ts ≤ t2.write_ts
+      risen = let up : w.t.write_ts ≤ max w.t.write_ts (raised_to w.t.id k.sent h.request h.reply) = omega arith in up
+
+      own_then : SendsAgain call all k2 t2 x2 (back_with number reply found.0)
+      own_then =
+          subst (λ b. SendsAgain call all k2 t2 x2 (back_with_by b number reply found.0)) (sym (ap is_conflict written)) (record {
+            w = own.w;
+            waits = own.waits;
+            before = own.before;
+            anchor = own.anchor;
+            anchored = own.anchored;
+            ts = own.ts;
+            said = own.said;
+            low = omega (arith, own.low, risen);
+            goes_at = inr (asked_heard own.w.seq own.ts w.t k.sent h own_asked, λ to_send none. absurd cc);
+            there = λ none. absurd cc;
+          })
+
+      -- the writes of the other messages are others
+      apart_seq : (y : Message) → AreOfTwo y found.0 ⊎ AreOfTwo found.0 y → (a : SendsAgain call all k w.t x y) → a.w.seq ≡ own.w.seq → ⊥
+      apart_seq y apart a same =
+          let one : IsSameRequest y.request found.0.request =
+          subst (λ q. IsSameRequest q found.0.request) (sym a.said) (subst (λ q. IsSameRequest (put_at x a.anchor a.ts a.w) q) (sym own.said) (inr (refl, refl, same))) in
+          let back : IsSameRequest found.0.request y.request =
+          subst (λ q. IsSameRequest q y.request) (sym own.said) (subst (λ q. IsSameRequest (put_at x own.anchor own.ts own.w) q) (sym a.said) (inr (refl, refl, sym same))) in
+          elim apart [ inl two ↦ two.differ one | inr two ↦ two.differ back ]
+
+      abbrev pub test : WriteInFlight → Bool
+      test f = is_another own.w.key own.w.seq f
+
+      other_then : (y : Message) → AreOfTwo y found.0 ⊎ AreOfTwo found.0 y → (SendsAgain call all k w.t x y) × IsOutOrLost y → SendsAgain call all k2 t2 x2 y
+      other_then y apart both =
+          let a : SendsAgain call all k w.t x y = both.0 in
+          let another : test a.w ≡ true = ap (λ b. not (b && same_key a.w.key own.w.key)) (ne_eqb a.w.seq own.w.seq (apart_seq y apart a)) in
+          record {
+            w = a.w;
+            waits = a.waits;
+            before = a.before;
+            anchor = a.anchor;
+            anchored = a.anchored;
+            ts = a.ts;
+            said = a.said;
+            low = omega (arith, a.low, risen);
+            goes_at = elim a.goes_at [
+              | inl now ↦ (let lost = (both.1 (unsent_goes y now.0)).0 in absurd (omega (arith, lost, unsent_unlost y now.0)))
+              | inr was ↦ inr (asked_heard a.w.seq a.ts w.t k.sent h was.0, λ to_send none. let lost = (both.1 to_send).0 in absurd (omega (arith, lost, none)))
+            ];
+            there = λ none. contains_in_filter test x.in_flight a.w (a.there none) another;
+          }
+
+      -- the messages prove their writes on, where all went out; those that were lost since are to be sent again
+      pub landed_again : (ys : List Message) → find (awaits_at number) ys ≡ Some found.0 → Pairwise AreOfTwo ys → All IsOutOrLost ys → All (SendsAgain call all k w.t x) ys → All (SendsAgain call all k2 t2 x2) (first_changed (awaits_at number) (back_with number reply) ys)
+      landed_again ys there differ whole again =
+          all_changed AreOfTwo (awaits_at number) (back_with number reply) (λ y. SendsAgain call all k w.t x y × IsOutOrLost y) (SendsAgain call all k2 t2 x2) found.0 (λ both. own_then) other_then ys there differ
+          (all_with (SendsAgain call all k w.t x) IsOutOrLost ys again whole)
+
+      not_open : (f : WriteInFlight) → test f ≡ true → IsOpenFor f found.0 → ⊥
+      not_open f another goes =
+          let same : requests.Put goes.0.0 f.seq goes.0.1 f.key f.value ≡ put_at x own.anchor own.ts own.w = sym goes.0.2 ∙ own.said in
+          let seq : f.seq ≡ own.w.seq = cc in
+          let key : f.key ≡ own.w.key = cc in
+          let hit : not (f.seq == own.w.seq && same_key f.key own.w.key) ≡ false = ap not (and_from (f.seq == own.w.seq) (same_key f.key own.w.key) (eq-eqb f.seq own.w.seq seq) (same_key-equal f.key own.w.key key)) in
+          let none : false ≡ true = sym hit ∙ another in
+          absurd cc
+
+      -- each other write keeps its message
+      pub other_open : (ys : List Message) → find (awaits_at number) ys ≡ Some found.0 → (f : WriteInFlight) → test f ≡ true → Any (IsOpenFor f) ys → Any (IsOpenFor f) (first_changed (awaits_at number) (back_with number reply) ys)
+      other_open ys there f another some = any_other (awaits_at number) (back_with number reply) (IsOpenFor f) found.0 (not_open f another) ys there some
+
+      pub writes_then : t2.writes ≡ map (proved_at own.w.key own.w.seq at) w.t.writes
+      writes_then = landed_writes w.t x (ap (λ x. x.id) st.same) (ap (λ x. x.epoch) st.same) own.anchor own.w own.ts at k.sent h own_said (is.told ∙ written)
+
+  module _ (call : Call) (all : Bool) (e : p ≡ purposes.Prove call all) (none : w.stages ≡ []) (r : ServesProve call all k w.s w.t x ms) where
+    prove_none : out_of p ms ≡ None
+    prove_none = ap (λ q. out_of q ms) e
+
+    prove_st : TxnStands k [] None w.t x
+    prove_st = subst (λ ss. TxnStands k ss None w.t x) none (subst (λ o. TxnStands k w.stages o w.t x) prove_none w.stands)
+
+    abbrev it : SendsAgain call all k w.t x found.0
+    it = found_all (awaits_at number) (SendsAgain call all k w.t x) ms found.0 found.1 r.again
+
+    unread_on : All (λ h. ReadsNothing h.request) k2.heard_now
+    unread_on = All-push (λ h. ReadsNothing h.request) k.heard_now h r.unread (subst ReadsNothing (sym (own_said call all it)) (record { no_get = refl; no_scan = refl }))
+
+    before_heard : heard_before k2 ≡ heard_before k
+    before_heard = same_before k k2 [] (h ∷ []) more
+
+    unmoved_on : All IsNoMove k2.heard_now
+    unmoved_on = no_move_on r.unmoved (ap (λ q. is_moved q h.reply) (own_said call all it))
+
+    prove_met : is_conflict reply ≡ true → InCall set k2 x p ms2
+    prove_met conflict =
+        gone_on (own_spared call all it) (met_same call all it [] None prove_st conflict) (met_leaves call all it [] None prove_st conflict) (ap (λ q. out_of q ms2) e ∙ sym prove_none)
+        (subst (λ q. Serves set k2 w.s w.t x w.stages q ms2) (sym e) (record {
+          begins = r.begins;
+          asked = r.asked;
+          full = λ is. subst (λ hs. MOST_IN_FLIGHT ≤ count_by (λ v. list_any (λ m. is_put_of w.t.id w.t.epoch v.seq m.request) (sent_before k) && not (list_any (proves w.t v) hs)) w.t.writes) (sym before_heard) (r.full is);
+          fills = λ full.
+              r.fills
+              (full_from k k2 w.t w.t (open_is k w.t w.open_in) (open_is k2 t2 open2 ∙ ap (λ (t : Txn). Some t) (met_same call all it [] None prove_st conflict))
+              (λ many. subst (λ hs. MOST_IN_FLIGHT ≤ count_by (λ v. list_any (λ m. is_put_of w.t.id w.t.epoch v.seq m.request) (sent_before k) && not (list_any (proves w.t v) hs)) w.t.writes) before_heard many) full);
+          writes = r.writes;
+          room = r.room;
+          again = met_again call all it [] None prove_st conflict ms found.1 w.wave.differ r.again;
+          in_order = order_kept (awaits_at number) (back_with number reply) (came_request number reply) ms r.in_order;
+          each =
+              All-weaker (λ f. waits_on call all f.key ≡ true → Any (IsOpenFor f) ms) (λ f. waits_on call all f.key ≡ true → Any (IsOpenFor f) ms2)
+              (λ f some waits. any_goes_on (awaits_at number) (back_with number reply) (IsOpenFor f) (λ y at goes. met_open call all it [] None prove_st conflict f y goes) ms (some waits)) x.in_flight r.each;
+          unasked = r.unasked;
+          unread = unread_on;
+          new = new_on r.new;
+          unmoved = unmoved_on;
+        }))
+
+    module _ (at : ℕ) (written : reply ≡ replies.Written at) (above : IsAboveMisses k.heard h.request h.reply) (whole : All IsOutOrLost ms) where
+      abbrev x4 : OpenTxn
+      x4 = landed_at it.w.key it.w.seq at h.step x
+
+      each_then : (f : WriteInFlight) → Contains (filter (is_another it.w.key it.w.seq) x.in_flight) f → waits_on call all f.key ≡ true → Any (IsOpenFor f) ms2
+      each_then f there waits =
+          let g = contains_filter (is_another it.w.key it.w.seq) x.in_flight f there in
+          other_open call all it [] None prove_st at written above ms found.1 f g.1
+          (All-contains (λ f. waits_on call all f.key ≡ true → Any (IsOpenFor f) ms) x.in_flight f r.each g.0 waits)
+
+      first_then : (m : Sent) → IsFirstPut k2 w.s t2 m → IsFirstPut k w.s w.t m
+      first_then m f = record {
+        seq = f.seq;
+        key = f.key;
+        value = f.value;
+        asked = f.asked;
+        put = put_back t2 w.t refl refl f.key f.value f.seq m.request f.put;
+        first = f.first;
+      }
+
+      prove_landed : InCall set k2 x4 p ms2
+      prove_landed =
+          heard_on (own_spared call all it) [] x4 (subst (λ q. TxnStands k2 [] (out_of q ms2) t2 x4) (sym e) (stands_then call all it [] None prove_st at written above)) (none_kept p k2) w.cause
+          (λ q left. absurd (subst (λ p. WaitsMeanwhile p w.t.id w.t.epoch x.in_flight q) e left)) (fewer_suit set.course.pipelines w.s.call (is_another it.w.key it.w.seq) x.in_flight w.plain)
+          (subst (λ q. Serves set k2 w.s t2 x4 [] q ms2) (sym e) (record {
+            begins = r.begins;
+            asked = r.asked;
+            full = λ is.
+                full_stays k k2 w.t t2 (proved_at it.w.key it.w.seq at) refl refl (writes_then call all it [] None prove_st at written above) (record { key = proved-key it.w.key it.w.seq at; seq = proved-seq it.w.key it.w.seq at }) refl before_heard (r.full is);
+            fills = λ full.
+                r.fills
+                (full_from k k2 w.t t2 (open_is k w.t w.open_in) (open_is k2 t2 open2)
+                (full_back k k2 w.t t2 (proved_at it.w.key it.w.seq at) refl refl (writes_then call all it [] None prove_st at written above) (record { key = proved-key it.w.key it.w.seq at; seq = proved-seq it.w.key it.w.seq at }) refl before_heard) full);
+            in_order = order_kept (awaits_at number) (back_with number reply) (came_request number reply) ms r.in_order;
+            writes = r.writes;
+            room = λ key value is few. let low = r.room key value is few in let short = shorter (is_another it.w.key it.w.seq) x.in_flight in omega (arith, low, short);
+            again = landed_again call all it [] None prove_st at written above ms found.1 w.wave.differ whole r.again;
+            each = all_from_contains (λ f. waits_on call all f.key ≡ true → Any (IsOpenFor f) ms2) (filter (is_another it.w.key it.w.seq) x.in_flight) each_then;
+            unasked = r.unasked;
+            unread = unread_on;
+            new = All-weaker (λ m. IsFirstPut k w.s w.t m → ⊥) (λ m. IsFirstPut k2 w.s t2 m → ⊥) (λ m none f. none (first_then m f)) k.sent_now r.new;
+            unmoved = unmoved_on;
+          }))
+
+  pub prove_hears : (call : Call) (all : Bool) → p ≡ purposes.Prove call all → w.stages ≡ [] → ServesProve call all k w.s w.t x ms → is_conflict reply ≡ true → InCall set k2 x p ms2
+  prove_hears call all e none r conflict = prove_met call all e none r conflict
+
+  pub read_hears : p ≡ purposes.Read → ServesRead set.splits k w.s x ms → InCall set k2 x p ms2
+  read_hears e r =
+      let still : is_still h.request ≡ true = of_request (λ r. is_still r ≡ true) (reads_still set.splits x w.s.call (map (λ m. m.request) ms) r.asked) in
+      gone_on (still_refuses h.request h.reply still) (still_same still) (still_leaves still) (ap (λ q. out_of q ms2) e ∙ sym (ap (λ q. out_of q ms) e)) (subst (λ q. Serves set k2 w.s w.t x w.stages q ms2) (sym e) (read_serves r))
+
+  pub write_hears : p ≡ purposes.Write → w.stages ≡ [] → ServesWrite k w.s w.t x ms → is_conflict reply ≡ true → InCall set k2 x p ms2
+  write_hears e none r conflict = write_on e none r conflict
+
+  pub refresh_hears : (n : ℕ) (puts : List Message) → p ≡ purposes.Refresh n puts → ServesRefresh set.course.loses n puts k w.s w.t x ms → InCall set k2 x p ms2
+  refresh_hears n puts e r =
       let still : is_still h.request ≡ true = of_request (λ r. is_still r ≡ true) (refreshes_still x (map (λ m. m.request) ms) r.asked) in
-      gone_on (still_same still) (still_leaves still) (ap (λ q. out_of q ms2) e ∙ sym (ap (λ q. out_of q ms) e)) (subst (λ q. Serves splits k2 w.s w.t x q ms2) (sym e) (refresh_serves n still r))
-  heard_by (purposes.Commit n) e r on = absurd on
-  heard_by (purposes.Abort why) e r on = absurd on
+      gone_on (still_refuses h.request h.reply still) (still_same still) (still_leaves still) (ap (λ q. out_of q ms2) e ∙ sym (ap (λ q. out_of q ms) e)) (subst (λ q. Serves set k2 w.s w.t x w.stages q ms2) (sym e) (refresh_serves n puts still r))
 
-  pub call_heard : GoesOn p reply → InCall splits k2 x p ms2
-  call_heard on = heard_by p refl w.serves on
-
-  -- its write was written
-  pub call_written : (again : Bool) (at : ℕ) → p ≡ purposes.Write again → reply ≡ replies.Written at → IsLanded ms again k2 (landed_first ms at h.step x)
-  call_written again at e written = write_landed again e (subst (λ q. Serves splits k w.s w.t x q ms) e w.serves) at written
+  -- a write that it proves was written
+  pub call_proved : (call : Call) (all : Bool) (at : ℕ) → p ≡ purposes.Prove call all → reply ≡ replies.Written at → IsAboveMisses k.heard h.request h.reply → All IsOutOrLost ms → InCall set k2 (landed_awaited number ms at h.step x) p ms2
+  call_proved call all at e written above whole =
+      let r : ServesProve call all k w.s w.t x ms = subst (λ q. Serves set k w.s w.t x w.stages q ms) e w.serves in
+      let none : w.stages ≡ [] = subst (λ q. KeepsStages q k w.stages) e w.kept in
+      let own : SendsAgain call all k w.t x found.0 = found_all (awaits_at number) (SendsAgain call all k w.t x) ms found.0 found.1 r.again in
+      let st : TxnStands k [] None w.t x = subst (λ ss. TxnStands k ss None w.t x) none (subst (λ o. TxnStands k w.stages o w.t x) (ap (λ q. out_of q ms) e) w.stands) in
+      subst (λ y. InCall set k2 y p ms2) (sym (made_so call all own [] None st at written above)) (prove_landed call all e none r at written above whole)

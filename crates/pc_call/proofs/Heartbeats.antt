@@ -1,28 +1,36 @@
 -- A call shows first that its transaction is alive: its heartbeat is to be sent, and is heard.
-use Rattle.std.proofs.Common.{◌≡◌, ◌≢◌, ℕ, zero, suc, ◌+◌, ◌≤◌, nat_le, max, Bool, true, false, ◌&&◌, ◌==◌, inl, is_some, List, [], ◌∷◌, ◌++◌, map, Some, None, refl, sym, ap, ◌∙◌, subst, arith, All, Any, IsTrue}
+use Rattle.std.proofs.Common.{◌≡◌, ◌≢◌, ℕ, zero, suc, ◌+◌, ◌≤◌, nat_le, Bool, true, false, ◌&&◌, ◌==◌, inl, is_some, List, drop, [], ◌∷◌, ◌++◌, map, Some, None, refl, sym, ap, ◌∙◌, subst, arith, All, Any, Contains, IsTrue, ◌⊎◌, not}
 use Rattle.std.proofs.lemmas.Bool.{and_parts, eq-eqb, le-leb, leb-true}
 use Rattle.std.proofs.lemmas.List.Elements.{All-cons, All-head, All-nil, All-tail, All-weaker}
 use Rattle.std.proofs.lemmas.List.{append-nil}
 use Rattle.std.proofs.lemmas.Option.{same_Some}
+use Rattle.pc_call.specs.Beaten.{BeatsOnlyFirst}
+use Rattle.pc_call.proofs.Undecided.{no_final, stands_there, within_stamps}
+use Rattle.pc_call.specs.Beside.{is_query}
+use Rattle.pc_call.specs.Setting.{Setting}
 use Rattle.pc_base.specs.declared.limits.TheConstants.{HEARTBEAT, MOST_CONFLICTS, MOST_REFUSALS}
 use Rattle.pc_base.specs.Transaction.{same_txn}
 use Rattle.pc_call.proofs.Beating.{not_aborted}
-use Rattle.pc_call.proofs.Beginning.{AreTwo, any_true, begins_so, none_met}
+use Rattle.pc_call.proofs.Beginning.{AreTwo, IsNewFor, any_true, begins_so, none_met, none_told}
 use Rattle.pc_call.proofs.Committing.{beats_unmoved}
 use Rattle.pc_call.proofs.Closing.{closing-left, closing-may, opened3}
 use Rattle.pc_call.proofs.Decided.{one_out}
+use Rattle.pc_call.proofs.Eighths.{any_eighth}
 use Rattle.pc_call.proofs.Ending.{EndsWith, IsFinalAs, final_aborted}
 use Rattle.pc_call.proofs.Facts.{open_is}
 use Rattle.pc_call.proofs.Hearing.{far, found, gone, one_asked, same_request, split2}
 use Rattle.pc_call.proofs.Told.{may_tell, still_open}
+use Rattle.pc_call.proofs.Unsent.{unsent_plain}
+use Rattle.pc_call.specs.declared.later.LaterPut.{LaterPut}
 use Rattle.pc_call.specs.Alive.{GoesOnAlive}
 use Rattle.pc_call.specs.declared.purpose.Purpose.{Purpose}
 use Rattle.pc_call.specs.declared.purpose.Purpose.TheVariants as purposes
 use Rattle.pc_call.specs.Finished.{MayTellOver, left_at}
 use Rattle.pc_call.specs.Fresh.{IsFresh, IsJustAsked, ShowsAlive}
 use Rattle.pc_call.specs.Learned.{known_heard}
-use Rattle.pc_call.specs.Serving.{InCall, IsOpenIn, IsSplit, Serves, ServesBeat, out_of}
-use Rattle.pc_call.specs.Suiting.{SuitsFlight}
+use Rattle.pc_call.specs.Serving.{InCall, IsOpenIn, IsSplit, KeepsStages, Serves, ServesBeat, out_of, HasBeatenBy}
+use Rattle.pc_call.specs.Stages.{HasOutbox, IsUndecidedAt}
+use Rattle.pc_call.specs.Suiting.{SuitsFlightIn}
 use Rattle.pc_follows.specs.Heartbeats.{AreBeatsHeard, FindsAborted, IsBeatDue, KeepsHeartbeats, TellsAfterBeats, is_heartbeat, last_shown}
 use Rattle.pc_proto.specs.declared.answer.Answer.TheVariants as answers
 use Rattle.pc_proto.specs.declared.call.Call.{Call}
@@ -30,6 +38,7 @@ use Rattle.pc_proto.specs.declared.call.Call.TheVariants as calls
 use Rattle.pc_proto.specs.declared.event.Event.TheVariants as events
 use Rattle.pc_proto.specs.declared.fate.Fate.TheVariants as fates
 use Rattle.pc_proto.specs.declared.reply.Reply.TheVariants as replies
+use Rattle.pc_proto.specs.declared.reply.Reply.{Reply}
 use Rattle.pc_proto.specs.declared.request.Request.{Request}
 use Rattle.pc_proto.specs.declared.view.View.{View}
 use Rattle.pc_proto.specs.declared.view.View.TheVariants as views
@@ -51,7 +60,7 @@ use Rattle.pc_wave.proofs.Lists.{at_least-fewer}
 use Rattle.pc_wave.specs.declared.message.Message.{Message}
 use Rattle.pc_wave.specs.declared.message.Progress.TheVariants as progresses
 use Rattle.pc_wave.specs.Messages.{message_to_send, progress_to_send, wave_awaits}
-use Rattle.pc_wave.specs.Standing.{IsHeardTo, goes_beside}
+use Rattle.pc_wave.specs.Standing.{AreAnsweredBut, IsHeardTo, goes_beside}
 use Rattle.pc_follows.specs.Eighth.{MetEighth, WasMovedEighth}
 use Rattle.pc_world.specs.Known.{Known, call_in}
 use Rattle.pc_world.specs.Known.Statements.{Statement}
@@ -59,6 +68,7 @@ use Rattle.pc_world.specs.Known.Traffic.{Heard, Sent}
 use Rattle.pc_world.specs.Known.Transactions.{Txn, txn_heard}
 use Rattle.pc_world.specs.MayTell.{is_past_range}
 use Rattle.pc_world.specs.SameRequest.{IsSameRequest}
+use Rattle.pc_world.specs.StageFate.{IsLate}
 use Rattle.pc_world.specs.Send.Abort.{own_cause}
 use Rattle.pc_world.specs.Tell.Refusal.{IsConflictOf, MayBlock, WasMoved, is_heard}
 use Rattle.pc_world.specs.Views.{ShowsAborted}
@@ -70,7 +80,7 @@ all_both P Q R both (x ∷ xs) a b = All-cons R x xs (both x (All-head P x xs a)
 no_rollback : (call : Call) → MayBlock call → call ≡ calls.Rollback → ⊥
 no_rollback call may e = subst MayBlock e may
 
-blocks_within : (call : Call) (reading : ℕ) → MayBlock call → is_past_range (record { call = call; reading = reading }) ≡ false
+pub blocks_within : (call : Call) (reading : ℕ) → MayBlock call → is_past_range (record { call = call; reading = reading }) ≡ false
 blocks_within (calls.Begin priority) reading may = absurd may
 blocks_within call reading may = refl
 
@@ -81,12 +91,18 @@ module _ (k : Known) (x : OpenTxn) (call : Call) (reading : ℕ) (why : Why) (f 
   nothing_heard : (P : Heard → Type 0) → All P k.heard_now
   nothing_heard P = subst (λ hs. All P hs) (sym f.none_heard) (All-nil P)
 
+  none_behind : BeatsOnlyFirst k
+  none_behind =
+      let P : Sent → Type 0 = λ m. is_heartbeat m.request ≡ false in
+      subst (λ ms. All P (drop 1 ms)) (sym f.none_sent) (All-nil P)
+
   split_asked : IsSplit k
   split_asked = record {
     sent_first = k.sent;
     sent = sym (append-nil k.sent) ∙ ap (λ ms. k.sent ++ ms) (sym f.none_sent);
     heard_first = k.heard;
     heard = sym (append-nil k.heard) ∙ ap (λ hs. k.heard ++ hs) (sym f.none_heard);
+    unheard = nothing_sent (λ m. IsTrue (goes_beside m.request) ⊎ (is_heard k.heard m ≡ false));
   }
 
   shown_is : x.shown ≡ last_shown f.t k.sent
@@ -104,8 +120,8 @@ module _ (k : Known) (x : OpenTxn) (call : Call) (reading : ℕ) (why : Why) (f 
       cc
 
   -- where none is due the call begins
-  pub fresh_so : (IsBeatDue k f.t → ⊥) → IsFresh k x (record { call = call; reading = reading }) why
-  fresh_so none = record {
+  pub fresh_so : (loses : Bool) → (IsBeatDue k f.t → ⊥) → IsFresh loses k x (record { call = call; reading = reading }) why
+  fresh_so loses none = record {
     t = f.t;
     open_in = f.open_in;
     stands = f.stands;
@@ -116,41 +132,42 @@ module _ (k : Known) (x : OpenTxn) (call : Call) (reading : ℕ) (why : Why) (f 
     split = split_asked;
     sent = nothing_sent (λ m. is_heartbeat m.request ≡ true);
     heard = nothing_heard ShowsAlive;
-    beaten = record {
+    beaten = λ quiet. record {
       none_due = none;
       heard = nothing_sent (λ m. IsTrue (is_heartbeat m.request) → IsTrue (is_heard k.heard m));
       alive = λ cause found. absurd (omega (arith, (subst (λ hs. Any (FindsAborted f.t cause) hs) f.none_heard found).2));
+      first = none_behind;
     };
   }
 
   -- so it does where the transaction was not silent for long
-  pub fresh_lively : is_silent reading x ≡ false → IsFresh k x (record { call = call; reading = reading }) why
-  fresh_lively lively = fresh_so (none_due lively)
+  pub fresh_lively : (loses : Bool) → is_silent reading x ≡ false → IsFresh loses k x (record { call = call; reading = reading }) why
+  fresh_lively loses lively = fresh_so loses (none_due lively)
 
   -- or where the call shows no life
-  pub fresh_aside : (MayBlock call → ⊥) → IsFresh k x (record { call = call; reading = reading }) why
-  fresh_aside aside =
-      fresh_so (λ d. aside (subst MayBlock (sym (ap (λ (s : Statement). s.call) (same_Some (record { call = call; reading = reading }) d.s (sym f.opened ∙ d.opened)))) d.asks))
+  pub fresh_aside : (loses : Bool) → (MayBlock call → ⊥) → IsFresh loses k x (record { call = call; reading = reading }) why
+  fresh_aside loses aside =
+      fresh_so loses (λ d. aside (subst MayBlock (sym (ap (λ (s : Statement). s.call) (same_Some (record { call = call; reading = reading }) d.s (sym f.opened ∙ d.opened)))) d.asks))
 
   -- else its heartbeat is to be sent
-  pub beat_begins : (splits : List (List ℕ)) (anchor : List ℕ) → MayBlock call → SuitsFlight call x.in_flight → is_silent reading x ≡ true → x.anchor ≡ Some anchor → InCall splits k x (purposes.Beat call reading) (message_to_send (own_beat x reading anchor) ∷ [])
-  beat_begins splits anchor asks suits silent anchored =
+  pub beat_begins : (set : Setting) (anchor : List ℕ) (later : List LaterPut) → HasOutbox set.course.loses k x later → MayBlock call → SuitsFlightIn set.course.pipelines call x.in_flight → is_silent reading x ≡ true → x.anchor ≡ Some anchor → InCall set k x (purposes.Beat call reading) (message_to_send (own_beat x reading anchor) ∷ [])
+  beat_begins set anchor later o asks suits silent anchored =
       let beat = own_beat x reading anchor in
       let own : f.t.anchor ≡ Some anchor = sym (ap (λ x. x.anchor) f.stands.same) ∙ anchored in
-      begins_so k f.t x (record { call = call; reading = reading }) f.open_in f.stands f.client f.opened split_asked (nothing_heard ShowsAlive) splits (purposes.Beat call reading) (beat ∷ [])
+      begins_so k f.t x (record { call = call; reading = reading }) f.open_in f.stands f.client f.opened split_asked (nothing_heard ShowsAlive) set (nothing_sent (λ m. is_query m.request ≡ false)) (purposes.Beat call reading) (beat ∷ [])
       (All-cons (λ r. goes_beside r ≡ false) beat [] refl (All-nil (λ r. goes_beside r ≡ false)))
-      (All-cons (λ r. All (λ m. IsSameRequest r m.request → ⊥) k.sent_now) beat [] (nothing_sent (λ m. IsSameRequest beat m.request → ⊥)) (All-nil (λ r. All (λ m. IsSameRequest r m.request → ⊥) k.sent_now)))
-      (All-nil (AreTwo beat), tt) refl tt
+      (All-cons (IsNewFor set.course k) beat []
+      (record { unsent = nothing_sent (λ m. IsSameRequest beat m.request → ⊥); unheard = unsent_plain (not set.course.loses && set.course.pipelines) k beat refl (nothing_sent (λ m. IsSameRequest beat m.request → ⊥)); untold = none_told k beat refl })
+      (All-nil (IsNewFor set.course k))) (All-nil (AreTwo beat), tt) refl (λ quiet. none_behind) suits
       (record {
         asked = refl;
         asks = asks;
-        suits = suits;
         anchor = anchor;
         anchored = own;
         m = message_to_send beat;
         one = refl;
         said = refl;
-        due = λ e. record {
+        due = λ e unlost. record {
           s = record { call = call; reading = reading };
           opened = f.opened;
           asks = asks;
@@ -173,7 +190,7 @@ module _ (k : Known) (x : OpenTxn) (call : Call) (reading : ℕ) (why : Why) (f 
           let l : x.shown + HEARTBEAT ≤ reading = leb-true (x.shown + HEARTBEAT) reading test in
           omega (arith, l, shown_is)
 
-module _ (session clock count : ℕ) (splits : List (List ℕ)) (k : Known) (x : OpenTxn) (p : Purpose) (ms : List Message) (counted : IsCounted session clock count k) (w : InCall splits k x p ms)
+module _ (session clock count : ℕ) (set : Setting) (k : Known) (x : OpenTxn) (p : Purpose) (ms : List Message) (counted : IsCounted session clock count k) (w : InCall set k x p ms)
     (number : ℕ) (view : View) (h : Heard) (waited : wave_awaits number ms ≡ true) (is : IsHeardTo k number (replies.Status view) h) (call : Call) (reading : ℕ) (e : p ≡ purposes.Beat call reading) where
   abbrev k2 : Known
   k2 = known_heard h k
@@ -182,16 +199,19 @@ module _ (session clock count : ℕ) (splits : List (List ℕ)) (k : Known) (x :
   t2 = txn_heard k.sent (Some h) w.t
 
   abbrev b : ServesBeat call reading k w.s w.t x ms
-  b = subst (λ q. Serves splits k w.s w.t x q ms) e w.serves
+  b = subst (λ q. Serves set k w.s w.t x w.stages q ms) e w.serves
 
   st : TxnStands k [] None w.t x
-  st = subst (λ o. TxnStands k [] o w.t x) (ap (λ q. out_of q ms) e) w.stands
+  st = subst (λ ss. TxnStands k ss None w.t x) (subst (λ q. KeepsStages q k w.stages) e w.kept) (subst (λ o. TxnStands k w.stages o w.t x) (ap (λ q. out_of q ms) e) w.stands)
+
+  mine : Contains k.txns w.t
+  mine = subst (λ ts. Contains ts w.t) (sym w.open_in.first) (0, omega arith, refl)
 
   out : b.m.progress ≡ progresses.Sent number
   out = one_out number b.m (subst (λ ms. wave_awaits number ms ≡ true) b.one waited)
 
   said : h.request ≡ own_beat x reading b.anchor
-  said = one_asked session clock count splits k x p ms counted w number (replies.Status view) h waited is b.m b.one ∙ b.said
+  said = one_asked session clock count set k x p ms counted w number (replies.Status view) h waited is b.m b.one ∙ b.said
 
   same_id : x.id ≡ w.t.id
   same_id = ap (λ x. x.id) w.stands.same
@@ -219,59 +239,60 @@ module _ (session clock count : ℕ) (splits : List (List ℕ)) (k : Known) (x :
           let f : false ≡ true = sym none ∙ rest (inl (b.said ∙ sym same)) no in
           absurd cc
 
-  beats_heard : AreBeatsHeard k2
-  beats_heard =
-      let way = far session clock count splits k x p ms counted w number (replies.Status view) h waited is in
+  beats_heard : set.course.loses ≡ false → AreBeatsHeard k2
+  beats_heard quiet =
       all_both (λ (s : Sent). s.request ≡ own_beat x reading b.anchor) (λ s. IsSameRequest b.m.request s.request → s.number ≢ number → IsTrue (is_heard k.heard_now s)) (λ s. IsTrue (is_heartbeat s.request) → IsTrue (is_heard k2.heard s))
-      (λ s same rest beat. heard_now s same rest) k.sent_now b.sent
-      (subst (λ r. All (λ s. IsSameRequest r s.request → s.number ≢ number → IsTrue (is_heard k.heard_now s)) k.sent_now) found_is way.0.rest)
+      (λ s same rest beat. heard_now s same rest) k.sent_now b.sent rest
     where
-      found_is : (found session clock count splits k x p ms counted w number (replies.Status view) h waited is).0.request ≡ b.m.request
-      found_is = sym (same_request session clock count splits k x p ms counted w number (replies.Status view) h waited is) ∙ one_asked session clock count splits k x p ms counted w number (replies.Status view) h waited is b.m b.one
+      found_is : (found session clock count set k x p ms counted w number (replies.Status view) h waited is).0.request ≡ b.m.request
+      found_is = sym (same_request session clock count set k x p ms counted w number (replies.Status view) h waited is) ∙ one_asked session clock count set k x p ms counted w number (replies.Status view) h waited is b.m b.one
+
+      rest : AreAnsweredBut false k number b.m.request
+      rest =
+          subst (λ loses. AreAnsweredBut loses k number b.m.request) quiet
+          (subst (AreAnsweredBut set.course.loses k number) found_is (far session clock count set k x p ms counted w number (replies.Status view) h waited is).0.rest)
 
   heard_one : k2.heard_now ≡ h ∷ []
   heard_one = ap (λ hs. hs ++ h ∷ []) b.unheard
 
   -- the record is not final: the call begins
-  module _ (epoch recorded : ℕ) (v : view ≡ views.Pending epoch recorded) where
-    told : h.reply ≡ replies.Status (views.Pending epoch recorded)
-    told = is.told ∙ ap replies.Status v
-
+  module _ (recorded : ℕ) (undecided : IsUndecidedAt (replies.Status view) recorded) where
     low : recorded ≤ k2.high
-    low = let f : greatest_of (reply_stamps h.reply) ≡ max 0 recorded = ap (λ y. greatest_of (reply_stamps y)) told in omega (arith, f)
+    low = let f : greatest_of (reply_stamps h.reply) ≡ greatest_of (reply_stamps (replies.Status view)) = ap (λ y. greatest_of (reply_stamps y)) is.told in within_stamps view recorded undecided k2.high (omega (arith, f))
 
     alive_now : ShowsAlive h
-    alive_now = record { beat = ap is_heartbeat said; undecided = ap is_undecided_status told }
+    alive_now = record { beat = ap is_heartbeat said; undecided = ap is_undecided_status is.told ∙ undecided.undecided }
 
     all_alive : All ShowsAlive k2.heard_now
     all_alive = subst (λ hs. All ShowsAlive hs) (sym heard_one) (All-cons ShowsAlive h [] alive_now (All-nil ShowsAlive))
 
-    pub goes_on_alive : GoesOnAlive k2 (raised_at recorded h.step x) (record { call = call; reading = reading })
+    pub goes_on_alive : GoesOnAlive set.course k2 (raised_at recorded h.step x) (record { call = call; reading = reading })
     goes_on_alive = record {
       why = own_cause w.t.restart;
       fresh = record {
         t = t2;
         open_in = open2;
         stands =
-            beat_heard k k2 [] None w.t x (meta_now x b.anchor) x.write_ts reading (views.Pending epoch recorded) recorded h st same_id b.anchored said told refl refl (λ epoch at staging. absurd cc) (λ at staging. absurd cc)
-            (gone session clock count splits k x p ms counted w number (replies.Status view) h waited is) low;
+            beat_heard k k2 [] None w.t x (meta_now x b.anchor) x.write_ts reading view recorded h st same_id b.anchored said is.told (no_final view recorded undecided) (stands_there view recorded undecided) (is.shown w.t mine)
+            (All-nil (IsLate k.heard)) (gone session clock count set k x p ms counted w number (replies.Status view) h waited is) low;
         client = w.cause;
         cause = refl;
         low = All-weaker (λ ts. ts ≤ k.top + 1) (λ ts. ts ≤ k2.top + 1) (λ ts low. omega (arith, low)) (why_stamps (own_cause w.t.restart)) b.low;
         opened = w.opened ∙ ap (λ s. Some s) b.asked;
-        split = split2 session clock count splits k x p ms counted w number (replies.Status view) h waited is;
+        split = split2 session clock count set k x p ms counted w number (replies.Status view) h waited is;
         sent = beats;
         heard = all_alive;
-        beaten = record {
+        beaten = λ quiet. record {
           none_due = none_due2;
-          heard = beats_heard;
+          heard = beats_heard quiet;
           alive = λ cause found.
               let f = any_of ShowsAlive (FindsAborted t2 cause) k2.heard_now all_alive found in
               not_aborted cause f.0.reply f.1.undecided f.2.aborted.view f.2.aborted.told f.2.aborted.cause;
+          first = subst (λ q. HasBeatenBy q k w.t) e (w.beaten quiet);
         };
       };
       asks = b.asks;
-      suits = b.suits;
+      suits = subst (λ (s : Statement). SuitsFlightIn set.course.pipelines s.call x.in_flight) b.asked w.plain;
     }
 
   -- the record is aborted: the call is told so
@@ -299,12 +320,12 @@ module _ (session clock count : ℕ) (splits : List (List ℕ)) (k : Known) (x :
         cause_is other (views.Staging at on writes) same c = absurd c
         cause_is other (views.Committed at on held) same c = absurd c
 
-    tells : KeepsHeartbeats k2 (events.Tell (answers.Aborted why))
-    tells s u opened whose =
+    tells : set.course.loses ≡ false → KeepsHeartbeats k2 (events.Tell (answers.Aborted why))
+    tells quiet s u opened whose =
         let same : t2 ≡ u = same_Some t2 u (sym (open_is k2 t2 open2) ∙ whose) in
         subst (λ u. TellsAfterBeats k2 u (answers.Aborted why)) same (record {
           none_due = none_due2;
-          heard = beats_heard;
+          heard = beats_heard quiet;
           aborted = λ other found. one_of other (subst (λ hs. Any (FindsAborted t2 other) hs) heard_one found);
         })
       where
@@ -327,24 +348,32 @@ module _ (session clock count : ℕ) (splits : List (List ℕ)) (k : Known) (x :
     within : is_past_range w.s ≡ false
     within = ap is_past_range b.asked ∙ blocks_within call reading b.asks
 
-    pub found_aborted_over : MayTellOver splits session k2 (record { answer = answers.Aborted why; left = left_at x.anchor fates.Aborted x })
+    pub found_aborted_over : MayTellOver set session k2 (record { answer = answers.Aborted why; left = left_at x.anchor fates.Aborted x })
     found_aborted_over =
         let answer = answers.Aborted why in
         record {
           may = record {
-            may = may_tell splits session k2 w.s answer w.opened w.open_in.is_open within (record {
+            may = may_tell set session k2 w.s answer w.opened w.open_in.is_open within (record {
               t = t2;
               opened = opened3 k x w.t b.anchor fates.Aborted h w.open_in w.stands.same over;
               heard = any_last (ShowsAborted w.t.id why) k.heard h (record { about = over.about; view = view; told = ap view_in is.told; cause = subst (AbortsWith why) (sym v) refl });
             });
             written = tt;
-            aborts = tt;
+            aborts = λ quiet. tt;
             rolled_back = λ asked. no_rollback call b.asks (same_Some call calls.Rollback (sym (ap call_in (w.opened ∙ ap (λ s. Some s) b.asked)) ∙ asked));
             restarts = tt;
-            eighth = λ s opened. record { blocked = λ no r eight. absurd (unmet r eight); moved = λ asked eight. absurd (unmoved eight) };
+            eighth = any_eighth set.course.loses k2 answer (λ s opened. record { blocked = λ no r eight. absurd (unmet r eight); moved = λ asked eight. absurd (unmoved eight) });
+            blocked = λ piped other at commits. tt;
             beats = tells;
           };
           left = closing-left k x w.t b.anchor fates.Aborted h w.open_in w.stands.same over;
           closed = refl;
           settles = closing-may k x w.t b.anchor fates.Aborted h w.open_in w.stands.same over answer (still_open k2 answer t2 (map (txn_heard k.sent (Some h)) w.open_in.others) w.open_in.is_open (ap (map (txn_heard k.sent (Some h))) w.open_in.first));
         }
+
+-- Whatever reply shows such a record.
+pub goes_on_undecided : (session clock count : ℕ) (set : Setting) (k : Known) (x : OpenTxn) (p : Purpose) (ms : List Message) (counted : IsCounted session clock count k) (w : InCall set k x p ms) (number : ℕ) (reply : Reply) (h : Heard) → wave_awaits number ms ≡ true → IsHeardTo k number reply h
+    → (call : Call) (reading recorded : ℕ) → p ≡ purposes.Beat call reading → IsUndecidedAt reply recorded → GoesOnAlive set.course (known_heard h k) (raised_at recorded h.step x) (record { call = call; reading = reading })
+goes_on_undecided session clock count set k x p ms counted w number (replies.Status view) h waited is call reading recorded e undecided =
+    goes_on_alive session clock count set k x p ms counted w number view h waited is call reading e recorded undecided
+goes_on_undecided session clock count set k x p ms counted w number reply h waited is call reading recorded e undecided = let f : false ≡ true = undecided.undecided in absurd cc

@@ -1,5 +1,5 @@
 -- All refreshes of a commit were answered: the commit goes out, or its transaction restarts.
-use Rattle.std.proofs.Common.{◌≡◌, ℕ, ◌+◌, ◌≤◌, Bool, true, false, cond, ◌⊎◌, inl, inr, List, [], ◌∷◌, map, find, Option, None, Some, Result, Ok, Err, IfOk, OnOk, IfSome, is_some, refl, sym, ap, ◌∙◌, subst, arith, All, Any, Contains, IsTrue, zero, suc}
+use Rattle.std.proofs.Common.{◌≡◌, ℕ, ◌≤◌, Bool, true, false, cond, ◌⊎◌, inl, inr, List, [], ◌∷◌, map, find, Option, None, Some, IfSome, is_some, refl, sym, ap, ◌∙◌, subst, arith, All, Any, Contains, IsTrue, zero, suc}
 use Rattle.std.specs.List.Sorted.{IsStrictlySortedBy}
 use Rattle.std.specs.Option.{option_and_then}
 use Rattle.std.specs.List.{AllByRecursion as Each}
@@ -7,26 +7,27 @@ use Rattle.std.specs.Ordering.{is_lt, ordering_reverse}
 use Rattle.std.specs.declared.cmp.Ordering.{Ordering}
 use Rattle.std.specs.declared.cmp.Ordering.TheVariants.{Less, Equal, Greater}
 use Rattle.std.proofs.lemmas.Cmp.{tied_itself}
-use Rattle.std.proofs.lemmas.List.{append-nil}
 use Rattle.std.proofs.lemmas.Option.{same_Some}
-use Rattle.std.proofs.lemmas.List.Elements.{All-cons, All-head, All-nil, All-contains, All-tail, All-weaker, Contains-append_right}
+use Rattle.std.proofs.lemmas.List.Elements.{All-cons, All-contains, All-head, All-map, All-nil, All-tail, All-weaker, Contains-append_right}
+use Rattle.pc_call.proofs.Beating.{beaten_so}
+use Rattle.pc_call.proofs.Lists.{all_unmapped}
+use Rattle.pc_call.specs.Beaten.{HasBeatenIn}
+use Rattle.pc_call.specs.Setting.{Setting}
 use Rattle.pc_base.specs.declared.span.Span.{Span}
 use Rattle.pc_base.specs.declared.transaction.TxnId.{TxnId}
 use Rattle.pc_base.specs.SpanOrder.{span_cmp}
-use Rattle.pc_call.proofs.Beating.{beaten_tells}
-use Rattle.pc_follows.specs.Heartbeats.{HasBeaten}
-use Rattle.pc_call.proofs.Eighths.{no_eighth_move}
-use Rattle.pc_call.proofs.Facts.{open_is, unmoved}
-use Rattle.pc_call.proofs.Told.{may_tell, still_open}
-use Rattle.pc_call.specs.Committing.{CommitsNow}
+use Rattle.pc_call.proofs.Beside.{IsSentOnceMore, all_over}
+use Rattle.pc_call.proofs.Facts.{unmoved}
+use Rattle.pc_call.proofs.Kept.{late_passed}
+use Rattle.pc_call.specs.Beside.{ArePastOrInFlight, IsPastOrNoQuery, IsPastOrInFlight, is_query}
+use Rattle.pc_call.specs.GivenUp.{GivesUpBy}
+use Rattle.pc_call.specs.Paced.{IsPaced}
+use Rattle.pc_call.specs.Stages.{DecidesNow}
 use Rattle.pc_call.specs.declared.purpose.Purpose.{Purpose}
 use Rattle.pc_call.specs.declared.purpose.Purpose.TheVariants as purposes
 use Rattle.pc_call.specs.declared.refreshes.Refreshed.{Refreshed}
 use Rattle.pc_call.specs.declared.refreshes.Refreshed.TheVariants as refreshes
-use Rattle.pc_call.specs.Learned.{known_told}
-use Rattle.pc_call.specs.Refreshing.{IsRefreshed}
-use Rattle.pc_call.specs.Serving.{HasBeatenBy, InCall, IsAnswerTo, IsMetUpTo, MetNoOtherWrite, MetNoWrite, Serves, ServesRefresh, out_of}
-use Rattle.pc_call.specs.Telling.{MayTellOpen}
+use Rattle.pc_call.specs.Serving.{HasBeatenBy, InCall, IsAnswerTo, IsMetUpTo, KeepsStages, MetNoOtherWrite, MetNoWrite, Serves, ServesRefresh, WaitsMeanwhile, out_of, is_last_beat}
 use Rattle.pc_lists.proofs.Anywhere.{any_head, any_later, any_of, any_weaker}
 use Rattle.pc_proto.specs.declared.answer.Answer.{Answer}
 use Rattle.pc_proto.specs.declared.answer.Answer.TheVariants as answers
@@ -38,27 +39,23 @@ use Rattle.pc_reads.proofs.Goods.{refreshed_stand}
 use Rattle.pc_reads.proofs.Ordered.{span_total}
 use Rattle.pc_reads.specs.ReadsStanding.{refresh_to}
 use Rattle.pc_reads.specs.Replies.{first_unrefreshed, shows_unrefreshed, unrefreshed_by, unrefreshed_in}
-use Rattle.pc_txn.proofs.Keeping.{free_over}
-use Rattle.pc_txn.proofs.Restarts.{restarted, stands_restarted}
-use Rattle.pc_txn.proofs.Rows.{is_uncommitted}
 use Rattle.pc_txn.specs.Counted.{IsCounted}
 use Rattle.pc_txn.specs.declared.txn.OpenTxn.{OpenTxn}
-use Rattle.pc_txn.specs.Opened.{restarted_by}
-use Rattle.pc_txn.specs.Standing.{HasMovedOn, TxnStands}
+use Rattle.pc_txn.specs.Standing.{TxnStands}
+use Rattle.pc_world.specs.StageFate.{IsLate}
 use Rattle.pc_wave.proofs.Changed.{found_all, found_none, found_passes}
 use Rattle.pc_wave.proofs.Dues.{may_be_due}
 use Rattle.pc_wave.specs.declared.message.Message.{Message}
 use Rattle.pc_wave.specs.declared.step.Step.TheVariants as steps
 use Rattle.pc_wave.specs.Due.{MayBeDue, WasAnsweredWith}
 use Rattle.pc_wave.specs.Messages.{step_of}
-use Rattle.pc_wave.specs.Standing.{IsReplyAt}
+use Rattle.pc_wave.specs.Standing.{IsReplyAt, goes_beside, sends_counted}
 use Rattle.pc_world.specs.Answering.{IsRefreshReply, MayAnswer}
 use Rattle.pc_follows.specs.Refreshes.{IsNoneBefore, MetWrite}
 use Rattle.pc_world.specs.Known.{Known}
+use Rattle.pc_world.specs.Known.Statements.{Statement}
 use Rattle.pc_world.specs.Known.Reads.{IsGoodAt, WasRefreshed}
-use Rattle.pc_world.specs.Known.Traffic.{Heard}
-use Rattle.pc_world.specs.MayTell.{is_past_range}
-use Rattle.pc_world.specs.Tell.End.{IsUnrefreshed}
+use Rattle.pc_world.specs.Known.Traffic.{Heard, Sent}
 
 -- a refresh that met no write held
 held_reply : (reply : Reply) → IsRefreshReply reply → unrefreshed_by reply ≡ None → reply ≡ replies.Refreshed
@@ -139,32 +136,54 @@ module _ (id : TxnId) (from to : ℕ) where
       by first later rest (inl here) false e f = let g : true ≡ false = sym here.1 ∙ e in cc
       by first later rest (inr there) false e f = rest f there
 
-module _ (session clock count : ℕ) (splits : List (List ℕ)) (k : Known) (x : OpenTxn) (p : Purpose) (ms : List Message) (counted : IsCounted session clock count k) (w : InCall splits k x p ms)
-    (n : ℕ) (e : p ≡ purposes.Refresh n) (due : step_of ms ≡ steps.Answered) where
-  abbrev r : ServesRefresh n k w.s w.t x ms
-  r = subst (λ q. Serves splits k w.s w.t x q ms) e w.serves
+module _ (session clock count : ℕ) (set : Setting) (k : Known) (x : OpenTxn) (p : Purpose) (ms : List Message) (counted : IsCounted session clock count k) (w : InCall set k x p ms)
+    (n : ℕ) (puts : List Message) (e : p ≡ purposes.Refresh n puts) (due : step_of ms ≡ steps.Answered) where
+  abbrev r : ServesRefresh set.course.loses n puts k w.s w.t x ms
+  r = subst (λ q. Serves set k w.s w.t x w.stages q ms) e w.serves
 
-  beaten : HasBeaten k w.t
-  beaten = subst (λ q. HasBeatenBy q k w.t) e w.beaten
+  beaten : HasBeatenIn set.course.loses k w.t
+  beaten quiet = subst (λ q. HasBeatenBy q k w.t) e (w.beaten quiet)
 
-  answered : All (WasAnsweredWith k) ms
-  answered = subst (MayBeDue k ms) due (may_be_due k ms w.wave)
+  answered : All (WasAnsweredWith set.course k) ms
+  answered = subst (MayBeDue set.course k ms) due (may_be_due set.course k ms w.wave)
 
-  st : TxnStands k [] None w.t x
-  st = subst (λ o. TxnStands k [] o w.t x) (ap (λ q. out_of q ms) e) w.stands
+  st : TxnStands k w.stages None w.t x
+  st = subst (λ o. TxnStands k w.stages o w.t x) (ap (λ q. out_of q ms) e) w.stands
+
+  late : All (IsLate k.heard) w.stages
+  late = subst (λ q. KeepsStages q k w.stages) e w.kept
+
+  paced : IsPaced [] k.heard_now
+  paced = record { pushes = λ id. let a = w.paced.pushes id in omega arith; behind = w.paced.behind }
 
   heard_all : (h : Heard) → Contains k.heard_now h → Contains k.heard h
   heard_all h there = subst (λ hs. Contains hs h) (sym w.split.heard) (Contains-append_right w.split.heard_first k.heard_now h there)
 
+  -- all that was sent in the call is past what it met, but for the puts of its writes in flight
+  done : ArePastOrInFlight k w.t.id w.t.epoch x.in_flight
+  done =
+      All-weaker (λ m. IsTrue (goes_beside m.request) ⊎ IsPastOrNoQuery k m.request ⊎ WaitsMeanwhile p w.t.id w.t.epoch x.in_flight m.request) (IsPastOrInFlight k w.t.id w.t.epoch x.in_flight) by k.sent_now
+      (all_over k set.course (WaitsMeanwhile p w.t.id w.t.epoch x.in_flight) ms w.wave w.done (All-weaker (WasAnsweredWith set.course k) IsSentOnceMore (λ m a. ap (sends_counted m.conflicts) a.progress) ms answered)
+      (all_unmapped (λ r. is_query r ≡ false) (λ (m : Message). m.request) ms (subst (λ rs. All (λ r. is_query r ≡ false) rs) (sym r.asked) (All-map (λ r. is_query r ≡ false) (refresh_to x.id x.reads.ts x.write_ts) x.reads.spans (every_span x.reads.spans)))))
+    where
+      every_span : (spans : List Span) → All (λ span. is_query (refresh_to x.id x.reads.ts x.write_ts span) ≡ false) spans
+      every_span [] = All-nil (λ (span : Span). is_query (refresh_to x.id x.reads.ts x.write_ts span) ≡ false)
+      every_span (span ∷ spans) = All-cons (λ (span : Span). is_query (refresh_to x.id x.reads.ts x.write_ts span) ≡ false) span spans refl (every_span spans)
+
+      by : (m : Sent) → IsTrue (goes_beside m.request) ⊎ IsPastOrNoQuery k m.request ⊎ WaitsMeanwhile p w.t.id w.t.epoch x.in_flight m.request → IsPastOrInFlight k w.t.id w.t.epoch x.in_flight m
+      by m (inl beside) = inl beside
+      by m (inr (inl was)) = inr (inl was)
+      by m (inr (inr left)) = inr (inr (subst (λ q. WaitsMeanwhile q w.t.id w.t.epoch x.in_flight m.request) e left))
+
   -- where none met a write, each span held
-  all_held : (spans : List Span) (xs : List Message) → map (λ m. m.request) xs ≡ map (refresh_to x.id x.reads.ts x.write_ts) spans → All (WasAnsweredWith k) xs → All (λ m. shows_unrefreshed m ≡ false) xs
+  all_held : (spans : List Span) (xs : List Message) → map (λ m. m.request) xs ≡ map (refresh_to x.id x.reads.ts x.write_ts) spans → All (WasAnsweredWith set.course k) xs → All (λ m. shows_unrefreshed m ≡ false) xs
       → All (λ span. WasRefreshed w.t.id k.heard span x.reads.ts x.write_ts) spans
   all_held [] xs same a none = All-nil (λ span. WasRefreshed w.t.id k.heard span x.reads.ts x.write_ts)
   all_held (span ∷ spans) [] same a none = absurd cc
   all_held (span ∷ spans) (m ∷ xs) same a none =
       let here : m.request ≡ refresh_to x.id x.reads.ts x.write_ts span = cc in
       let there : map (λ (m : Message). m.request) xs ≡ map (refresh_to x.id x.reads.ts x.write_ts) spans = cc in
-      let at = All-head (WasAnsweredWith k) m xs a in
+      let at = All-head (WasAnsweredWith set.course k) m xs a in
       let plain : unrefreshed_by at.reply ≡ None = ap unrefreshed_in (sym at.progress) ∙ unshown (unrefreshed_in m.progress) (All-head (λ m. shows_unrefreshed m ≡ false) m xs none) in
       let held : at.reply ≡ replies.Refreshed = held_reply at.reply (subst (λ q. MayAnswer q at.reply) here at.back.kind) plain in
       let h = at.back.heard in
@@ -175,11 +194,11 @@ module _ (session clock count : ℕ) (splits : List (List ℕ)) (k : Known) (x :
         asked = h.4.asked ∙ here ∙ ap (λ id. refresh_to id x.reads.ts x.write_ts span) (ap (λ x. x.id) st.same);
         told = h.4.told ∙ held;
       })
-      (all_held spans xs there (All-tail (WasAnsweredWith k) m xs a) (All-tail (λ m. shows_unrefreshed m ≡ false) m xs none))
+      (all_held spans xs there (All-tail (WasAnsweredWith set.course k) m xs a) (All-tail (λ m. shows_unrefreshed m ≡ false) m xs none))
 
-  -- so the reads are good where the transaction writes, and it commits
-  pub refreshed_commits : find shows_unrefreshed ms ≡ None → CommitsNow n k x w.s
-  refreshed_commits found =
+  -- so the reads are good where the transaction writes, and it decides there
+  pub refreshed_decides : find shows_unrefreshed ms ≡ None → DecidesNow set.course.loses n k x w.s puts
+  refreshed_decides found =
       let none : All (λ m. shows_unrefreshed m ≡ false) ms = found_none shows_unrefreshed ms found in
       let writes : x.write_ts ≡ w.t.write_ts = ap (λ x. x.write_ts) st.same in
       let up : x.reads.ts ≤ x.write_ts = omega (arith, r.behind) in
@@ -187,17 +206,27 @@ module _ (session clock count : ℕ) (splits : List (List ℕ)) (k : Known) (x :
       record {
         t = w.t;
         on = record {
-          open_in = w.open_in;
-          stands = st;
-          client = w.cause;
-          opened = w.opened;
-          split = w.split;
-          paced = record { pushes = λ id. let a = w.paced.pushes id in omega arith; behind = w.paced.behind };
-          commits = r.commits;
-          refused = r.refused;
-          refreshes = r.refreshes;
-          held = All-weaker (MetNoOtherWrite ms) MetNoWrite (held_now none) k.heard_now r.held;
-          beaten = beaten;
+          on = record {
+            open_in = w.open_in;
+            stages = w.stages;
+            stands = st;
+            late = late;
+            client = w.cause;
+            opened = w.opened;
+            split = w.split;
+            paced = paced;
+            commits = r.commits;
+            refused = r.refused;
+            refreshes = r.refreshes;
+            held = All-weaker (MetNoOtherWrite ms) MetNoWrite (held_now none) k.heard_now r.held;
+            beaten = beaten;
+            none_eighth = r.none_eighth;
+            below = w.below (ap is_last_beat e);
+            settled = r.settled;
+            done = done;
+          };
+          passed = late_passed k w.stages w.t x.staging st.staging late;
+          counted = r.counted;
         };
         good = subst (λ ts. All (IsGoodAt w.t.id k.heard ts) w.t.reads) writes stand.good;
       }
@@ -209,8 +238,8 @@ module _ (session clock count : ℕ) (splits : List (List ℕ)) (k : Known) (x :
           sym f.2.met ∙ unshown (unrefreshed_in f.0.progress) f.1
 
   module _ (m : Message) (found : find shows_unrefreshed ms ≡ Some m) (key : List ℕ) (ts : ℕ) (met : unrefreshed_in m.progress ≡ Some (key, ts)) where
-    at : WasAnsweredWith k m
-    at = found_all shows_unrefreshed (WasAnsweredWith k) ms m found answered
+    at : WasAnsweredWith set.course k m
+    at = found_all shows_unrefreshed (WasAnsweredWith set.course k) ms m found answered
 
     reply_is : at.reply ≡ replies.Unrefreshed key ts
     reply_is = unrefreshed_is at.reply key ts (ap unrefreshed_in (sym at.progress) ∙ met)
@@ -269,48 +298,38 @@ module _ (session clock count : ℕ) (splits : List (List ℕ)) (k : Known) (x :
         by (requests.Refresh id from to other) reply asked told = tt
         by q reply asked told = tt
 
-    abbrev x2 : OpenTxn
-    x2 = restarted_by key ts x
-
-    abbrev k2 : Known
-    k2 = known_told (answers.Restart key ts) k
-
-    gone2 : HasMovedOn k k2 [] []
-    gone2 = record { sent = sym (append-nil k.sent); heard = sym (append-nil k.heard); begun = omega arith; high = omega arith }
-
     low : ts ≤ k.top
     low =
         let h = at.back.heard in
         let below : IsMetUpTo k.top h.1 = All-contains (IsMetUpTo k.top) k.heard_now h.1 r.low (h.0, h.2, h.3) in
         subst (λ y. IfSome (unrefreshed_by y) (λ w. w.1 ≤ k.top)) (h.4.told ∙ reply_is) below
 
-    -- the call is told the first write that its refreshes met, and its transaction begins anew
-    pub restarts_told : MayTellOpen splits session k (answers.Restart key ts) x2
-    restarts_told = record {
-      may = record {
-        may = may_tell splits session k w.s (answers.Restart key ts) w.opened w.open_in.is_open (ap (λ call. is_past_range (record { call = call; reading = w.s.reading })) r.commits.call) (record {
-          t = w.t;
-          opened = open_is k w.t w.open_in;
-          asked = r.commits.call;
-          heard = any_weaker (MetWrite span key ts) (λ h. IsUnrefreshed key ts h.reply) (λ h is. subst (IsUnrefreshed key ts) (sym is.told) (refl, refl)) k.heard_now met_now;
-          uncommitted = is_uncommitted k w.t x st;
-        });
-        written = tt;
-        aborts = tt;
-        rolled_back = tt;
-        restarts = record { span = span; met = met_now; first = All-weaker (MetNoOtherWrite ms) (λ h. IsNoneBefore span h.request h.reply) first_met k.heard_now r.held };
-        eighth = no_eighth_move k w.s (answers.Restart key ts) w.opened r.commits.call (unmoved k n r.commits.moves (omega (arith, r.commits.few)));
-        beats = beaten_tells k w.t (answers.Restart key ts) w.open_in beaten;
+    -- the commit gives up for the first write that its refreshes met
+    pub restart_gives_up : GivesUpBy set.course.loses k x (answers.Restart key ts)
+    restart_gives_up = record {
+      t = w.t;
+      stages = w.stages;
+      open_in = w.open_in;
+      cause = w.cause;
+      s = w.s;
+      opened = w.opened;
+      split = w.split;
+      paced = paced;
+      met = r.commits.met;
+      beaten = beaten_so set.course.loses k w.t beaten;
+      first = λ quiet left. (beaten quiet).first;
+      gives_up = record {
+        call = r.commits.call;
+        anchor = r.commits.anchor;
+        anchored = r.commits.anchored;
+        stands = st;
+        late = late;
+        why = record {
+          first = record { span = span; met = met_now; first = All-weaker (MetNoOtherWrite ms) (λ h. IsNoneBefore span h.request h.reply) first_met k.heard_now r.held };
+          low = low;
+          fewer = unmoved k n r.commits.moves (omega (arith, r.commits.few));
+        };
       };
-      left = refl;
-      after = record {
-        t = restarted key ts w.t;
-        open_in = record { others = w.open_in.others; is_open = w.open_in.is_open; first = still_open k (answers.Restart key ts) w.t w.open_in.others w.open_in.is_open w.open_in.first };
-        stands = stands_restarted k k2 [] None w.t x r.commits.anchor key ts st (free_over k w.t x.staging st.staging) r.commits.anchored gone2;
-        cause = refl;
-        low = All-cons (λ ts. ts ≤ k2.top + 1) ts [] (omega (arith, low)) (All-nil (λ ts. ts ≤ k2.top + 1));
-      };
-      suits = λ s is. refl;
     }
 
 -- the first refresh that met a write
@@ -329,11 +348,10 @@ first_none ms e = by (find shows_unrefreshed ms) refl e
     by None is e = is
     by (Some m) is e = let shown : is_some (unrefreshed_in m.progress) ≡ true = found_passes shows_unrefreshed ms m is in let f : is_some (unrefreshed_in m.progress) ≡ false = ap is_some e in absurd cc
 
-pub same_count : (p : Purpose) (n m : ℕ) → p ≡ purposes.Refresh n → p ≡ purposes.Refresh m → n ≡ m
-same_count p n m one other = let e : purposes.Refresh n ≡ purposes.Refresh m = sym one ∙ other in cc
-
--- so what a call gives that tells of a restart
-pub restart_ok : {E : Type 0} (splits : List (List ℕ)) (session : ℕ) (k : Known) (x now : OpenTxn) (answer : Answer) (r : Result Refreshed E) → IfOk r (λ made. made ≡ refreshes.Restart answer) → OnOk r (now ≡ x) → MayTellOpen splits session k answer x
-    → IfOk r (IsRefreshed splits session k now)
-restart_ok splits session k x now answer (Ok made) is same told = subst (IsRefreshed splits session k now) (sym is) (subst (MayTellOpen splits session k answer) (sym same) told)
-restart_ok splits session k x now answer (Err e) is same told = is
+-- a refresh has one count of refusals, and one list of puts
+pub same_puts : (loses : Bool) (k : Known) (x : OpenTxn) (s : Statement) (p : Purpose) (n m : ℕ) (puts other : List Message) → p ≡ purposes.Refresh n puts → p ≡ purposes.Refresh m other → DecidesNow loses n k x s puts → DecidesNow loses m k x s other
+same_puts loses k x s p n m puts other one two d =
+    let e : purposes.Refresh n puts ≡ purposes.Refresh m other = sym one ∙ two in
+    let count : n ≡ m = cc in
+    let list : puts ≡ other = cc in
+    subst (λ ps. DecidesNow loses m k x s ps) list (subst (λ i. DecidesNow loses i k x s puts) count d)

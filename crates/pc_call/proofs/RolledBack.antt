@@ -2,13 +2,14 @@
 use Rattle.std.proofs.Common.{◌≡◌, ℕ, ◌<◌, true, false, inl, inr, List, [], ◌∷◌, map, Some, Result, Ok, Err, IfOk, refl, sym, ap, ◌∙◌, subst, All, Any, IsTrue}
 use Rattle.std.proofs.lemmas.List.Elements.{All-cons, All-head, All-nil, All-push, All-weaker}
 use Rattle.std.proofs.lemmas.Option.{same_Some}
+use Rattle.pc_call.specs.Setting.{Setting}
 use Rattle.pc_base.specs.declared.limits.TheConstants.{MOST_CONFLICTS}
 use Rattle.pc_base.specs.Transaction.{same_txn}
 use Rattle.pc_call.proofs.Closing.{closing-left, closing-may, opened3}
 use Rattle.pc_call.proofs.Decided.{one_out}
-use Rattle.pc_call.proofs.Eighths.{no_eighth, none_eighth}
+use Rattle.pc_call.proofs.Eighths.{any_eighth, no_eighth, none_eighth}
 use Rattle.pc_call.proofs.Ending.{EndsWith, IsFinalAs, final_aborted, final_committed}
-use Rattle.pc_call.proofs.Beating.{beaten_tells, not_aborted}
+use Rattle.pc_call.proofs.Beating.{beaten_tells, undecided_not_aborted}
 use Rattle.pc_call.proofs.Hearing.{beaten_on, one_asked}
 use Rattle.pc_call.proofs.Silent.{IsBeatPurpose}
 use Rattle.pc_call.proofs.Lists.{all_behind}
@@ -18,7 +19,7 @@ use Rattle.pc_call.specs.declared.purpose.Purpose.{Purpose}
 use Rattle.pc_call.specs.declared.purpose.Purpose.TheVariants as purposes
 use Rattle.pc_call.specs.Finished.{MayTellOver, left_at, ends_rolled_back}
 use Rattle.pc_call.specs.Learned.{known_heard}
-use Rattle.pc_call.specs.Serving.{InCall, Serves, ServesAbort}
+use Rattle.pc_call.specs.Serving.{InCall, Serves, ServesAbort, WaitsMeanwhile}
 use Rattle.pc_lists.proofs.Anywhere.{any_last, any_of}
 use Rattle.pc_lists.proofs.Same.{same_txn-self}
 use Rattle.pc_proto.specs.declared.answer.Answer.TheVariants as answers
@@ -52,11 +53,7 @@ use Rattle.pc_world.specs.Tell.End.{IsCauseTold}
 use Rattle.pc_world.specs.Tell.Refusal.{IsConflictOf}
 use Rattle.pc_world.specs.Views.{ShowsAborted, WasAborted}
 
--- a reply that shows a record which is not final shows none that is aborted
-undecided_not_aborted : (t : Txn) (h : Heard) (why : Why) → IsUndecidedOf t h → ShowsAborted t.id why h → ⊥
-undecided_not_aborted t h why undecided shows = not_aborted why h.reply (undecided shows.about).undecided shows.view shows.told shows.cause
-
-module _ (session clock count : ℕ) (splits : List (List ℕ)) (k : Known) (x : OpenTxn) (p : Purpose) (ms : List Message) (counted : IsCounted session clock count k) (w : InCall splits k x p ms)
+module _ (session clock count : ℕ) (set : Setting) (k : Known) (x : OpenTxn) (p : Purpose) (ms : List Message) (counted : IsCounted session clock count k) (w : InCall set k x p ms)
     (number : ℕ) (view : View) (h : Heard) (waited : wave_awaits number ms ≡ true) (is : IsHeardTo k number (replies.Status view) h) (why : Why) (e : p ≡ purposes.Abort why) where
   abbrev k2 : Known
   k2 = known_heard h k
@@ -65,10 +62,10 @@ module _ (session clock count : ℕ) (splits : List (List ℕ)) (k : Known) (x :
   t2 = txn_heard k.sent (Some h) w.t
 
   abbrev a : ServesAbort why k w.s w.t x ms
-  a = subst (λ q. Serves splits k w.s w.t x q ms) e w.serves
+  a = subst (λ q. Serves set k w.s w.t x w.stages q ms) e w.serves
 
   said : h.request ≡ own_abort x why a.anchor
-  said = one_asked session clock count splits k x p ms counted w number (replies.Status view) h waited is a.m a.one ∙ a.said
+  said = one_asked session clock count set k x p ms counted w number (replies.Status view) h waited is a.m a.one ∙ a.said
 
   same_id : x.id ≡ w.t.id
   same_id = ap (λ x. x.id) w.stands.same
@@ -79,15 +76,16 @@ module _ (session clock count : ℕ) (splits : List (List ℕ)) (k : Known) (x :
   out : a.m.progress ≡ progresses.Sent number
   out = one_out number a.m (subst (λ ms. wave_awaits number ms ≡ true) a.one waited)
 
-  stands_m : MessageStands k a.m
-  stands_m = All-head (MessageStands k) a.m [] (subst (λ ms. All (MessageStands k) ms) a.one w.wave.stand)
+  stands_m : MessageStands set.course k a.m
+  stands_m = All-head (MessageStands set.course k) a.m [] (subst (λ ms. All (MessageStands set.course k) ms) a.one w.wave.stand)
 
   few_m : a.m.conflicts < MOST_CONFLICTS
-  few_m = (subst (λ pr. IsAsFar k a.m.request a.m.conflicts pr) out stands_m.as_far).1
+  few_m = (subst (λ pr. IsAsFar set.course k a.m.request a.m.conflicts pr) out stands_m.as_far).1
 
   unmet : (r : Request) → MetEighth k2 r → ⊥
   unmet r eight =
-      none_eighth k ms w.fewer w.wave.stand (subst (λ ms. All (λ (m : Message). m.conflicts < MOST_CONFLICTS) ms) (sym a.one) (All-cons (λ (m : Message). m.conflicts < MOST_CONFLICTS) a.m [] few_m (All-nil (λ (m : Message). m.conflicts < MOST_CONFLICTS)))) r
+      none_eighth set.course k (WaitsMeanwhile p w.t.id w.t.epoch x.in_flight) ms w.fewer w.wave.stand (subst (λ ms. All (λ (m : Message). m.conflicts < MOST_CONFLICTS) ms) (sym a.one) (All-cons (λ (m : Message). m.conflicts < MOST_CONFLICTS) a.m [] few_m (All-nil (λ (m : Message). m.conflicts < MOST_CONFLICTS)))) r
+      (λ left. subst (λ p. WaitsMeanwhile p w.t.id w.t.epoch x.in_flight r) e left)
       (at_least-before (IsConflictOf r) MOST_CONFLICTS k.heard_now (h ∷ [])
       (All-cons (λ h. IsConflictOf r h → ⊥) h [] (λ c. let f : false ≡ true = sym (ap is_conflict is.told) ∙ c.conflict in absurd cc) (All-nil (λ h. IsConflictOf r h → ⊥))) eight)
 
@@ -111,12 +109,12 @@ module _ (session clock count : ℕ) (splits : List (List ℕ)) (k : Known) (x :
         (any_last (λ h. IsTrue (is_abort_of w.t.id h.request)) k.heard_now h
         (ap (is_abort_of w.t.id) said ∙ ap (λ id. same_txn id w.t.id) same_id ∙ same_txn-self w.t.id))
 
-    ended : MayTellOver splits session k2 (record { answer = answers.RolledBack x.id cause; left = left_at x.anchor fate x })
+    ended : MayTellOver set session k2 (record { answer = answers.RolledBack x.id cause; left = left_at x.anchor fate x })
     ended =
         let answer = answers.RolledBack x.id cause in
         record {
           may = record {
-            may = may_tell splits session k2 w.s answer w.opened w.open_in.is_open (ap (λ call. is_past_range (record { call = call; reading = w.s.reading })) a.call) (record {
+            may = may_tell set session k2 w.s answer w.opened w.open_in.is_open (ap (λ call. is_past_range (record { call = call; reading = w.s.reading })) a.call) (record {
               t = t2;
               opened = opened2;
               asked = a.call;
@@ -124,14 +122,15 @@ module _ (session clock count : ℕ) (splits : List (List ℕ)) (k : Known) (x :
               cause = told;
             });
             written = tt;
-            aborts = aborts_first;
+            aborts = λ quiet. aborts_first;
             rolled_back = tt;
             restarts = tt;
-            eighth = no_eighth k2 w.s answer w.opened (λ commit. let f : calls.Rollback ≡ calls.Commit = sym a.call ∙ commit in cc) unmet;
+            eighth = any_eighth set.course.loses k2 answer (no_eighth k2 w.s answer w.opened (λ commit. let f : calls.Rollback ≡ calls.Commit = sym a.call ∙ commit in cc) unmet);
+            blocked = λ piped other at commits. tt;
             beats =
-                beaten_tells k2 t2 answer
+                beaten_tells set.course.loses k2 t2 answer
                 (record { others = map (txn_heard k.sent (Some h)) w.open_in.others; is_open = w.open_in.is_open; first = ap (map (txn_heard k.sent (Some h))) w.open_in.first })
-                (beaten_on session clock count splits k x p ms counted w number (replies.Status view) h waited is (λ beat. subst IsBeatPurpose e beat));
+                (beaten_on session clock count set k x p ms counted w number (replies.Status view) h waited is (λ beat. subst IsBeatPurpose e beat));
           };
           left = closing-left k x w.t a.anchor fate h w.open_in w.stands.same over;
           closed = refl;
@@ -151,10 +150,10 @@ module _ (session clock count : ℕ) (splits : List (List ℕ)) (k : Known) (x :
           f.1 other f.2
 
   -- the transaction is rolled back, however its record was decided
-  pub rolled_back_over : MayTellOver splits session k2 (ends_rolled_back view why x)
+  pub rolled_back_over : MayTellOver set session k2 (ends_rolled_back view why x)
   rolled_back_over = by view refl (subst (λ r. MayAnswer r (replies.Status view)) said is.kind)
     where
-      by : (v : View) → view ≡ v → is_final_view v ≡ true → MayTellOver splits session k2 (ends_rolled_back v why x)
+      by : (v : View) → view ≡ v → is_final_view v ≡ true → MayTellOver set session k2 (ends_rolled_back v why x)
       by (views.Committed epoch ts locks) v final =
           ended why (fates.Committed epoch ts) (subst (λ v. IsFinalAs v (fates.Committed epoch ts)) (sym v) (final_committed epoch ts locks))
           (own_told (λ other shows. committed_not epoch ts locks other shows.view (sym (ap view_in is.told ∙ ap Some v) ∙ shows.told) shows.cause))
@@ -170,10 +169,10 @@ module _ (session clock count : ℕ) (splits : List (List ℕ)) (k : Known) (x :
       by (views.Staging epoch ts writes) v final = absurd cc
 
 -- so what a call gives that gives how it ends
-pub over_ok : {E : Type 0} (splits : List (List ℕ)) (session : ℕ) (k : Known) (view : View) (one other : Why) (x : OpenTxn) (r : Result Over E) → IfOk r (λ over. over ≡ ends_rolled_back view one x) → one ≡ other → MayTellOver splits session k (ends_rolled_back view other x)
-    → IfOk r (MayTellOver splits session k)
-over_ok splits session k view one other x (Ok o) is same told = subst (MayTellOver splits session k) (sym (is ∙ ap (λ why. ends_rolled_back view why x) same)) told
-over_ok splits session k view one other x (Err e) is same told = is
+pub over_ok : {E : Type 0} (set : Setting) (session : ℕ) (k : Known) (view : View) (one other : Why) (x : OpenTxn) (r : Result Over E) → IfOk r (λ over. over ≡ ends_rolled_back view one x) → one ≡ other → MayTellOver set session k (ends_rolled_back view other x)
+    → IfOk r (MayTellOver set session k)
+over_ok set session k view one other x (Ok o) is same told = subst (MayTellOver set session k) (sym (is ∙ ap (λ why. ends_rolled_back view why x) same)) told
+over_ok set session k view one other x (Err e) is same told = is
 
 pub same_why : (p : Purpose) (one other : Why) → p ≡ purposes.Abort one → p ≡ purposes.Abort other → one ≡ other
 same_why p one other a b = let e : purposes.Abort one ≡ purposes.Abort other = sym a ∙ b in cc

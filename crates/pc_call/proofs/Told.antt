@@ -3,6 +3,7 @@ use Rattle.std.proofs.Common.{◌≡◌, ℕ, ◌+◌, ◌≤◌, Bool, true, fa
 use Rattle.std.specs.Bool.{MatchBool}
 use Rattle.std.proofs.lemmas.List.{append-nil}
 use Rattle.std.proofs.lemmas.List.Elements.{All-nil}
+use Rattle.pc_call.specs.Setting.{Setting}
 use Rattle.pc_base.specs.declared.actor.ActorId.TheVariants as actors
 use Rattle.pc_base.specs.declared.span.Span.{Span}
 use Rattle.pc_base.specs.declared.transaction.TxnId.{TxnId}
@@ -35,9 +36,9 @@ kept_open true is_open e = ap not e
 kept_open false is_open e = refl
 
 -- where a transaction is open, a call may be told what its row allows
-pub may_tell : (splits : List (List ℕ)) (session : ℕ) (k : Known) (s : Statement) (answer : Answer) → k.statement ≡ Some s → k.is_open ≡ true → is_past_range s ≡ false → MayTellRow splits (actors.Session session) k s answer
-    → MayTell splits (actors.Session session) k answer
-may_tell splits session k s answer opened is_open within row = record {
+pub may_tell : (set : Setting) (session : ℕ) (k : Known) (s : Statement) (answer : Answer) → k.statement ≡ Some s → k.is_open ≡ true → is_past_range s ≡ false → MayTellRow set.splits (actors.Session session) k s answer
+    → MayTell set.splits (actors.Session session) k answer
+may_tell set session k s answer opened is_open within row = record {
   s = s;
   opened = opened;
   told = match_false (needs_txn s.call && not k.is_open) _ _ (kept_open (needs_txn s.call) k.is_open is_open) (match_false (is_past_range s) _ _ within row);

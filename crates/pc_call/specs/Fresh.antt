@@ -1,5 +1,6 @@
 -- A call of the open transaction begins: nothing was sent or heard in it, or a heartbeat alone.
-use Rattle.std.specs.Prelude.{◌≡◌, ◌+◌, ◌≤◌, true, None, Some, [], All, IsTrue}
+use Rattle.std.specs.Prelude.{◌≡◌, ◌+◌, ◌≤◌, Bool, true, None, Some, [], All, IsTrue}
+use Rattle.pc_call.specs.Beaten.{HasBeatenIn}
 use Rattle.pc_call.specs.Serving.{IsOpenIn, IsSplit}
 use Rattle.pc_proto.specs.declared.why.Why.{Why}
 use Rattle.pc_proto.specs.declared.why.Why.TheVariants as whys
@@ -7,7 +8,7 @@ use Rattle.pc_proto.specs.Replies.{is_undecided_status}
 use Rattle.pc_proto.specs.Stamps.{why_stamps}
 use Rattle.pc_txn.specs.declared.txn.OpenTxn.{OpenTxn}
 use Rattle.pc_txn.specs.Standing.{TxnStands}
-use Rattle.pc_follows.specs.Heartbeats.{HasBeaten, is_heartbeat}
+use Rattle.pc_follows.specs.Heartbeats.{is_heartbeat}
 use Rattle.pc_world.specs.Known.{Known}
 use Rattle.pc_world.specs.Known.Statements.{Statement}
 use Rattle.pc_world.specs.Known.Traffic.{Heard}
@@ -31,8 +32,9 @@ pub record IsJustAsked (k : Known) (x : OpenTxn) (s : Statement) (why : Why) : T
   pub none_sent : k.sent_now ≡ []
   pub none_heard : k.heard_now ≡ []
 
--- So it does where the call begins: no heartbeat is due, and one that was sent in it found the transaction alive.
-pub record IsFresh (k : Known) (x : OpenTxn) (s : Statement) (why : Why) : Type 0 where
+-- So it does where the call begins: a heartbeat that was heard in it found the transaction alive; and where nothing is lost none is due, and one that was sent
+-- was heard.
+pub record IsFresh (loses : Bool) (k : Known) (x : OpenTxn) (s : Statement) (why : Why) : Type 0 where
   pub t : Txn
   pub open_in : IsOpenIn k t
   pub stands : TxnStands k [] None t x
@@ -43,4 +45,4 @@ pub record IsFresh (k : Known) (x : OpenTxn) (s : Statement) (why : Why) : Type 
   pub split : IsSplit k
   pub sent : All (λ m. is_heartbeat m.request ≡ true) k.sent_now
   pub heard : All ShowsAlive k.heard_now
-  pub beaten : HasBeaten k t
+  pub beaten : HasBeatenIn loses k t

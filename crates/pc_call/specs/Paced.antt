@@ -1,10 +1,11 @@
 -- The rounds of an open call's conflicts keep pace with them.
-use Rattle.std.specs.Prelude.{◌≡◌, ℕ, ◌+◌, ◌≤◌, Bool, None, Some, List, count_by}
+use Rattle.std.specs.Prelude.{◌≡◌, ℕ, ◌+◌, ◌≤◌, Bool, true, None, Some, List, count_by}
 use Rattle.pc_base.specs.declared.transaction.TxnId.{TxnId}
 use Rattle.pc_base.specs.Transaction.{same_txn}
 use Rattle.pc_proto.specs.declared.request.Request.{Request}
 use Rattle.pc_proto.specs.Replies.{is_conflict_with}
 use Rattle.pc_proto.specs.Requests.{goal_in, is_push_of, round_of}
+use Rattle.pc_wave.specs.Standing.{goes_beside}
 use Rattle.pc_world.specs.Counting.{AtLeast}
 use Rattle.pc_world.specs.Known.Traffic.{Heard}
 use Rattle.pc_world.specs.SameRequest.{IsSameRequest}
@@ -17,10 +18,11 @@ was_pushed id h = is_push_of id h.request
 abbrev pub was_met : TxnId → Heard → Bool
 was_met id h = is_conflict_with id h.reply
 
--- The request is one that a round of this transaction's asks for behind the push: a query, a recovery or a resolve.
+-- The request is one that a round of this transaction's asks for behind the push, beside the waves of the call: a query, a recovery or a resolve.
 pub record IsBehindPushOf (id : TxnId) (request : Request) : Type 0 where
   pub about : round_of request ≡ Some id
   pub no_push : goal_in request ≡ None
+  pub beside : goes_beside request ≡ true
 
 -- No request of a round of this transaction's was heard more often than the pushes that it stands behind.
 abbrev pub KeepsBehindPushes : TxnId → List Heard → Type 0

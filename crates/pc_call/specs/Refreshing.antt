@@ -1,27 +1,9 @@
 -- What follows the refreshes of a commit.
-use Rattle.std.specs.Prelude.{◌≡◌, ℕ, List, [], ◌∷◌, ⊤}
-use Rattle.pc_call.specs.declared.refreshes.Refreshed.{Refreshed}
-use Rattle.pc_call.specs.declared.refreshes.Refreshed.TheVariants as refreshes
-use Rattle.pc_call.specs.Serving.{InCall}
-use Rattle.pc_call.specs.Telling.{MayTellOpen}
+use Rattle.std.specs.Prelude.{⊤}
 use Rattle.pc_proto.specs.declared.answer.Answer.{Answer}
 use Rattle.pc_proto.specs.declared.answer.Answer.TheVariants as answers
-use Rattle.pc_proto.specs.declared.request.Request.{Request}
-use Rattle.pc_txn.specs.declared.txn.OpenTxn.{OpenTxn}
-use Rattle.pc_wave.specs.Messages.{message_to_send}
-use Rattle.pc_world.specs.Known.{Known}
-
--- The commit goes out; or its call may be told that the transaction restarts, which stands so then.
-abbrev pub IsRefreshed : List (List ℕ) → ℕ → Known → OpenTxn → Refreshed → Type 0
-IsRefreshed splits session k x (refreshes.Commit call) = InCall splits k x call.purpose call.wave
-IsRefreshed splits session k x (refreshes.Restart answer) = MayTellOpen splits session k answer x
 
 -- The answer says that the transaction restarts.
 abbrev pub IsRestart : Answer → Type 0
 IsRestart (answers.Restart key ts) = ⊤
 IsRestart _ = ⊥
-
--- A call that goes on has one message, which is to be sent; one that is over is told of a restart.
-abbrev pub IsToSendAlone : Refreshed → Type 0
-IsToSendAlone (refreshes.Commit call) = (request : Request) × (call.wave ≡ message_to_send request ∷ [])
-IsToSendAlone (refreshes.Restart answer) = IsRestart answer

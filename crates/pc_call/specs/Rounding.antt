@@ -1,16 +1,18 @@
 -- The round of a conflict that an open call met was made.
-use Rattle.std.specs.Prelude.{◌≡◌, ◌+◌, ◌≤◌, false, if◌then◌else◌, Option, None, Some, List, All, Any, IsTrue, count_by, ⊤}
+use Rattle.std.specs.Prelude.{◌≡◌, ◌+◌, ◌≤◌, false, if◌then◌else◌, Option, None, Some, List, All, Any, IsTrue, count_by, drop, length, ⊤}
 use Rattle.pc_base.specs.declared.transaction.TxnId.{TxnId}
 use Rattle.pc_base.specs.Transaction.{same_txn}
 use Rattle.pc_call.specs.Paced.{KeepsBehindPushes, was_met, was_pushed}
+use Rattle.pc_follows.specs.RoundsMade.{rounds_made}
 use Rattle.pc_proto.specs.declared.reply.Reply.{Reply}
 use Rattle.pc_proto.specs.declared.reply.Reply.TheVariants as replies
-use Rattle.pc_proto.specs.Replies.{holder_in, is_conflict}
+use Rattle.pc_proto.specs.Replies.{holder_in, is_conflict, is_refused}
 use Rattle.pc_proto.specs.Requests.{is_about}
+use Rattle.pc_reads.specs.Replies.{unrefreshed_by}
 use Rattle.pc_txn.specs.Standing.{is_query_of}
 use Rattle.pc_wave.specs.Due.{FollowsConflict}
 use Rattle.pc_wave.specs.Standing.{HasMore, goes_beside}
-use Rattle.pc_world.specs.Known.{Known}
+use Rattle.pc_world.specs.Known.{Known, open_txn}
 use Rattle.pc_world.specs.Known.Traffic.{Heard, Sent}
 use Rattle.pc_world.specs.Send.Recovery.{was_refused}
 
@@ -24,8 +26,8 @@ abbrev pub KeepsPace : Option TxnId → List Heard → List Heard → Type 0
 KeepsPace None before now = ⊤
 KeepsPace (Some id) before now = IsPushedOnce id before now
 
--- Since then the session has made the round of this conflict, and nothing that it sent or heard besides is of its call, speaks of the record
--- or asks for a write of its open transaction, of this name, or met an intent.
+-- Since then the session has made the round of this conflict, the next one, and nothing that it sent or heard besides is of its call, speaks of the record
+-- or asks for a write of its open transaction, of this name, or met an intent or a write.
 pub record MakesRound (start k : Known) (own : TxnId) (conflict : Reply) : Type 0 where
   pub sent_more : List Sent
   pub heard_more : List Heard
@@ -35,11 +37,15 @@ pub record MakesRound (start k : Known) (own : TxnId) (conflict : Reply) : Type 
   pub other : All (λ h. is_about own h.request ≡ false) heard_more
   pub unqueried : All (λ h. is_query_of own h.request ≡ false) heard_more
   pub unmet : All (λ h. is_conflict h.reply ≡ false) heard_more
+  pub unrefreshed : All (λ h. unrefreshed_by h.reply ≡ None) heard_more
+  pub numbered : All (λ m. length start.sent + 1 ≤ m.number) sent_more
   pub followed : FollowsConflict conflict heard_more
+  pub over : (rounds_made k).waiting ≡ drop 1 (rounds_made start).waiting
+  pub unpushed : (rounds_made k).push ≡ None
   pub pace : KeepsPace (holder_in conflict) start.heard_now k.heard_now
   pub statement : k.statement ≡ start.statement
   pub is_open : k.is_open ≡ start.is_open
-  pub txns : k.txns ≡ start.txns
+  pub first : open_txn k ≡ open_txn start
   pub begun : start.begun ≤ k.begun
   pub high : start.high ≤ k.high
 
@@ -55,7 +61,7 @@ pub record GoesOnBeside (start k : Known) (own : TxnId) : Type 0 where
   pub unqueried : All (λ h. is_query_of own h.request ≡ false) heard_more
   pub statement : k.statement ≡ start.statement
   pub is_open : k.is_open ≡ start.is_open
-  pub txns : k.txns ≡ start.txns
+  pub first : open_txn k ≡ open_txn start
   pub begun : start.begun ≤ k.begun
   pub high : start.high ≤ k.high
 
@@ -64,7 +70,16 @@ abbrev pub RefusesPush : Reply → List Heard → Type 0
 RefusesPush (replies.Conflict holder ts key) heard = Any (λ h. IsTrue (was_refused holder.id h)) heard
 RefusesPush _ heard = ⊥
 
--- Since then the round of this conflict was made, and its push was refused.
+-- Since then the round of this conflict, the next one, was begun, and its push was refused; nothing that was sent or heard besides is of its call, or met an
+-- intent or a write.
 pub record RefusesRound (start k : Known) (own : TxnId) (conflict : Reply) : Type 0 where
   pub beside : GoesOnBeside start k own
-  pub refused : RefusesPush conflict k.heard_now
+  pub refused : RefusesPush conflict beside.heard_more
+  pub unmet : All (λ h. is_conflict h.reply ≡ false) beside.heard_more
+  pub unrefreshed : All (λ h. unrefreshed_by h.reply ≡ None) beside.heard_more
+  pub numbered : All (λ m. length start.sent + 1 ≤ m.number) beside.sent_more
+  pub pace : KeepsPace (holder_in conflict) start.heard_now k.heard_now
+  pub waiting : (rounds_made k).waiting ≡ (rounds_made start).waiting
+  pub push : Heard
+  pub pushed : (rounds_made k).push ≡ Some push
+  pub push_refused : IsTrue (is_refused push.reply)

@@ -1,5 +1,5 @@
 -- Which calls may be asked while a write is in flight.
-use Rattle.std.specs.Prelude.{◌≡◌, ⊤, None, Some, List, [], ◌∷◌}
+use Rattle.std.specs.Prelude.{◌≡◌, Bool, true, false, ⊤, None, Some, List, [], ◌∷◌}
 use Rattle.pc_flight.specs.declared.write.WriteInFlight.{WriteInFlight}
 use Rattle.pc_proto.specs.declared.answer.Answer.{Answer}
 use Rattle.pc_proto.specs.declared.answer.Answer.TheVariants as answers
@@ -14,9 +14,19 @@ SuitsFlight (calls.Delete key) (w ∷ []) = (w.key ≡ key) × (w.value ≡ None
 SuitsFlight calls.Rollback (w ∷ ws) = ⊤
 SuitsFlight _ (w ∷ ws) = ⊥
 
+-- So it does without pipelining; with pipelining any call may be asked.
+abbrev pub SuitsFlightIn : Bool → Call → List WriteInFlight → Type 0
+SuitsFlightIn true call flight = ⊤
+SuitsFlightIn false call flight = SuitsFlight call flight
+
 -- After a refusal the same call may be asked again; after any other answer no write is in flight.
 abbrev pub SuitsFlightNext : Answer → Call → List WriteInFlight → Type 0
 SuitsFlightNext (answers.Blocked holder) call flight = SuitsFlight call flight
 SuitsFlightNext (answers.Unavailable faults) call flight = SuitsFlight call flight
 SuitsFlightNext (answers.Moved ts) call flight = SuitsFlight call flight
 SuitsFlightNext _ call flight = flight ≡ []
+
+-- So it is without pipelining.
+abbrev pub SuitsFlightNextIn : Bool → Answer → Call → List WriteInFlight → Type 0
+SuitsFlightNextIn true answer call flight = ⊤
+SuitsFlightNextIn false answer call flight = SuitsFlightNext answer call flight

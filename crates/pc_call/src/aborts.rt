@@ -1,4 +1,5 @@
-ghost use Rattle.std.specs.Prelude.{◌≡◌, ℕ, true, List, None, IfOk};
+ghost use Rattle.std.specs.Prelude.{◌≡◌, ℕ, true, None, IfOk};
+ghost use Rattle.pc_call.specs.Setting.{Setting};
 ghost use Rattle.pc_call.specs.declared.purpose.Purpose.TheVariants as purposes;
 ghost use Rattle.pc_call.specs.Finished.{MayTellOver, ends_rolled_back};
 ghost use Rattle.pc_call.specs.Fresh.{IsFresh};
@@ -26,7 +27,7 @@ impl OpenCall {
     /// Its abort was told this view of the record: its transaction is over, and rolled back. Refused for want of memory alone.
     pub fn rolled_back(self, txn: OpenTxn, view: &View) -> Result<Over, NoMemory>
         ensures made { (why : Why) → self.purpose ≡ purposes.Abort why → IfOk result (λ over. over ≡ ends_rolled_back view.now why txn) }
-        ensures over { (session clock begun number : ℕ) (splits : List (List ℕ)) (k : Known) (why : Why) (h : Heard) → IsCounted session clock begun k → InCall splits k txn self.purpose self.wave → self.purpose ≡ purposes.Abort why → wave_awaits number self.wave ≡ true → IsHeardTo k number (replies.Status view.now) h → IfOk result (MayTellOver splits session (known_heard h k)) }
+        ensures over { (session clock begun number : ℕ) (set : Setting) (k : Known) (why : Why) (h : Heard) → IsCounted session clock begun k → InCall set k txn self.purpose self.wave → self.purpose ≡ purposes.Abort why → wave_awaits number self.wave ≡ true → IsHeardTo k number (replies.Status view.now) h → IfOk result (MayTellOver set session (known_heard h k)) }
     {
         match &self.purpose {
             Purpose::Abort { why } => rolled_back_by(view, why.copy()?, txn),
@@ -37,7 +38,7 @@ impl OpenCall {
     /// The open transaction, which wrote nothing, is rolled back for this cause, without a message.
     pub fn roll_back_unwritten(txn: OpenTxn, why: Why) -> Over
         ensures made { result ≡ record { answer = answers.RolledBack txn.id why; left = None } }
-        ensures over { (session : ℕ) (splits : List (List ℕ)) (k : Known) (s : Statement) → IsFresh k txn s why → s.call ≡ calls.Rollback → txn.anchor ≡ None → MayTellOver splits session k result }
+        ensures over { (session : ℕ) (set : Setting) (k : Known) (s : Statement) → IsFresh set.course.loses k txn s why → s.call ≡ calls.Rollback → txn.anchor ≡ None → MayTellOver set session k result }
     {
         Over {
             answer: Answer::RolledBack { id: txn.id, why },

@@ -1,6 +1,8 @@
 ghost use Rattle.std.specs.Prelude.{◌≡◌};
+ghost use Rattle.pc_call.specs.Behind.{left_behind};
 ghost use Rattle.pc_call.specs.Finished.{left_at};
 
+use pc_base::Timestamp;
 use pc_locks::Locks;
 use pc_proto::{Answer, Fate, TxnMeta};
 use pc_txn::OpenTxn;
@@ -9,6 +11,8 @@ use pc_txn::OpenTxn;
 #[derive(Drop)]
 pub struct Left {
     pub meta: TxnMeta,
+    /// Where its record is to be committed first: it was told committed otherwise than by its commit.
+    pub staged: Option<Timestamp>,
     pub fate: Fate,
     pub locks: Locks,
 }
@@ -23,6 +27,13 @@ pub struct Over {
 /// What is left of a transaction that ends with this fate.
 pub fn left_of(txn: OpenTxn, fate: Fate) -> Option<Left>
     ensures { result ≡ left_at txn.anchor fate txn }
+{
+    left_after(txn, None, fate)
+}
+
+/// What is left of a transaction that ends with this fate, whose record is to be committed first where a timestamp is given.
+pub(crate) fn left_after(txn: OpenTxn, staged: Option<Timestamp>, fate: Fate) -> Option<Left>
+    ensures { result ≡ left_behind txn.anchor staged fate txn }
 {
     let OpenTxn {
         id,
@@ -43,6 +54,7 @@ pub fn left_of(txn: OpenTxn, fate: Fate) -> Option<Left>
                 born,
                 anchor,
             },
+            staged,
             fate,
             locks,
         }),

@@ -1,8 +1,11 @@
 ghost use Rattle.std.specs.Prelude.{◌≡◌, ◌++◌, ℕ, List, IfOk, OnOk, map};
 ghost use Rattle.std.specs.List.{flat_map};
+ghost use Rattle.pc_call.specs.Setting.{Setting};
 ghost use Rattle.pc_call.specs.declared.purpose.Purpose.TheVariants as purposes;
-ghost use Rattle.pc_call.specs.Reading.{answer_by, answer_read, rows_answered, rows_found, span_read, spans_read, value_answered, with_spans};
+ghost use Rattle.pc_call.specs.Reading.{answer_by, answer_read, rows_found, span_read, spans_read, value_answered, with_spans};
+ghost use Rattle.pc_call.specs.declared.later.LaterPut.{LaterPut};
 ghost use Rattle.pc_call.specs.Serving.{InCall};
+ghost use Rattle.pc_call.specs.Stages.{KeepsOutbox};
 ghost use Rattle.pc_call.specs.Telling.{MayTellOpen};
 ghost use Rattle.pc_txn.specs.Counted.{IsCounted};
 ghost use Rattle.pc_wave.specs.declared.step.Step.TheVariants as steps;
@@ -23,7 +26,7 @@ impl OpenCall {
     pub fn read(self, alloc: Global, txn: &mut OpenTxn) -> Result<Answer, NoMemory>
         ensures answer { IfOk result (λ answer. answer ≡ answer_read self.wave) }
         ensures kept { OnOk result (txn.new ≡ record txn.old { reads = record { spans = with_spans txn.old.reads.spans (spans_read self.wave); ts = txn.old.reads.ts } }) }
-        ensures told { (session clock begun : ℕ) (splits : List (List ℕ)) (k : Known) → IsCounted session clock begun k → InCall splits k txn.old self.purpose self.wave → self.purpose ≡ purposes.Read → step_of self.wave ≡ steps.Answered → IfOk result (λ answer. MayTellOpen splits session k answer txn.new) }
+        ensures told { (session clock begun : ℕ) (set : Setting) (k : Known) (later : List LaterPut) → IsCounted session clock begun k → InCall set k txn.old self.purpose self.wave → KeepsOutbox set.course.loses k txn.old later self.wave → self.purpose ≡ purposes.Read → step_of self.wave ≡ steps.Answered → IfOk result (λ answer. MayTellOpen set session k answer txn.new) }
     {
         keep_spans(self.wave.messages(), &mut txn.reads)?;
         answer_of(alloc, self.wave.messages())

@@ -1,12 +1,13 @@
 -- An actor's messages are settled once what it left was evaluated, up to one whose range is full.
-use Rattle.std.proofs.Common.{◌≡◌, ℕ, ◌<◌, ◌≤◌, ◌⊎◌, inl, inr, false, All, Contains, IsTrue, List, [], ◌∷◌, ◌++◌, map, refl, sym, ap, subst, ◌∙◌, arith}
+use Rattle.std.proofs.Common.{◌≡◌, ℕ, ◌≤◌, ◌⊎◌, inl, inr, false, All, Contains, IsTrue, List, [], ◌∷◌, ◌++◌, map, refl, sym, ap, subst, ◌∙◌, arith}
 use Rattle.std.proofs.lemmas.List.{append_assoc}
-use Rattle.std.proofs.lemmas.List.Elements.{All-contains, All-nil, All-weaker, Contains-append_cases, Contains-append_left, Contains-append_right}
+use Rattle.std.proofs.lemmas.List.Elements.{All-contains, All-weaker, Contains-append_cases, Contains-append_left}
 use Rattle.pc_base.specs.declared.actor.ActorId.{ActorId}
 use Rattle.pc_closing.specs.Leaving.{HasSettledAll, IsSettled, KnowsHeldUp, MayLeave, WaitsOrIsSettled}
+use Rattle.pc_desk.proofs.Ending.{all_wait, not_lost}
 use Rattle.pc_desk.proofs.Refusing.{refused_still, was_given_back}
-use Rattle.pc_desk.specs.Desk.{DeskMeaning, GivesOnce, IsReadyToGo, Posted, WaitingMessage, as_sent, posting}
-use Rattle.pc_desk.specs.Ending.{IsAtFullRange, IsAtOwnEnd, IsAtStop, IsNotLost, IsSpent, KnowsEvaluation, WaitsStill, WaitsUnheard}
+use Rattle.pc_desk.specs.Desk.{DeskMeaning, GivesOnce, IsReadyToGo, KeepsTrack, Posted, WaitingMessage, as_sent, posting}
+use Rattle.pc_desk.specs.Ending.{IsAtFullRange, IsAtOwnEnd, IsAtStop, IsNotLost, IsSpent, KnowsEvaluation, WaitsStill, WaitsUnheard, all_waiting}
 use Rattle.pc_desk.specs.Refused.{WasGivenBack}
 use Rattle.pc_desk.specs.Rest.{HasOnlyLearnt, IsEvaluatedIn}
 use Rattle.pc_history.specs.declared.named.Named.{Ghosts}
@@ -14,7 +15,7 @@ use Rattle.pc_history.specs.declared.view.Known.{Known as KnownEntry}
 use Rattle.pc_history.specs.declared.view.Part.{Part}
 use Rattle.pc_history.specs.Meanings.{ActorMeaning}
 use Rattle.pc_history.specs.Parts.{known_entry, told, uses_left}
-use Rattle.pc_lists.proofs.Lists.{all_from_contains, contains_cons, contains_head, contains_in_map, contains_map}
+use Rattle.pc_lists.proofs.Lists.{all_from_contains, contains_cons, contains_in_map, contains_map}
 use Rattle.pc_proto.specs.declared.event.Event.{Event}
 use Rattle.pc_range.specs.declared.commit_world.CommitWorld.{CommitWorld}
 use Rattle.pc_range.specs.declared.message.Message.{Message}
@@ -27,22 +28,22 @@ use Rattle.pc_world.specs.Tell.Refusal.{is_heard}
 
 -- ---- when a session may leave
 
-module _ {C : Type 0} (d : DeskMeaning C) (rest : List WaitingMessage) (posted : map (λ (w : WaitingMessage). w.posted) rest ≡ d.posted) (given : GivesOnce d.log.part) where
-  waits-posted : All (WaitsUnheard (known_of d.log.part.own)) d.posted → All (λ (w : WaitingMessage). WaitsUnheard (known_of d.log.part.own) w.posted) rest
+module _ {C : Type 0} (d : DeskMeaning C) (rest : List WaitingMessage) (posted : map (λ (w : WaitingMessage). w.posted) rest ≡ all_waiting d) (given : GivesOnce d.log.part) where
+  waits-posted : All (WaitsUnheard (known_of d.log.part.own)) (all_waiting d) → All (λ (w : WaitingMessage). WaitsUnheard (known_of d.log.part.own) w.posted) rest
   waits-posted waits = all_from_contains (λ (w : WaitingMessage). WaitsUnheard (known_of d.log.part.own) w.posted) rest (λ w there.
-      All-contains (WaitsUnheard (known_of d.log.part.own)) d.posted w.posted waits (subst (λ l. Contains l w.posted) posted (contains_map (λ (x : WaitingMessage). x.posted) rest w there)))
+      All-contains (WaitsUnheard (known_of d.log.part.own)) (all_waiting d) w.posted waits (subst (λ l. Contains l w.posted) posted (contains_map (λ (x : WaitingMessage). x.posted) rest w there)))
 
   not-lost : (m : Sent) → IsNotLost d m → WaitsOrIsSettled d.range_limit d.log.part rest m
   not-lost m (inl heard) = inr (inl heard)
   not-lost m (inr (inl waits)) = inl (subst (λ l. WaitsStill l m.number) (sym posted) waits)
   not-lost m (inr (inr knows)) = inr (inr (inl knows))
 
-  -- all that it sent was heard
-  pub heard_may_leave : d.posted ≡ [] → All (λ m. IsTrue (is_heard (known_of d.log.part.own).heard m)) (known_of d.log.part.own).sent → MayLeave d.range_limit d.log.part rest
-  heard_may_leave none heard = record {
+  -- it goes on, and each of its messages stands at its stage
+  pub going_may_leave : KeepsTrack d → MayLeave d.range_limit d.log.part rest
+  going_may_leave track = record {
     given = given;
-    waits = waits-posted (subst (All (WaitsUnheard (known_of d.log.part.own))) (sym none) (All-nil _));
-    messages = All-weaker (λ m. IsTrue (is_heard (known_of d.log.part.own).heard m)) (WaitsOrIsSettled d.range_limit d.log.part rest) (λ m h. inr (inl h)) (known_of d.log.part.own).sent heard;
+    waits = waits-posted (all_wait d track);
+    messages = All-weaker (IsNotLost d) (WaitsOrIsSettled d.range_limit d.log.part rest) not-lost (known_of d.log.part.own).sent (not_lost d track);
   }
 
   -- its own list is full
@@ -128,8 +129,8 @@ module _ (limit : ℕ) (splits : List (List ℕ)) (old new : ActorMeaning Head E
       by m (inr settled) = settled-on limit old.part new.part own-same id-same learnt.more m settled
 
   -- up to one whose range is full
-  module _ (after : ActorMeaning Head Event) (note : List (KnownEntry Event)) (done behind : List WaitingMessage) (refused : WaitingMessage) (whole : rest ≡ done ++ refused ∷ behind) (evaluated : All (IsEvaluatedIn new.part) done)
-      (rises : All (λ (w : WaitingMessage). refused.key < w.key) behind) (took : after ≡ record new { part = told note new.part }) (spent : WasGivenBack limit (told note new.part) (as_sent refused.posted)) where
+  module _ (after : ActorMeaning Head Event) (note : List (KnownEntry Event)) (done behind : List WaitingMessage) (refused : WaitingMessage) (each : All (λ (w : WaitingMessage). Contains (done ++ refused ∷ behind) w) rest) (there-refused : Contains rest refused) (evaluated : All (IsEvaluatedIn new.part) done)
+      (rises : All (λ (w : WaitingMessage). refused.key ≤ w.key) behind) (took : after ≡ record new { part = told note new.part }) (spent : WasGivenBack limit (told note new.part) (as_sent refused.posted)) where
     known-is : after.part.known ≡ new.part.known ++ note
     known-is = ap (λ (a : ActorMeaning Head Event). a.part.known) took
 
@@ -141,9 +142,6 @@ module _ (limit : ℕ) (splits : List (List ℕ)) (old new : ActorMeaning Head E
 
     id-now : after.part.id ≡ old.part.id
     id-now = ap (λ (a : ActorMeaning Head Event). a.part.id) took ∙ id-same
-
-    there-refused : Contains rest refused
-    there-refused = subst (λ l. Contains l refused) (sym whole) (Contains-append_right done (refused ∷ behind) refused (contains_head refused behind))
 
     waited : WaitsUnheard (known_of old.part.own) refused.posted
     waited = All-contains (λ (w : WaitingMessage). WaitsUnheard (known_of old.part.own) w.posted) rest refused may.waits there-refused
@@ -175,22 +173,21 @@ module _ (limit : ℕ) (splits : List (List ℕ)) (old new : ActorMeaning Head E
             (evaluated-knows new.part w m.number is (All-contains (IsEvaluatedIn new.part) done w evaluated before))))
         waiting m w there is (inr later) = inr (inr (held-up m (elim (contains_cons refused behind w later) [
           | inl here ↦ (let same : refused.posted.number ≡ w.posted.number = ap (λ (x : WaitingMessage). x.posted.number) here in omega arith)
-          | inr after ↦ (let below : refused.key < w.key = All-contains (λ (x : WaitingMessage). refused.key < x.key) behind w rises after in omega (arith, key-is refused there-refused, key-is w there))
+          | inr after ↦ (let below : refused.key ≤ w.key = All-contains (λ (x : WaitingMessage). refused.key ≤ x.key) behind w rises after in omega (arith, key-is refused there-refused, key-is w there))
         ])))
 
         by : (m : Sent) → WaitsOrIsSettled limit old.part rest m → IsSettled limit after.part m
         by m (inl waits) =
             let w = contains_in_map (λ (x : WaitingMessage). x.posted) rest waits.waiting waits.there in
-            waiting m w.0 w.1 (ap (λ (p : Posted). p.number) w.2 ∙ waits.is) (Contains-append_cases done (refused ∷ behind) w.0 (subst (λ l. Contains l w.0) whole w.1))
+            waiting m w.0 w.1 (ap (λ (p : Posted). p.number) w.2 ∙ waits.is) (Contains-append_cases done (refused ∷ behind) w.0 (All-contains (λ (x : WaitingMessage). Contains (done ++ refused ∷ behind) x) rest w.0 each w.1))
         by m (inr settled) = settled-on limit old.part after.part own-now id-now (λ k there. more-now k (learnt.more k there)) m settled
 
   -- it took what the range gave, and then the use of its message
-  pub refused_at_end : {N : Type 0} {G : Ghosts N CommitWorld} (after : ActorMeaning Head Event) (last : List (KnownEntry Event)) (message : Message N G) (done behind : List WaitingMessage) (refused : WaitingMessage) → rest ≡ done ++ refused ∷ behind → All (IsEvaluatedIn new.part) done
-      → All (λ (w : WaitingMessage). refused.key < w.key) behind → IsFullNote refused.posted.range limit last → message.sender ≡ new.part.id → posting message.number message.range message.request (uses_left message.note.known) ≡ refused.posted
+  pub refused_at_end : {N : Type 0} {G : Ghosts N CommitWorld} (after : ActorMeaning Head Event) (last : List (KnownEntry Event)) (message : Message N G) (done behind : List WaitingMessage) (refused : WaitingMessage) → All (λ (w : WaitingMessage). Contains (done ++ refused ∷ behind) w) rest → Contains rest refused → All (IsEvaluatedIn new.part) done
+      → All (λ (w : WaitingMessage). refused.key ≤ w.key) behind → IsFullNote refused.posted.range limit last → message.sender ≡ new.part.id → posting message.number message.range message.request (uses_left message.note.known) ≡ refused.posted
       → after ≡ record new { part = told message.note.known (told last new.part) } → HasSettledAll limit old.part after.part
-  refused_at_end after last message done behind refused whole evaluated rises full whose is back =
+  refused_at_end after last message done behind refused each there evaluated rises full whose is back =
       let notes = last ++ message.note.known in
-      let there : Contains rest refused = subst (λ l. Contains l refused) (sym whole) (Contains-append_right done (refused ∷ behind) refused (contains_head refused behind)) in
       let some = (All-contains (IsReadyToGo old.part.id splits) rest refused ready there).use_left in
-      left_till after notes done behind refused whole evaluated rises (back ∙ ap (λ ks. record new { part = record new.part { known = ks } }) (append_assoc new.part.known last message.note.known))
+      left_till after notes done behind refused each there evaluated rises (back ∙ ap (λ ks. record new { part = record new.part { known = ks } }) (append_assoc new.part.known last message.note.known))
       (was_given_back limit (told notes new.part) refused.posted message last new.part.known refl full whose is some)

@@ -11,6 +11,10 @@ use Rattle.pc_wave.specs.declared.message.Progress.{Progress}
 use Rattle.pc_wave.specs.declared.message.Progress.TheVariants as progresses
 use Rattle.pc_wave.specs.declared.step.Step.TheVariants as steps
 use Rattle.pc_wave.specs.Messages.{conflict_by, first_in_conflict, has_answer, is_out, is_to_send, progress_awaits, progress_has_answer, progress_out, step_by, step_in, step_of, wave_awaits}
+use Rattle.pc_call.proofs.Facts.{all_out}
+use Rattle.pc_coord.specs.Coordination.{HasSentWave, SendsNoMore}
+use Rattle.pc_coord.specs.declared.due.Due.{Due}
+use Rattle.pc_coord.specs.declared.due.Due.TheVariants as dues
 
 no_answer : (o : Option TxnId) (number : ℕ) (conflict : Reply) → conflict_by o number conflict ≡ steps.Answered → ⊥
 no_answer None number conflict e = cc
@@ -68,7 +72,7 @@ or_parts : (a b : Bool) → (a || b) ≡ false → (a ≡ false) × (b ≡ false
 or_parts true b e = absurd cc
 or_parts false b e = (refl, e)
 
-none_awaited : (n : ℕ) (ms : List Message) → list_any is_out ms ≡ false → wave_awaits n ms ≡ false
+pub none_awaited : (n : ℕ) (ms : List Message) → list_any is_out ms ≡ false → wave_awaits n ms ≡ false
 none_awaited n [] e = refl
 none_awaited n (m ∷ ms) e =
     let parts = or_parts (is_out m) (list_any is_out ms) e in
@@ -79,3 +83,9 @@ pub blocked_idle : (n : ℕ) (ms : List Message) (holder : TxnId) → step_of ms
 blocked_idle n ms holder due =
     let f = blocked_first (first_in_conflict ms) (find is_to_send ms) (list_all has_answer ms) holder due in
     none_awaited n ms (first_found ms f.0 f.1).1
+
+-- where nothing is to be sent, all went out
+pub gone_out : (due : Due) → SendsNoMore due → HasSentWave due
+gone_out (dues.Call call) none = all_out call.wave none
+gone_out dues.Nothing none = tt
+gone_out (dues.Tell answer) none = tt

@@ -1,5 +1,5 @@
 -- A call was just asked of the open transaction: nothing was sent in it.
-use Rattle.std.proofs.Common.{◌≡◌, ℕ, ◌+◌, ◌≤◌, Bool, true, false, ◌&&◌, ◌||◌, List, [], ◌∷◌, Option, None, Result, Ok, Err, IfOk, refl, sym, ap, ◌∙◌, subst, arith, All, Any}
+use Rattle.std.proofs.Common.{◌≡◌, ℕ, ◌+◌, ◌≤◌, Bool, true, false, ◌&&◌, ◌||◌, List, [], ◌∷◌, Option, None, Result, Ok, Err, IfOk, refl, sym, ap, ◌∙◌, subst, arith, All}
 use Rattle.std.specs.List.{list_all}
 use Rattle.std.proofs.lemmas.List.{append-nil}
 use Rattle.std.proofs.lemmas.List.Elements.{All-cons, All-head, All-nil, All-tail, All-weaker}
@@ -9,12 +9,12 @@ use Rattle.pc_call.specs.declared.call.OpenCall.{OpenCall}
 use Rattle.pc_call.specs.Ended.{laying}
 use Rattle.pc_call.specs.Fresh.{IsJustAsked}
 use Rattle.pc_call.specs.Learned.{known_asked}
+use Rattle.pc_call.specs.Setting.{Setting}
 use Rattle.pc_call.specs.Serving.{InCall, Serves}
 use Rattle.pc_call.specs.Telling.{StandsOpen}
 use Rattle.pc_coord.specs.Going.{IsForMany, caused}
 use Rattle.pc_proto.specs.declared.call.Call.{Call}
 use Rattle.pc_proto.specs.declared.call.Call.TheVariants as calls
-use Rattle.pc_proto.specs.declared.request.Request.{Request}
 use Rattle.pc_proto.specs.declared.why.Why.{Why}
 use Rattle.pc_proto.specs.declared.why.Why.TheVariants as whys
 use Rattle.pc_proto.specs.Stamps.{why_stamps}
@@ -27,7 +27,6 @@ use Rattle.pc_wave.specs.declared.message.Progress.{Progress}
 use Rattle.pc_wave.specs.declared.message.Progress.TheVariants as progresses
 use Rattle.pc_wave.specs.declared.step.Step.TheVariants as steps
 use Rattle.pc_wave.specs.Messages.{has_answer, is_to_send, message_to_send, progress_awaits, progress_has_answer, progress_to_send, step_of, wave_awaits}
-use Rattle.pc_wave.specs.Standing.{IsAsFar, IsMessageAt, IsSentUnder, MessageStands}
 use Rattle.pc_coord.proofs.Dues.{answered_all}
 use Rattle.pc_world.specs.Known.{Known}
 use Rattle.pc_world.specs.Known.Transactions.{Txn}
@@ -45,10 +44,13 @@ stands_caused k stages commit t x why st = record {
   below = st.below;
   views = st.views;
   staged = st.staged;
+  accounted = st.accounted;
   late = st.late;
+  live = st.live;
   shown = st.shown;
   puts = st.puts;
   put_heard = st.put_heard;
+  found = st.found;
   writes = st.writes;
   flight = st.flight;
   staging = st.staging;
@@ -73,22 +75,6 @@ fresh_asked call reading k x o =
       none_sent = refl;
       none_heard = refl;
     }
-
-module _ (k : Known) (none : k.sent_now ≡ []) where
-  none_out : (number : ℕ) (request : Request) → IsSentUnder k number request → ⊥
-  none_out number request out =
-      let a : Any (IsMessageAt number request) [] = subst (λ ms. Any (IsMessageAt number request) ms) none out.now in
-      absurd (omega (arith, a.2))
-
-  unsent_at : (request : Request) (conflicts : ℕ) (p : Progress) → IsAsFar k request conflicts p → progress_to_send p ≡ true
-  unsent_at request conflicts progresses.ToSend far = refl
-  unsent_at request conflicts (progresses.Sent number) far = absurd (none_out number request far.0.out)
-  unsent_at request conflicts (progresses.Met number conflict) far = absurd (none_out number request far.out)
-  unsent_at request conflicts (progresses.Answered number reply) far = absurd (none_out number request far.0.out)
-
-  -- where nothing was sent in the call, each of its messages is to be sent
-  pub all_unsent : (ms : List Message) → All (MessageStands k) ms → All (λ m. is_to_send m ≡ true) ms
-  all_unsent ms stand = All-weaker (MessageStands k) (λ m. is_to_send m ≡ true) (λ m s. unsent_at m.request m.conflicts m.progress s.as_far) ms stand
 
 unsent_waits : (n : ℕ) (p : Progress) → progress_to_send p ≡ true → progress_awaits n p ≡ false
 unsent_waits n progresses.ToSend is = refl
@@ -122,15 +108,19 @@ one_unsent : (ms : List Message) (m : Message) → ms ≡ m ∷ [] → All (λ m
 one_unsent ms m one a due = unsent_none m [] (subst (λ ms. All (λ m. is_to_send m ≡ true) ms) one a) (ap step_of (sym one) ∙ due)
 
 -- so a call whose messages are to be sent has none to answer for but where it may be answered by many
-pub unsent_many : (splits : List (List ℕ)) (k : Known) (x : OpenTxn) (p : Purpose) (ms : List Message) → InCall splits k x p ms → All (λ m. is_to_send m ≡ true) ms → step_of ms ≡ steps.Answered → IsForMany p
-unsent_many splits k x p ms w a due = by p w.serves
+pub unsent_many : (set : Setting) (k : Known) (x : OpenTxn) (p : Purpose) (ms : List Message) → InCall set k x p ms → All (λ m. is_to_send m ≡ true) ms → step_of ms ≡ steps.Answered → IsForMany p
+unsent_many set k x p ms w a due = by p w.serves
   where
-    by : (p : Purpose) → Serves splits k w.s w.t x p ms → IsForMany p
+    by : (p : Purpose) → Serves set k w.s w.t x w.stages p ms → IsForMany p
     by (purposes.Beat call reading) s = absurd (one_unsent ms s.m s.one a due)
+    by (purposes.Prove call all) s = tt
     by purposes.Read s = tt
-    by (purposes.Refresh n) s = tt
-    by (purposes.Write again) s = absurd (one_unsent ms s.m s.one a due)
+    by (purposes.Refresh n puts) s = tt
+    by purposes.Write s = absurd (one_unsent ms s.m s.one a due)
+    by (purposes.Stage n) s = tt
+    by (purposes.Query n holder puts) s = absurd (one_unsent ms s.m s.asks a due)
     by (purposes.Commit n) s = absurd (one_unsent ms s.m s.one a due)
+    by (purposes.LastBeat answer reading) s = absurd (one_unsent ms s.m s.one a due)
     by (purposes.Abort why) s = absurd (one_unsent ms s.m s.one a due)
 
 -- a call that is no rollback, and is asked inside a transaction, shows life
@@ -150,3 +140,6 @@ pub laying_unsent : {E : Type 0} (x : OpenTxn) (key : List ℕ) (value : Option 
 laying_unsent x key value (Ok call) is =
     subst (λ (call : OpenCall). All (λ m. is_to_send m ≡ true) call.wave) (sym is) (All-cons (λ (m : Message). is_to_send m ≡ true) (message_to_send (next_put x key value)) [] refl (All-nil (λ (m : Message). is_to_send m ≡ true)))
 laying_unsent x key value (Err error) is = is
+
+pub laid_unsent : (x : OpenTxn) (key : List ℕ) (value : Option (List ℕ)) (made : OpenCall) → made ≡ laying x key value → All (λ m. is_to_send m ≡ true) made.wave
+laid_unsent x key value made is = subst (λ (call : OpenCall). All (λ m. is_to_send m ≡ true) call.wave) (sym is) (All-cons (λ (m : Message). is_to_send m ≡ true) (message_to_send (next_put x key value)) [] refl (All-nil (λ (m : Message). is_to_send m ≡ true)))

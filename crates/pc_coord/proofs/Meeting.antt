@@ -10,12 +10,15 @@ use Rattle.pc_base.specs.declared.limits.TheConstants.{GREATEST_READING}
 use Rattle.pc_base.specs.declared.transaction.TxnId.{TxnId}
 use Rattle.pc_base.specs.Transaction.{same_txn}
 use Rattle.pc_call.specs.Learned.{known_told}
+use Rattle.pc_call.proofs.Eighths.{any_eighth}
+use Rattle.pc_coord.proofs.Counting.{heard_low-more, sent_low-more}
 use Rattle.pc_coord.proofs.Knowing.{no_job, tellable}
 use Rattle.pc_coord.proofs.Learned.{learn-by, told_is}
 use Rattle.pc_coord.proofs.Outside.{closed_beats, none_heard}
 use Rattle.pc_coord.specs.Coordination.{Coordination}
 use Rattle.pc_coord.specs.declared.job.Job.{Job}
-use Rattle.pc_coord.specs.Knows.{IsHeld, Knows, KnowsAt, Rests, TellsNow, messages_left}
+use Rattle.pc_coord.specs.Knows.{IsHeld, IsOutboxOf, Knows, KnowsAt, Rests, TellsNow, commit_in_front, messages_left}
+use Rattle.pc_follows.specs.FinishingJobs.{finishing_messages}
 use Rattle.pc_coord.specs.Meeting.{MeetsCommit, known_met, meeting}
 use Rattle.pc_coord.specs.Suiting.{SuitsNext}
 use Rattle.pc_history.specs.declared.pair.Pair.{Pair}
@@ -60,9 +63,13 @@ no_empty : (ms : List Request) (m : Request) → ms ++ m ∷ [] ≡ [] → ⊥
 no_empty [] m e = absurd cc
 no_empty (first ∷ ms) m e = absurd cc
 
+no_messages : (staged : Option ℕ) (job : Job) → commit_in_front staged job ++ finishing_messages job.meta.id job.fate job.meta.anchor job.locks ≡ [] → ⊥
+no_messages None job e = no_empty (map (λ lock. requests.Resolve job.meta.id lock job.fate) job.locks) (requests.Remove job.meta.id job.meta.anchor) e
+no_messages (Some ts) job e = cc
+
 none_left : (job : Option Job) → messages_left job ≡ [] → job ≡ None
 none_left None e = refl
-none_left (Some job) e = absurd (no_empty (map (λ lock. requests.Resolve job.meta.id lock job.fate) job.locks) (requests.Remove job.meta.id job.meta.anchor) e)
+none_left (Some job) e = absurd (no_messages job.staged job e)
 
 or_true : (b : Bool) → (b || true) ≡ true
 or_true true = refl
@@ -73,12 +80,12 @@ met_there id met =
     let test : TxnId → Bool = λ other. same_txn other id in
     list_any-append test met (id ∷ []) ∙ ap (λ b. list_any test met || (b || false)) (same_txn-self id) ∙ or_true (list_any test met)
 
-module _ (c : Coordination) (k : Known) (p : Pair Event) (id : TxnId) (step ts : ℕ) (knows : Knows c k) (is : MeetsCommit c id step ts k p) where
-  now : TellsNow c k answers.NotYet
-  now = subst (KnowsAt c k) is.due knows.stands
+module _ (loses : Bool) (c : Coordination) (k : Known) (p : Pair Event) (id : TxnId) (step ts : ℕ) (knows : Knows loses c k) (is : MeetsCommit c id step ts k p) where
+  now : TellsNow loses c k answers.NotYet
+  now = subst (KnowsAt loses c k) is.due knows.stands
 
-  before : Rests c.session c.clock c.begun c.txn c.job (known_told answers.NotYet k)
-  before = subst (λ k. Rests c.session c.clock c.begun c.txn c.job k) (told_is answers.NotYet k) now.after
+  before : Rests loses c.session c.clock c.begun c.txn c.later c.job (known_told answers.NotYet k)
+  before = subst (λ k. Rests loses c.session c.clock c.begun c.txn c.later c.job k) (told_is answers.NotYet k) now.after
 
   abbrev k2 : Known
   k2 = known_met id ts k
@@ -94,26 +101,37 @@ module _ (c : Coordination) (k : Known) (p : Pair Event) (id : TxnId) (step ts :
       let P : Call → Type 0 = λ call. MatchBool (needs_txn call && not k2.is_open) (answers.Learnt ≡ answers.NoTxn) (MatchBool (is_begin call && nat_lt GREATEST_READING s.reading) (answers.Learnt ≡ answers.Clock s.reading) (IsLearnTold true k2 call)) in
       subst P (sym called) (met_there id k.met_now)
 
+  outbox : (txn : Option OpenTxn) → txn ≡ None → IsOutboxOf loses txn c.later (known_told answers.NotYet k) → IsOutboxOf loses txn c.later (known_told answers.Learnt k2)
+  outbox None none o = o
+  outbox (Some x) none o = absurd cc
+
   -- the learn is to be told that it learnt
-  known_then : Knows (meeting ts c) k2
+  known_then : Knows loses (meeting ts c) k2
   known_then =
       let m = now.may.may in
       record {
-        rising = knows.rising;
-        ranged = record { heard = knows.ranged.heard; sent = knows.ranged.sent; reads = knows.ranged.reads };
+        course = record {
+          tried = knows.course.tried;
+          rising = knows.course.rising;
+          ranged = record { heard = knows.course.ranged.heard; sent = knows.course.ranged.sent; reads = knows.course.ranged.reads };
+          one_range = knows.course.one_range;
+          may_wait = knows.course.may_wait;
+          unstaged = knows.course.unstaged;
+        };
         stands = record {
           may =
               tellable (record {
                 may = record { s = m.s; opened = m.opened; told = row m.s (asked m.s m.opened) };
                 written = tt;
-                aborts = tt;
+                aborts = λ quiet. tt;
                 rolled_back = tt;
                 restarts = tt;
-                eighth = λ s opened. none_heard k2 answers.Learnt is.quiet s opened;
-                beats = closed_beats k2 answers.Learnt is.closed;
-              }) now.may.left (λ s opened. subst (λ txn. SuitsNext answers.Learnt s.call txn) (sym closed) tt);
+                eighth = any_eighth loses k2 answers.Learnt (none_heard k2 answers.Learnt is.quiet);
+                blocked = λ piped s is commits. tt;
+                beats = λ quiet. closed_beats k2 answers.Learnt is.closed;
+              }) now.may.left (λ s opened. subst (λ txn. SuitsNext c.pipelining answers.Learnt s.call txn) (sym closed) tt);
           after =
-              subst (λ k. Rests c.session (max c.clock ts) c.begun c.txn c.job k) (sym (told_is answers.Learnt k2))
+              subst (λ k. Rests loses c.session (max c.clock ts) c.begun c.txn c.later c.job k) (sym (told_is answers.Learnt k2))
               (record {
                 counted = record {
                   clock = omega (arith, before.counted.clock);
@@ -121,13 +139,16 @@ module _ (c : Coordination) (k : Known) (p : Pair Event) (id : TxnId) (step ts :
                   begun = before.counted.begun;
                   sent = before.counted.sent;
                   heard = before.counted.heard;
+                  sent_low = sent_low-more (known_told answers.NotYet k).top (known_told answers.Learnt k2).top k.sent (omega arith) before.counted.sent_low;
+                  heard_low = heard_low-more (known_told answers.NotYet k).top (known_told answers.Learnt k2).top k.heard (omega arith) before.counted.heard_low;
                 };
                 none_open = refl;
                 held = subst (λ txn. IsHeld txn (known_told answers.Learnt k2)) (sym closed) is.closed;
+                outbox = outbox c.txn closed before.outbox;
                 left = no_job c.job (known_told answers.Learnt k2) (none_left c.job now.may.left);
               });
         };
       }
 
-  pub met_knows : Knows (meeting ts c) (learn p k)
-  met_knows = subst (Knows (meeting ts c)) (sym (met_is c id step ts k p is)) known_then
+  pub met_knows : Knows loses (meeting ts c) (learn p k)
+  met_knows = subst (Knows loses (meeting ts c)) (sym (met_is c id step ts k p is)) known_then

@@ -38,9 +38,10 @@ abbrev pub decision_in : View → Decision
 decision_in (views.Committed epoch ts locks) = decisions.Committed epoch ts
 decision_in (views.Aborted epoch why locks) = decisions.Aborted why
 decision_in (views.Pending epoch ts) = decisions.Refused ts
+decision_in (views.Staging epoch ts writes) = decisions.Refused ts
 decision_in _ = decisions.Nothing
 
--- What the reply to a commit says of it.
+-- What the reply to a stage, a commit or a heartbeat says of its transaction.
 abbrev pub decision_of : Reply → Decision
 decision_of (replies.Status view) = decision_in view
 decision_of _ = decisions.Nothing

@@ -1,14 +1,13 @@
-ghost use Rattle.std.specs.Prelude.{◌≡◌, ℕ, false, List, OnOk};
+ghost use Rattle.std.specs.Prelude.{◌≡◌, ℕ, false, List, OnOk, Bool};
 ghost use Rattle.std.specs.List.{list_any};
 ghost use Rattle.pc_call.specs.declared.purpose.Purpose.TheVariants as purposes;
 ghost use Rattle.pc_call.specs.Learned.{known_heard};
-ghost use Rattle.pc_coord.specs.Coming.{ComesOf};
-ghost use Rattle.pc_coord.specs.Coordination.{awaits_number};
+ghost use Rattle.pc_call.specs.Stages.{IsUndecidedAt};
+ghost use Rattle.pc_coord.specs.Coming.{AwaitsOutbox, ComesOf, IsLeftOf};
 ghost use Rattle.pc_coord.specs.Going.{HearsNow};
 ghost use Rattle.pc_coord.specs.Knows.{Knows};
 ghost use Rattle.pc_proto.specs.declared.call.Call.{Call};
-ghost use Rattle.pc_proto.specs.declared.reply.Reply.TheVariants as replies;
-ghost use Rattle.pc_proto.specs.declared.view.View.TheVariants as views;
+ghost use Rattle.pc_proto.specs.declared.reply.Reply.{Reply};
 ghost use Rattle.pc_wave.specs.declared.message.Message.{Message};
 ghost use Rattle.pc_wave.specs.Messages.{is_in_conflict};
 ghost use Rattle.pc_world.specs.Known.{Known};
@@ -31,11 +30,13 @@ impl<'a> Coordinator<'a> {
         step: u64,
         reply: &Reply,
     ) -> Result<(), NoMemory>
-        ensures knows { (k : Known) (h : Heard) (number reading : ℕ) (kept : Call) → HearsNow self.old call txn number reply.now k h → call.purpose ≡ purposes.Beat kept reading → h.step ≡ step → OnOk result (Knows self.new (known_heard h k)) }
-        ensures waits { (other reading : ℕ) (kept : Call) → call.purpose ≡ purposes.Beat kept reading → MayBlock kept → OnOk result (awaits_number other self.new.due ≡ false) }
+        ensures knows { (loses : Bool) (k : Known) (h : Heard) (number reading : ℕ) (kept : Call) → HearsNow loses self.old call txn number reply.now k h → call.purpose ≡ purposes.Beat kept reading → h.step ≡ step → OnOk result (Knows loses self.new (known_heard h k)) }
+        ensures waits { (reading : ℕ) (kept : Call) → call.purpose ≡ purposes.Beat kept reading → MayBlock kept → OnOk result (AwaitsOutbox self.old.later self.new.due) }
         ensures comes { (messages : List Message) (reading : ℕ) (kept : Call) → call.purpose ≡ purposes.Beat kept reading → MayBlock kept → list_any is_in_conflict messages ≡ false → OnOk result (ComesOf messages self.new.due) }
+        ensures left { OnOk result (IsLeftOf self.old.later self.new.later) }
         ensures session { self.new.session ≡ self.old.session }
         ensures splits { self.new.splits ≡ self.old.splits }
+        ensures pipelines { self.new.pipelining ≡ self.old.pipelining }
     {
         let decision = decision_of(reply)?;
         match decision {
@@ -60,11 +61,13 @@ impl<'a> Coordinator<'a> {
         recorded: Timestamp,
         step: u64,
     ) -> Result<(), NoMemory>
-        ensures knows { (k : Known) (h : Heard) (number epoch reading : ℕ) (kept : Call) → HearsNow self.old call txn number (replies.Status (views.Pending epoch recorded)) k h → call.purpose ≡ purposes.Beat kept reading → h.step ≡ step → OnOk result (Knows self.new (known_heard h k)) }
-        ensures waits { (other reading : ℕ) (kept : Call) → call.purpose ≡ purposes.Beat kept reading → MayBlock kept → OnOk result (awaits_number other self.new.due ≡ false) }
+        ensures knows { (loses : Bool) (k : Known) (h : Heard) (number reading : ℕ) (kept : Call) (reply : Reply) → HearsNow loses self.old call txn number reply k h → IsUndecidedAt reply recorded → call.purpose ≡ purposes.Beat kept reading → h.step ≡ step → OnOk result (Knows loses self.new (known_heard h k)) }
+        ensures waits { (reading : ℕ) (kept : Call) → call.purpose ≡ purposes.Beat kept reading → MayBlock kept → OnOk result (AwaitsOutbox self.old.later self.new.due) }
         ensures comes { (messages : List Message) (reading : ℕ) (kept : Call) → call.purpose ≡ purposes.Beat kept reading → MayBlock kept → list_any is_in_conflict messages ≡ false → OnOk result (ComesOf messages self.new.due) }
+        ensures left { OnOk result (IsLeftOf self.old.later self.new.later) }
         ensures session { self.new.session ≡ self.old.session }
         ensures splits { self.new.splits ≡ self.old.splits }
+        ensures pipelines { self.new.pipelining ≡ self.old.pipelining }
     {
         let kept = call.alive(&mut txn, recorded, step);
         match kept {

@@ -1,4 +1,8 @@
-ghost use Rattle.std.specs.Prelude.{◌≡◌, ℕ, ◌+◌, ◌<◌, ◌↔◌, true, false, All, List, Option, None, Some, IfErr, IfOk, IsErr, OnErr, OnOk};
+ghost use Rattle.std.specs.Prelude.{◌≡◌, ℕ, ◌+◌, ◌<◌, ◌↔◌, true, false, All, None, Some, IfErr, IfOk, IsErr, OnErr, OnOk, Bool, List, [], ◌∷◌};
+ghost use Rattle.pc_call.specs.declared.later.LaterPut.{LaterPut};
+ghost use Rattle.pc_call.specs.Setting.{Setting};
+ghost use Rattle.pc_call.specs.Suiting.{SuitsFlightIn};
+ghost use Rattle.pc_call.specs.Stages.{HasOutbox, HasOutboxBetween};
 ghost use Rattle.pc_base.specs.Clock.{clock_now};
 ghost use Rattle.pc_base.specs.declared.limits.TheConstants.{GREATEST_READING};
 ghost use Rattle.pc_base.specs.Timestamp.{greatest};
@@ -7,16 +11,18 @@ ghost use Rattle.pc_proto.specs.declared.answer.Answer.TheVariants as answers;
 ghost use Rattle.pc_call.specs.Fresh.{IsFresh};
 ghost use Rattle.pc_call.specs.Learned.{known_asked};
 ghost use Rattle.pc_call.specs.Serving.{InCall};
-ghost use Rattle.pc_call.specs.Suiting.{SuitsFlight};
 ghost use Rattle.pc_call.specs.Telling.{StandsOpen};
 ghost use Rattle.pc_coord.specs.Coordination.{beginning, telling, with_clock};
 ghost use Rattle.pc_coord.specs.declared.due.Due.TheVariants as dues;
+ghost use Rattle.pc_coord.specs.Suiting.{Suits};
 ghost use Rattle.pc_coord.specs.Going.{StandsReady, caused};
-ghost use Rattle.pc_coord.specs.Knows.{Knows};
+ghost use Rattle.pc_coord.specs.Aside.{HasAside};
+ghost use Rattle.pc_coord.specs.Coming.{AwaitsOutbox, IsLeftOf};
+ghost use Rattle.pc_coord.specs.Knows.{AreAllHeard, Knows};
 ghost use Rattle.pc_proto.specs.declared.call.Call.TheVariants as calls;
-ghost use Rattle.pc_proto.specs.declared.why.Why.{Why};
 ghost use Rattle.pc_proto.specs.declared.why.Why.TheVariants as whys;
-ghost use Rattle.pc_wave.specs.Messages.{is_to_send};
+ghost use Rattle.pc_txn.specs.Opened.{own_abort};
+ghost use Rattle.pc_wave.specs.Messages.{is_to_send, message_to_send};
 ghost use Rattle.pc_world.specs.Known.{Known};
 ghost use Rattle.pc_world.specs.Known.Statements.{Statement};
 ghost use Rattle.pc_world.specs.Local.{is_outside, is_round};
@@ -35,10 +41,13 @@ use std::mem;
 impl<'a> Coordinator<'a> {
     /// A call is asked where no transaction is open.
     pub(crate) fn ask_outside(&mut self, call: &Call, reading: u64) -> Result<(), NoMemory>
-        ensures knows { (k : Known) → StandsReady self.old k → k.statement ≡ None → k.is_open ≡ false → self.old.txn ≡ None → is_round call.now ≡ false → OnOk result (Knows self.new (known_asked call.now reading k)) }
+        ensures knows { (loses : Bool) (k : Known) → StandsReady loses self.old k → k.statement ≡ None → k.is_open ≡ false → self.old.txn ≡ None → self.old.later ≡ [] → AreAllHeard loses k → is_round call.now ≡ false → OnOk result (Knows loses self.new (known_asked call.now reading k)) }
+        ensures waits { OnOk result (AwaitsOutbox self.old.later self.new.due) }
         ensures learns { (id : TxnId) → call.now ≡ calls.Learn id → OnOk result (self.new.due ≡ dues.Tell answers.NotYet) }
+        ensures left { OnOk result (IsLeftOf self.old.later self.new.later) }
         ensures session { self.new.session ≡ self.old.session }
         ensures splits { self.new.splits ≡ self.old.splits }
+        ensures pipelines { self.new.pipelining ≡ self.old.pipelining }
     {
         let begins = begins_at(call);
         match begins {
@@ -59,9 +68,12 @@ impl<'a> Coordinator<'a> {
 
     /// A transaction begins at the clock's time. Refused where the session's numbers or timestamps are used up.
     fn begin(&mut self, priority: Priority, reading: u64) -> Result<(), NoMemory>
-        ensures knows { (k : Known) → StandsReady self.old k → k.statement ≡ None → k.is_open ≡ false → self.old.txn ≡ None → OnOk result (Knows self.new (known_asked (calls.Begin priority) reading k)) }
+        ensures knows { (loses : Bool) (k : Known) → StandsReady loses self.old k → k.statement ≡ None → k.is_open ≡ false → self.old.txn ≡ None → self.old.later ≡ [] → AreAllHeard loses k → OnOk result (Knows loses self.new (known_asked (calls.Begin priority) reading k)) }
+        ensures waits { OnOk result (AwaitsOutbox self.old.later self.new.due) }
+        ensures left { OnOk result (IsLeftOf self.old.later self.new.later) }
         ensures session { self.new.session ≡ self.old.session }
         ensures splits { self.new.splits ≡ self.old.splits }
+        ensures pipelines { self.new.pipelining ≡ self.old.pipelining }
     {
         if self.clock.is_used_up() || self.begun == u32::MAX {
             return Err(NoMemory);
@@ -108,9 +120,12 @@ impl<'a> Coordinator<'a> {
         reading: u64,
         mut txn: OpenTxn,
     ) -> Result<(), NoMemory>
-        ensures knows { (k : Known) → StandsReady self.old k → k.statement ≡ None → StandsOpen k txn → SuitsFlight call txn.in_flight → is_outside call ≡ false → is_round call ≡ false → OnOk result (Knows self.new (known_asked call reading k)) }
+        ensures knows { (loses : Bool) (k : Known) → StandsReady loses self.old k → k.statement ≡ None → StandsOpen k txn → HasOutboxBetween loses k txn self.old.later → reading ≡ self.old.reading → Suits self.old.pipelining call (Some txn) → is_outside call ≡ false → is_round call ≡ false → OnOk result (Knows loses self.new (known_asked call reading k)) }
+        ensures waits { is_outside call ≡ false → is_round call ≡ false → OnOk result (AwaitsOutbox self.old.later self.new.due) }
+        ensures left { OnOk result (IsLeftOf self.old.later self.new.later) }
         ensures session { self.new.session ≡ self.old.session }
         ensures splits { self.new.splits ≡ self.old.splits }
+        ensures pipelines { self.new.pipelining ≡ self.old.pipelining }
     {
         let why = take_cause(&mut txn);
         match call {
@@ -120,9 +135,12 @@ impl<'a> Coordinator<'a> {
     }
 
     fn roll_back(&mut self, txn: OpenTxn, why: Why) -> Result<(), NoMemory>
-        ensures knows { (k : Known) (s : Statement) → StandsReady self.old k → IsFresh k txn s why → s.call ≡ calls.Rollback → OnOk result (Knows self.new k) }
+        ensures knows { (loses : Bool) (k : Known) (s : Statement) → StandsReady loses self.old k → IsFresh loses k txn s why → HasAside loses k txn self.old.later → s.call ≡ calls.Rollback → OnOk result (Knows loses self.new k) }
+        ensures waits { OnOk result (AwaitsOutbox self.old.later self.new.due) }
+        ensures left { OnOk result (IsLeftOf self.old.later self.new.later) }
         ensures session { self.new.session ≡ self.old.session }
         ensures splits { self.new.splits ≡ self.old.splits }
+        ensures pipelines { self.new.pipelining ≡ self.old.pipelining }
     {
         match &txn.anchor {
             Some(_) => self.abort(txn, why),
@@ -131,9 +149,12 @@ impl<'a> Coordinator<'a> {
     }
 
     fn abort(&mut self, txn: OpenTxn, why: Why) -> Result<(), NoMemory>
-        ensures knows { (k : Known) (s : Statement) → StandsReady self.old k → IsFresh k txn s why → s.call ≡ calls.Rollback → OnOk result (Knows self.new k) }
+        ensures knows { (loses : Bool) (k : Known) (s : Statement) → StandsReady loses self.old k → IsFresh loses k txn s why → HasAside loses k txn self.old.later → s.call ≡ calls.Rollback → OnOk result (Knows loses self.new k) }
+        ensures waits { OnOk result (AwaitsOutbox self.old.later self.new.due) }
+        ensures left { OnOk result (IsLeftOf self.old.later self.new.later) }
         ensures session { self.new.session ≡ self.old.session }
         ensures splits { self.new.splits ≡ self.old.splits }
+        ensures pipelines { self.new.pipelining ≡ self.old.pipelining }
     {
         let call = abort_of(self.alloc, &txn, why)?;
         self.go_on(call, txn)
@@ -142,7 +163,8 @@ impl<'a> Coordinator<'a> {
 
 fn abort_of(alloc: Global, txn: &OpenTxn, why: Why) -> Result<OpenCall, NoMemory>
     ensures unsent { IfOk result (λ call. All (λ m. is_to_send m ≡ true) call.wave) }
-    ensures stands { (splits : List (List ℕ)) (k : Known) (s : Statement) → IsFresh k txn.now s why → s.call ≡ calls.Rollback → IfOk result (λ call. InCall splits k txn.now call.purpose call.wave) }
+    ensures made { IfOk result (λ call. (anchor : List ℕ) × (call.wave ≡ message_to_send (own_abort txn.now why anchor) ∷ [])) }
+    ensures stands { (set : Setting) (k : Known) (later : List LaterPut) (s : Statement) → HasOutbox set.course.loses k txn.now later → IsFresh set.course.loses k txn.now s why → SuitsFlightIn set.course.pipelines s.call txn.now.in_flight → s.call ≡ calls.Rollback → IfOk result (λ call. InCall set k txn.now call.purpose call.wave) }
 {
     match &txn.anchor {
         Some(anchor) => OpenCall::abort(alloc, txn, anchor, why),

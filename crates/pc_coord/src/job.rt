@@ -9,7 +9,7 @@ use pc_proto::{Fate, Keys, TxnMeta};
 #[derive(Drop)]
 pub struct Job {
     pub meta: TxnMeta,
-    /// The timestamp at which its commit is to be sent first, where it was told committed by its staging: none so far.
+    /// The timestamp at which its commit is to be sent first, where it was told committed otherwise than by its commit.
     pub staged: Option<Timestamp>,
     pub fate: Fate,
     pub locks: Keys,
@@ -21,9 +21,16 @@ pub fn job_of(left: Option<Left>) -> Result<Option<Job>, NoMemory>
 {
     match left {
         None => Ok(None),
-        Some(Left { meta, fate, locks }) => Ok(Some(Job {
+        Some(
+            Left {
+                meta,
+                staged,
+                fate,
+                locks,
+            },
+        ) => Ok(Some(Job {
             meta,
-            staged: None,
+            staged,
             fate,
             locks: locks.into_list()?,
         })),

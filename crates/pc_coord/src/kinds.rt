@@ -5,14 +5,14 @@ use pc_base::{NoMemory, Priority, Timestamp, TryCopy};
 use pc_proto::{Answer, Call, Reply, View, Why};
 use pc_wave::Step;
 
-/// What the reply to a commit says of it.
+/// What the reply to a stage, a commit or a heartbeat says of its transaction.
 #[derive(Drop)]
 pub enum Decision {
     /// It is committed, in this epoch and at this timestamp.
     Committed { epoch: u32, ts: Timestamp },
     /// It is aborted, for this cause.
     Aborted { why: Why },
-    /// It was refused: its record is not final, and stands at this timestamp.
+    /// It is not decided: its record is not final, and stands at this timestamp.
     Refused { recorded: Timestamp },
     /// Nothing.
     Nothing,
@@ -58,7 +58,7 @@ pub fn status_in(reply: &Reply) -> Result<Option<View>, NoMemory>
     }
 }
 
-/// What the reply to a commit says of it.
+/// What the reply to a stage, a commit or a heartbeat says of its transaction.
 pub fn decision_of(reply: &Reply) -> Result<Decision, NoMemory>
     ensures { IfOk result (λ decision. decision ≡ decision_of reply.now) }
 {
@@ -78,7 +78,8 @@ fn decision_in(view: &View) -> Result<Decision, NoMemory>
         }),
         View::Aborted { why, .. } => Ok(Decision::Aborted { why: why.copy()? }),
         View::Pending { ts, .. } => Ok(Decision::Refused { recorded: *ts }),
-        _ => Ok(Decision::Nothing),
+        View::Staging { ts, .. } => Ok(Decision::Refused { recorded: *ts }),
+        View::Nothing => Ok(Decision::Nothing),
     }
 }
 

@@ -5,6 +5,7 @@ mod alive;
 mod asking;
 mod coordinator;
 mod due;
+mod ends;
 mod going;
 mod job;
 mod kinds;
@@ -13,10 +14,13 @@ mod next;
 mod pusher;
 mod round;
 mod serving;
+mod stages;
 
 pub use coordinator::Coordinator;
 pub use job::Job;
-pub use laws::coordinating_goes_on;
+pub use laws::{
+    awaits_its_puts, coordinating_goes_on, hears_all_awaited, hears_in_turn, meets_all_awaited,
+};
 pub use next::Next;
 pub use pusher::Pusher;
 pub use round::Round;

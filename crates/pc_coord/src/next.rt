@@ -6,7 +6,9 @@ use pc_proto::{Answer, Reply, Request};
 pub enum Next {
     /// This request is to be sent.
     Send(Request),
-    /// The requests that were sent and not heard are to be delivered.
+    /// This put is to be sent; it is told written at once, and waits in the outbox until a wave waits for it.
+    Later(Request),
+    /// The requests that are waited for are to be delivered.
     Wave,
     /// The message of this number met this conflict, for which a round is to be made. A reader's is told at which timestamp it reads.
     Conflict {

@@ -1,25 +1,31 @@
-ghost use Rattle.std.specs.Prelude.{◌≡◌, ℕ, true, false, All, List, [], ◌∷◌, None, Some, IfOk, OnOk};
+ghost use Rattle.std.specs.Prelude.{◌≡◌, ◌≢◌, [], ◌∷◌, ℕ, true, false, List, Some, IfOk, OnOk, Bool};
 ghost use Rattle.std.specs.List.{list_any};
+ghost use Rattle.pc_call.specs.declared.later.LaterPut.{LaterPut};
+ghost use Rattle.pc_call.specs.Setting.{Setting};
+ghost use Rattle.pc_call.specs.Suiting.{SuitsFlightIn};
+ghost use Rattle.pc_call.specs.Stages.{HasOutbox, KeepsOutbox};
+ghost use Rattle.pc_coord.specs.Aside.{HasAside, IsProving};
+ghost use Rattle.pc_follows.specs.PipelinedPuts.{IsFull};
 ghost use Rattle.pc_call.specs.Fresh.{IsFresh, IsJustAsked};
 ghost use Rattle.pc_call.specs.Serving.{InCall, write_call};
-ghost use Rattle.pc_call.specs.Suiting.{SuitsFlight};
-ghost use Rattle.pc_coord.specs.Coming.{ComesOf};
-ghost use Rattle.pc_coord.specs.Coordination.{awaits_number};
+ghost use Rattle.pc_call.specs.Waiting.{BeginsBehindProofs, waits_for_all, waits_for_some};
+ghost use Rattle.pc_coord.specs.Suiting.{Suits};
+ghost use Rattle.pc_coord.specs.Coming.{AwaitsOutbox, ComesOf, IsLeftOf};
 ghost use Rattle.pc_coord.specs.Going.{StandsReady};
 ghost use Rattle.pc_coord.specs.Knows.{Knows};
 ghost use Rattle.pc_proto.specs.declared.call.Call.TheVariants as calls;
 ghost use Rattle.pc_proto.specs.declared.why.Why.{Why};
-ghost use Rattle.pc_txn.specs.Silence.{is_silent};
+ghost use Rattle.pc_txn.specs.Silence.{is_silent, own_beat};
 ghost use Rattle.pc_wave.specs.declared.message.Message.{Message};
-ghost use Rattle.pc_wave.specs.Messages.{is_in_conflict, is_to_send};
+ghost use Rattle.pc_wave.specs.Messages.{is_in_conflict, message_to_send};
 ghost use Rattle.pc_world.specs.Known.{Known};
 ghost use Rattle.pc_world.specs.Known.Statements.{Statement};
 ghost use Rattle.pc_world.specs.Tell.Refusal.{MayBlock};
+ghost use Rattle.pc_call.specs.Outbox.{AreToSendOrOnWay, MayWait, TakesFrom};
 
 use crate::coordinator::Coordinator;
 use pc_base::{Key, NoMemory, Span, TryCopy, Value};
-use pc_call::OpenCall;
-use pc_flight::WriteInFlight;
+use pc_call::{Later, OpenCall, is_to_prove};
 use pc_proto::Call;
 use pc_refusals::Refusals;
 use pc_txn::OpenTxn;
@@ -34,9 +40,12 @@ impl<'a> Coordinator<'a> {
         reading: u64,
         txn: OpenTxn,
     ) -> Result<(), NoMemory>
-        ensures knows { (k : Known) (why : Why) → StandsReady self.old k → IsJustAsked k txn (record { call = call; reading = reading }) why → MayBlock call → SuitsFlight call txn.in_flight → OnOk result (Knows self.new k) }
+        ensures knows { (loses : Bool) (k : Known) (why : Why) → StandsReady loses self.old k → IsJustAsked k txn (record { call = call; reading = reading }) why → HasAside loses k txn self.old.later → MayBlock call → reading ≡ self.old.reading → Suits self.old.pipelining call (Some txn) → OnOk result (Knows loses self.new k) }
+        ensures waits { MayBlock call → OnOk result (AwaitsOutbox self.old.later self.new.due) }
+        ensures left { OnOk result (IsLeftOf self.old.later self.new.later) }
         ensures session { self.new.session ≡ self.old.session }
         ensures splits { self.new.splits ≡ self.old.splits }
+        ensures pipelines { self.new.pipelining ≡ self.old.pipelining }
     {
         if txn.is_silent(reading) {
             self.show(call, reading, txn)
@@ -47,9 +56,12 @@ impl<'a> Coordinator<'a> {
 
     /// The heartbeat of the transaction goes out first.
     fn show(&mut self, call: Call, reading: u64, txn: OpenTxn) -> Result<(), NoMemory>
-        ensures knows { (k : Known) (why : Why) → StandsReady self.old k → IsJustAsked k txn (record { call = call; reading = reading }) why → MayBlock call → SuitsFlight call txn.in_flight → is_silent reading txn ≡ true → OnOk result (Knows self.new k) }
+        ensures knows { (loses : Bool) (k : Known) (why : Why) → StandsReady loses self.old k → IsJustAsked k txn (record { call = call; reading = reading }) why → HasAside loses k txn self.old.later → MayBlock call → reading ≡ self.old.reading → Suits self.old.pipelining call (Some txn) → is_silent reading txn ≡ true → OnOk result (Knows loses self.new k) }
+        ensures waits { OnOk result (AwaitsOutbox self.old.later self.new.due) }
+        ensures left { OnOk result (IsLeftOf self.old.later self.new.later) }
         ensures session { self.new.session ≡ self.old.session }
         ensures splits { self.new.splits ≡ self.old.splits }
+        ensures pipelines { self.new.pipelining ≡ self.old.pipelining }
     {
         let call = beat_of(self.alloc, &txn, call, reading)?;
         self.go_on(call, txn)
@@ -57,12 +69,17 @@ impl<'a> Coordinator<'a> {
 
     /// A call that reads, writes or commits begins.
     pub(crate) fn serve(&mut self, call: &Call, txn: OpenTxn) -> Result<(), NoMemory>
-        ensures knows { (k : Known) (s : Statement) (why : Why) → StandsReady self.old k → IsFresh k txn s why → s.call ≡ call.now → MayBlock call.now → SuitsFlight call.now txn.in_flight → OnOk result (Knows self.new k) }
-        ensures waits { (other : ℕ) → MayBlock call.now → OnOk result (awaits_number other self.new.due ≡ false) }
+        ensures knows { (loses : Bool) (k : Known) (s : Statement) (why : Why) → StandsReady loses self.old k → IsFresh loses k txn s why → HasAside loses k txn self.old.later → s.call ≡ call.now → MayBlock call.now → Suits self.old.pipelining call.now (Some txn) → OnOk result (Knows loses self.new k) }
+        ensures waits { MayBlock call.now → OnOk result (AwaitsOutbox self.old.later self.new.due) }
         ensures comes { (messages : List Message) → MayBlock call.now → list_any is_in_conflict messages ≡ false → OnOk result (ComesOf messages self.new.due) }
+        ensures left { OnOk result (IsLeftOf self.old.later self.new.later) }
         ensures session { self.new.session ≡ self.old.session }
         ensures splits { self.new.splits ≡ self.old.splits }
+        ensures pipelines { self.new.pipelining ≡ self.old.pipelining }
     {
+        if is_to_prove(call, &txn) {
+            return self.prove(call, txn);
+        }
         match call {
             Call::Get(key) => self.get(txn, key),
             Call::Scan(span) => self.scan(txn, span),
@@ -76,46 +93,69 @@ impl<'a> Coordinator<'a> {
         }
     }
 
-    fn get(&mut self, txn: OpenTxn, key: &Key) -> Result<(), NoMemory>
-        ensures knows { (k : Known) (s : Statement) (why : Why) → StandsReady self.old k → IsFresh k txn s why → s.call ≡ calls.Get key.now → txn.in_flight ≡ [] → OnOk result (Knows self.new k) }
-        ensures waits { (other : ℕ) → OnOk result (awaits_number other self.new.due ≡ false) }
+    /// Writes in flight for which the call waits are proved first.
+    fn prove(&mut self, call: &Call, txn: OpenTxn) -> Result<(), NoMemory>
+        ensures knows { (loses : Bool) (k : Known) (s : Statement) (why : Why) → StandsReady loses self.old k → IsFresh loses k txn s why → HasAside loses k txn self.old.later → s.call ≡ call.now → BeginsBehindProofs call.now → waits_for_some call.now txn.in_flight ≡ true → Suits self.old.pipelining call.now (Some txn) → OnOk result (Knows loses self.new k) }
+        ensures waits { OnOk result (AwaitsOutbox self.old.later self.new.due) }
         ensures comes { (messages : List Message) → list_any is_in_conflict messages ≡ false → OnOk result (ComesOf messages self.new.due) }
+        ensures left { OnOk result (IsLeftOf self.old.later self.new.later) }
         ensures session { self.new.session ≡ self.old.session }
         ensures splits { self.new.splits ≡ self.old.splits }
+        ensures pipelines { self.new.pipelining ≡ self.old.pipelining }
+    {
+        let call = prove_first(self.alloc, &txn, &mut self.later, call.copy()?)?;
+        self.call(call, txn);
+        Ok(())
+    }
+
+    fn get(&mut self, txn: OpenTxn, key: &Key) -> Result<(), NoMemory>
+        ensures knows { (loses : Bool) (k : Known) (s : Statement) (why : Why) → StandsReady loses self.old k → IsFresh loses k txn s why → HasAside loses k txn self.old.later → s.call ≡ calls.Get key.now → waits_for_some (calls.Get key.now) txn.in_flight ≡ false → Suits self.old.pipelining (calls.Get key.now) (Some txn) → OnOk result (Knows loses self.new k) }
+        ensures waits { OnOk result (AwaitsOutbox self.old.later self.new.due) }
+        ensures comes { (messages : List Message) → list_any is_in_conflict messages ≡ false → OnOk result (ComesOf messages self.new.due) }
+        ensures left { OnOk result (IsLeftOf self.old.later self.new.later) }
+        ensures session { self.new.session ≡ self.old.session }
+        ensures splits { self.new.splits ≡ self.old.splits }
+        ensures pipelines { self.new.pipelining ≡ self.old.pipelining }
     {
         let call = OpenCall::get(self.alloc, &txn, key)?;
         self.go_on(call, txn)
     }
 
     fn scan(&mut self, txn: OpenTxn, span: &Span) -> Result<(), NoMemory>
-        ensures knows { (k : Known) (s : Statement) (why : Why) → StandsReady self.old k → IsFresh k txn s why → s.call ≡ calls.Scan span.now → txn.in_flight ≡ [] → OnOk result (Knows self.new k) }
-        ensures waits { (other : ℕ) → OnOk result (awaits_number other self.new.due ≡ false) }
+        ensures knows { (loses : Bool) (k : Known) (s : Statement) (why : Why) → StandsReady loses self.old k → IsFresh loses k txn s why → HasAside loses k txn self.old.later → s.call ≡ calls.Scan span.now → waits_for_some (calls.Scan span.now) txn.in_flight ≡ false → Suits self.old.pipelining (calls.Scan span.now) (Some txn) → OnOk result (Knows loses self.new k) }
+        ensures waits { OnOk result (AwaitsOutbox self.old.later self.new.due) }
         ensures comes { (messages : List Message) → list_any is_in_conflict messages ≡ false → OnOk result (ComesOf messages self.new.due) }
+        ensures left { OnOk result (IsLeftOf self.old.later self.new.later) }
         ensures session { self.new.session ≡ self.old.session }
         ensures splits { self.new.splits ≡ self.old.splits }
+        ensures pipelines { self.new.pipelining ≡ self.old.pipelining }
     {
         let call = OpenCall::scan(self.alloc, self.splits, &txn, span)?;
         self.go_on(call, txn)
     }
 
-    /// The call writes; no value is a deletion. A write that is in flight, which is the same one, goes out again first.
+    /// The call writes; no value is a deletion.
     fn write(&mut self, txn: OpenTxn, key: &Key, value: &Option<Value>) -> Result<(), NoMemory>
-        ensures knows { (k : Known) (s : Statement) (why : Why) → StandsReady self.old k → IsFresh k txn s why → s.call ≡ write_call key.now value.now → SuitsFlight (write_call key.now value.now) txn.in_flight → OnOk result (Knows self.new k) }
-        ensures waits { (other : ℕ) → OnOk result (awaits_number other self.new.due ≡ false) }
+        ensures knows { (loses : Bool) (k : Known) (s : Statement) (why : Why) → StandsReady loses self.old k → IsFresh loses k txn s why → HasAside loses k txn self.old.later → s.call ≡ write_call key.now value.now → waits_for_some (write_call key.now value.now) txn.in_flight ≡ false → Suits self.old.pipelining (write_call key.now value.now) (Some txn) → OnOk result (Knows loses self.new k) }
+        ensures waits { OnOk result (AwaitsOutbox self.old.later self.new.due) }
         ensures comes { (messages : List Message) → list_any is_in_conflict messages ≡ false → OnOk result (ComesOf messages self.new.due) }
+        ensures left { OnOk result (IsLeftOf self.old.later self.new.later) }
         ensures session { self.new.session ≡ self.old.session }
         ensures splits { self.new.splits ≡ self.old.splits }
+        ensures pipelines { self.new.pipelining ≡ self.old.pipelining }
     {
-        let put = lay(self.alloc, &txn, key, value)?;
+        let put = OpenCall::write(self.alloc, &txn, key, value)?;
         self.go_on(put, txn)
     }
 
     fn commit(&mut self, txn: OpenTxn) -> Result<(), NoMemory>
-        ensures knows { (k : Known) (s : Statement) (why : Why) → StandsReady self.old k → IsFresh k txn s why → s.call ≡ calls.Commit → txn.in_flight ≡ [] → OnOk result (Knows self.new k) }
-        ensures waits { (other : ℕ) → OnOk result (awaits_number other self.new.due ≡ false) }
+        ensures knows { (loses : Bool) (k : Known) (s : Statement) (why : Why) → StandsReady loses self.old k → IsFresh loses k txn s why → HasAside loses k txn self.old.later → s.call ≡ calls.Commit → Suits self.old.pipelining calls.Commit (Some txn) → OnOk result (Knows loses self.new k) }
+        ensures waits { OnOk result (AwaitsOutbox self.old.later self.new.due) }
         ensures comes { (messages : List Message) → list_any is_in_conflict messages ≡ false → OnOk result (ComesOf messages self.new.due) }
+        ensures left { OnOk result (IsLeftOf self.old.later self.new.later) }
         ensures session { self.new.session ≡ self.old.session }
         ensures splits { self.new.splits ≡ self.old.splits }
+        ensures pipelines { self.new.pipelining ≡ self.old.pipelining }
     {
         match &txn.anchor {
             Some(_) => self.commit_written(txn),
@@ -124,19 +164,21 @@ impl<'a> Coordinator<'a> {
     }
 
     fn commit_written(&mut self, txn: OpenTxn) -> Result<(), NoMemory>
-        ensures knows { (k : Known) (s : Statement) (why : Why) (anchor : List ℕ) → StandsReady self.old k → IsFresh k txn s why → s.call ≡ calls.Commit → txn.in_flight ≡ [] → txn.anchor ≡ Some anchor → OnOk result (Knows self.new k) }
-        ensures waits { (other : ℕ) → OnOk result (awaits_number other self.new.due ≡ false) }
+        ensures knows { (loses : Bool) (k : Known) (s : Statement) (why : Why) (anchor : List ℕ) → StandsReady loses self.old k → IsFresh loses k txn s why → HasAside loses k txn self.old.later → s.call ≡ calls.Commit → Suits self.old.pipelining calls.Commit (Some txn) → txn.anchor ≡ Some anchor → OnOk result (Knows loses self.new k) }
+        ensures waits { OnOk result (AwaitsOutbox self.old.later self.new.due) }
         ensures comes { (messages : List Message) → list_any is_in_conflict messages ≡ false → OnOk result (ComesOf messages self.new.due) }
+        ensures left { OnOk result (IsLeftOf self.old.later self.new.later) }
         ensures session { self.new.session ≡ self.old.session }
         ensures splits { self.new.splits ≡ self.old.splits }
+        ensures pipelines { self.new.pipelining ≡ self.old.pipelining }
     {
-        let call = OpenCall::commits(self.alloc, &txn, Refusals::new())?;
-        self.go_on(call, txn)
+        self.commit_on(txn, Refusals::new())
     }
 }
 
 fn beat_of(alloc: Global, txn: &OpenTxn, call: Call, reading: u64) -> Result<OpenCall, NoMemory>
-    ensures stands { (splits : List (List ℕ)) (k : Known) (why : Why) → IsJustAsked k txn.now (record { call = call; reading = reading }) why → MayBlock call → SuitsFlight call txn.now.in_flight → is_silent reading txn.now ≡ true → IfOk result (λ made. InCall splits k txn.now made.purpose made.wave) }
+    ensures made { IfOk result (λ made. (anchor : List ℕ) × (made.wave ≡ message_to_send (own_beat txn.now reading anchor) ∷ [])) }
+    ensures stands { (set : Setting) (k : Known) (later : List LaterPut) (why : Why) → HasOutbox set.course.loses k txn.now later → IsJustAsked k txn.now (record { call = call; reading = reading }) why → MayBlock call → SuitsFlightIn set.course.pipelines call txn.now.in_flight → is_silent reading txn.now ≡ true → IfOk result (λ made. InCall set k txn.now made.purpose made.wave) }
 {
     match &txn.anchor {
         Some(anchor) => OpenCall::beat(alloc, txn, anchor, call, reading),
@@ -144,23 +186,21 @@ fn beat_of(alloc: Global, txn: &OpenTxn, call: Call, reading: u64) -> Result<Ope
     }
 }
 
-/// The messages of a call that writes; no value is a deletion. A write that is in flight, which is the same one, goes out again first.
-fn lay(alloc: Global, txn: &OpenTxn, key: &Key, value: &Option<Value>) -> Result<OpenCall, NoMemory>
-    ensures unsent { IfOk result (λ call. All (λ m. is_to_send m ≡ true) call.wave) }
-    ensures stands { (splits : List (List ℕ)) (k : Known) (s : Statement) (why : Why) → IsFresh k txn.now s why → s.call ≡ write_call key.now value.now → SuitsFlight (write_call key.now value.now) txn.now.in_flight → IfOk result (λ call. InCall splits k txn.now call.purpose call.wave) }
-{
-    match txn.in_flight.writes() {
-        [] => OpenCall::write(alloc, txn, key, value),
-        [write, ..] => lay_again(alloc, txn, write),
-    }
-}
-
-fn lay_again(alloc: Global, txn: &OpenTxn, write: &WriteInFlight) -> Result<OpenCall, NoMemory>
-    ensures unsent { IfOk result (λ call. All (λ m. is_to_send m ≡ true) call.wave) }
-    ensures stands { (splits : List (List ℕ)) (k : Known) (s : Statement) (why : Why) → IsFresh k txn.now s why → s.call ≡ write_call write.now.key write.now.value → txn.now.in_flight ≡ write.now ∷ [] → IfOk result (λ call. InCall splits k txn.now call.purpose call.wave) }
+fn prove_first(
+    alloc: Global,
+    txn: &OpenTxn,
+    later: &mut Later,
+    call: Call,
+) -> Result<OpenCall, NoMemory>
+    ensures unsent { IfOk result (λ made. AreToSendOrOnWay made.wave) }
+    ensures outbox { (loses : Bool) (k : Known) → HasOutbox loses k txn.now later.old → IfOk result (λ made. KeepsOutbox loses k txn.now later.new made.wave) }
+    ensures takes { IfOk result (λ made. TakesFrom later.old later.new made.wave) }
+    ensures proves { IfOk result (λ made. IsProving made.purpose) }
+    ensures some { waits_for_some call txn.now.in_flight ≡ true → IfOk result (λ made. made.wave ≢ []) }
+    ensures stands { (set : Setting) (k : Known) (s : Statement) (why : Why) → IsFresh set.course.loses k txn.now s why → SuitsFlightIn set.course.pipelines s.call txn.now.in_flight → s.call ≡ call → BeginsBehindProofs call → HasOutbox set.course.loses k txn.now later.old → MayWait set.course.pipelines later.old → (waits_for_all call txn.now.in_flight ≡ true → IsFull k) → IfOk result (λ made. InCall set k txn.now made.purpose made.wave) }
 {
     match &txn.anchor {
-        Some(anchor) => OpenCall::write_again(alloc, txn, anchor, write),
+        Some(anchor) => OpenCall::prove(alloc, txn, later, anchor, call),
         None => Err(NoMemory),
     }
 }

@@ -2,7 +2,7 @@
 use Rattle.std.proofs.Common.{◌≡◌, ℕ, ◌+◌, ◌<◌, ◌≤◌, ◌⊎◌, ◌==◌, ◌||◌, Bool, true, false, nat_lt, inl, inr, All, Contains, IsTrue, List, [], ◌∷◌, ◌++◌, length, map, Option, Some, Result, Ok, Err, IfErr, refl, sym, ap, subst, ◌∙◌, arith}
 use Rattle.std.proofs.lemmas.Bool.{eq-eqb, eqb-true}
 use Rattle.std.proofs.lemmas.List.{append-nil}
-use Rattle.std.proofs.lemmas.List.Elements.{Contains-append_right, All-contains, All-cons, All-head, All-nil, All-tail, All-weaker}
+use Rattle.std.proofs.lemmas.List.Elements.{Contains-append_cases, Contains-append_left, Contains-append_right, All-contains, All-cons, All-head, All-nil, All-tail, All-weaker}
 use Rattle.std.specs.List.{AllZip, list_any}
 use Rattle.pc_base.specs.declared.actor.ActorId.{ActorId}
 use Rattle.pc_base.specs.declared.actor.ActorId.TheVariants as actors
@@ -10,12 +10,13 @@ use Rattle.pc_desk.proofs.Counting.{any_counts, counted_once}
 use Rattle.pc_desk.proofs.Ending.{all_wait, ended_memory, not_lost}
 use Rattle.pc_desk.proofs.Halting.{wants_memory}
 use Rattle.pc_desk.proofs.Refusing.{refused_still, was_given_back}
+use Rattle.pc_desk.proofs.Tracking.{stray_on}
 use Rattle.pc_desk.proofs.Waves.{in_wave_now}
 use Rattle.pc_desk.specs.declared.answered.Answered.{Answered}
 use Rattle.pc_desk.specs.declared.halt.Halt.{Halt}
 use Rattle.pc_desk.specs.declared.halt.Halt.TheVariants as halts
-use Rattle.pc_desk.specs.Desk.{AreInTurn, DeskMeaning, HasDelivered, HasHalted, IsAnsweredBy, IsOneSent, KeepsTrack, KnowsFull, Posted, answered_as, as_sent, heard_as_number, is_on_way, posted_as, times_sent}
-use Rattle.pc_desk.specs.Ending.{EndsBy, EndsOnly, HasEnded, IsNotLost, IsSpent, KnowsEvaluation, WaitsUnheard}
+use Rattle.pc_desk.specs.Desk.{AreInTurn, DeskMeaning, HasDelivered, HasHalted, IsAnsweredBy, IsOneSent, IsStray, KeepsTrack, KnowsFull, Posted, answered_as, as_sent, heard_as_number, is_on_way, posted_as, times_sent}
+use Rattle.pc_desk.specs.Ending.{EndsBy, EndsOnly, HasEnded, IsNotLost, IsSpent, KnowsEvaluation, PostsInCall, PutsInCall, WaitsUnheard, all_waiting}
 use Rattle.pc_desk.specs.OwnLog.{IsOwnLog, LogMeaning}
 use Rattle.pc_desk.specs.Refused.{WasGivenBack}
 use Rattle.pc_desk.specs.Waiting.{EndsUnheard, WentOn}
@@ -176,15 +177,21 @@ module _ {C N : Type 0} {G : Ghosts N CommitWorld} (old taken new : DeskMeaning 
     none-answered : (n : ℕ) → answered_as n old.replies ≡ 0
     none-answered n = ap (answered_as n) none
 
+    knows-on : (k : KnownEntry Event) → Contains old.log.part.known k → Contains now-known k
+    knows-on k there = kept.learnt.more k (subst (λ (t : DeskMeaning C). Contains t.log.part.known k) (sym taken-is) there)
+
     track-then : KeepsTrack then
     track-then = record {
       log = subst (λ (d : DeskMeaning C). IsOwnLog d.log) new-is kept.log;
       counted = track.counted;
       numbers = track.numbers;
       once = track.once;
+      dropped = track.dropped;
+      strays = All-weaker (IsStray old.log) (IsStray then.log) (λ p. stray_on old.log then.log p refl (λ one. one) knows-on) track.dropped track.strays;
       stages = λ n. let s = track.stages n in omega (arith, s, counted n, none-answered n);
       posted = All-nil (Says (known_of old.log.part.own).sent);
       waits = All-nil (IsOneSent (known_of old.log.part.own).sent);
+      aside = track.aside;
       answered = answered-so old.log.part.own old.log.part.id now-known then.log refl refl refl old.posted (answers_in outcomes) pairs track.posted;
       turn = record {
         rising = in-turn old.log.part.own old.log.part.id now-known old.posted (answers_in outcomes) pairs (subst AreRisingMessages (sym wave-is) took.rising);
@@ -213,7 +220,8 @@ module _ {C N : Type 0} {G : Ghosts N CommitWorld} (old taken new : DeskMeaning 
       sends = refl;
       track = track-then;
       way = way-then;
-      more = λ k there. kept.learnt.more k (subst (λ (t : DeskMeaning C). Contains t.log.part.known k) (sym taken-is) there);
+      later = refl;
+      more = knows-on;
       limit = refl;
     }
 
@@ -222,7 +230,7 @@ module _ {C N : Type 0} {G : Ghosts N CommitWorld} (old taken new : DeskMeaning 
 
   -- ---- a range gave some of them back
 
-  module _ (stopped : HasStoppedFor taken new outcomes) where
+  module _ (in_call : PostsInCall old) (stopped : HasStoppedFor taken new outcomes) where
     abbrev know : List (KnownEntry Event)
     know = new.log.part.known
 
@@ -237,10 +245,13 @@ module _ {C N : Type 0} {G : Ghosts N CommitWorld} (old taken new : DeskMeaning 
     abbrev Fate : Delivery N G → Type 0
     Fate d = IsSpent over (as_sent (posted_of d.message)) ⊎ KnowsEvaluation over.log.part d.message.number
 
+    posted-there : (d : Delivery N G) → Contains wave d → Contains old.posted (posted_of d.message)
+    posted-there d there = subst (λ l. Contains l (posted_of d.message)) (sym wave-is) (contains_map (λ (x : Delivery N G). posted_of x.message) wave d there)
+
     waited : (d : Delivery N G) → Contains wave d → WaitsUnheard (known_of old.log.part.own) (posted_of d.message)
     waited d there =
-        All-contains (WaitsUnheard (known_of old.log.part.own)) old.posted (posted_of d.message) (all_wait old track)
-        (subst (λ l. Contains l (posted_of d.message)) (sym wave-is) (contains_map (λ (x : Delivery N G). posted_of x.message) wave d there))
+        All-contains (WaitsUnheard (known_of old.log.part.own)) (all_waiting old) (posted_of d.message) (all_wait old track)
+        (Contains-append_left old.posted old.later (posted_of d.message) (posted-there d there))
 
     spent-by : (d : Delivery N G) (at : ℕ) (last : NoteMeaning Head Event) (message : Message N G) → GoesOut old d → IsFullAt d.message.range old.range_limit d.message (faults.Full at last message) → KnowsOutcome new.log.part (Err (faults.Full at last message))
         → WasGivenBack old.range_limit over.log.part (as_sent (posted_of d.message))
@@ -277,13 +288,16 @@ module _ {C N : Type 0} {G : Ghosts N CommitWorld} (old taken new : DeskMeaning 
 
     others : (x : Sent) → Contains (known_of old.log.part.own).sent x → IsNotLost old x → IsSpent over x ⊎ IsNotLost over x
     others x there (inl heard) = inr (inl heard)
-    others x there (inr (inl waits)) =
-        let w = contains_in_map (λ (d : Delivery N G). posted_of d.message) wave waits.waiting (subst (λ l. Contains l waits.waiting) wave-is waits.there) in
-        let number : w.0.message.number ≡ x.number = ap (λ (p : Posted). p.number) w.2 ∙ waits.is in
-        elim (All-contains Fate wave w.0 all-fates w.1) [
-          | inl spent ↦ inl (subst (IsSpent over) (the-one w.0 w.1 x there number) spent)
-          | inr knows ↦ inr (inr (inr (subst (KnowsEvaluation over.log.part) number knows)))
-        ]
+    others x there (inr (inl waits)) = elim (Contains-append_cases old.posted old.later waits.waiting waits.there) [
+      | inl of_wave ↦
+          let w = contains_in_map (λ (d : Delivery N G). posted_of d.message) wave waits.waiting (subst (λ l. Contains l waits.waiting) wave-is of_wave) in
+          let number : w.0.message.number ≡ x.number = ap (λ (p : Posted). p.number) w.2 ∙ waits.is in
+          elim (All-contains Fate wave w.0 all-fates w.1) [
+            | inl spent ↦ inl (subst (IsSpent over) (the-one w.0 w.1 x there number) spent)
+            | inr knows ↦ inr (inr (inr (subst (KnowsEvaluation over.log.part) number knows)))
+          ]
+      | inr aside ↦ inr (inr (inl (record { waiting = waits.waiting; there = aside; is = waits.is })))
+    ]
     others x there (inr (inr knows)) =
         inr (inr (inr (record { evaluation = knows.evaluation; knows = stopped.learnt.more knows.evaluation (subst (λ (t : DeskMeaning C). Contains t.log.part.known knows.evaluation) (sym taken-is) knows.knows); of_it = knows.of_it })))
 
@@ -319,9 +333,11 @@ module _ {C N : Type 0} {G : Ghosts N CommitWorld} (old taken new : DeskMeaning 
         message = as_sent (posted_of b.delivery.message);
         sent = (waited b.delivery b.within).sent;
         spent = record { refused = b.back; unheard = (waited b.delivery b.within).unheard };
+        in_call = All-contains (λ (p : Posted). PutsInCall (known_of old.log.part.own) p.request) old.posted (posted_of b.delivery.message) in_call (posted-there b.delivery b.within);
         others = all_from_contains (λ (x : Sent). IsSpent over x ⊎ IsNotLost over x) (known_of old.log.part.own).sent
             (λ x there. others x there (All-contains (IsNotLost old) (known_of old.log.part.own).sent x (not_lost old track) there));
-        waits = All-nil (WaitsUnheard (known_of old.log.part.own));
+        waits = all_from_contains (WaitsUnheard (known_of old.log.part.own)) old.later
+            (λ p there. All-contains (WaitsUnheard (known_of old.log.part.own)) (all_waiting old) p (all_wait old track) (Contains-append_right old.posted old.later p there));
         later = All-nil (λ (p : Posted). b.delivery.message.number < p.number);
       });
     }
@@ -339,19 +355,26 @@ module _ {C N : Type 0} {G : Ghosts N CommitWorld} (old taken new : DeskMeaning 
         subst (λ h. HasHalted old over h × EndsBy (λ made. ⊥) old over h) (sym is) (halted-over at b, ended-over at b)
     stops-at faults.NoMemory halt there is = subst (λ h. HasHalted old over h × EndsBy (λ made. ⊥) old over h) (sym is) (memory-over, tt)
 
+    -- the refusal is one of the outcomes
+    is-among : (cause : Halt) (refusal : IsRefusalIn outcomes cause) → Contains outcomes (Err refusal.fault)
+    is-among cause refusal =
+        let rest = Err refusal.fault ∷ refusal.behind in
+        subst (λ os. Contains os (Err refusal.fault)) (sym refusal.whole)
+        (Contains-append_right refusal.before rest (Err refusal.fault) (contains_head (Err refusal.fault) refusal.behind))
+
     pub stops_for : (cause : Halt) → IsRefusalIn outcomes cause → HasHalted old new cause × EndsBy (λ made. ⊥) old new cause
-    stops_for cause refusal = subst (λ (d : DeskMeaning C). HasHalted old d cause × EndsBy (λ made. ⊥) old d cause) (sym new-over) (stops-at refusal.fault cause (subst (λ os. Contains os (Err refusal.fault)) (sym refusal.whole) (Contains-append_right refusal.before (Err refusal.fault ∷ refusal.behind) (Err refusal.fault) (contains_head (Err refusal.fault) refusal.behind))) refusal.is)
+    stops_for cause refusal = subst (λ (d : DeskMeaning C). HasHalted old d cause × EndsBy (λ made. ⊥) old d cause) (sym new-over) (stops-at refusal.fault cause (is-among cause refusal) refusal.is)
 
   -- the list has ended, for want of memory or for a refusal
-  pub wave_halted : (cause halt : Halt) → IsRefusalIn outcomes cause → EndsFor taken new outcomes cause halt → HasHalted old new halt
-  wave_halted cause halt refusal (inl memory) =
+  pub wave_halted : (in_call : PostsInCall old) (cause halt : Halt) → IsRefusalIn outcomes cause → EndsFor taken new outcomes cause halt → HasHalted old new halt
+  wave_halted in_call cause halt refusal (inl memory) =
       subst (HasHalted old new) (sym memory.0)
       (wants_memory old taken new halts.NoMemory refl (ap (λ (d : DeskMeaning C). d.log.head) took.rest) (ap (λ (d : DeskMeaning C). d.log.part.id) took.rest) memory.1)
-  wave_halted cause halt refusal (inr stopped) = subst (HasHalted old new) (sym stopped.0) (stops_for stopped.1 cause refusal).0
+  wave_halted in_call cause halt refusal (inr stopped) = subst (HasHalted old new) (sym stopped.0) (stops_for in_call stopped.1 cause refusal).0
 
-  pub wave_ended : (cause halt : Halt) → IsRefusalIn outcomes cause → EndsFor taken new outcomes cause halt → EndsOnly (λ made. ⊥) old new halt
-  wave_ended cause halt refusal (inl memory) = λ going. subst (EndsBy (λ made. ⊥) old new) (sym memory.0) tt
-  wave_ended cause halt refusal (inr stopped) = λ going. subst (EndsBy (λ made. ⊥) old new) (sym stopped.0) (stops_for stopped.1 cause refusal).1
+  pub wave_ended : (in_call : PostsInCall old) (cause halt : Halt) → IsRefusalIn outcomes cause → EndsFor taken new outcomes cause halt → EndsOnly (λ made. ⊥) old new halt
+  wave_ended in_call cause halt refusal (inl memory) = λ going. subst (EndsBy (λ made. ⊥) old new) (sym memory.0) tt
+  wave_ended in_call cause halt refusal (inr stopped) = λ going. subst (EndsBy (λ made. ⊥) old new) (sym stopped.0) (stops_for in_call stopped.1 cause refusal).1
 
 -- ---- want of memory, after the wave was taken
 

@@ -159,6 +159,43 @@ sent_where_said number (x ∷ xs) r e = by (x.number == number) refl (sent_where
         ap (λ b. b || list_any (λ (m : Sent). m.number == number) xs) is
         ∙ on (sym (ap (λ b. option_map (λ (m : Sent). m.request) (cond b (Some x) (find (λ (m : Sent). m.number == number) xs))) is) ∙ e)
 
+all_there : (xs : List Sent) (m : Sent) → Contains xs m → list_any (λ (x : Sent). x.number == m.number) xs ≡ true
+all_there [] m there = absurd (contains_nil m there)
+all_there (x ∷ xs) m there = elim (contains_cons x xs m there) [
+  | inl here ↦ ap (λ b. b || list_any (λ (x : Sent). x.number == m.number) xs) (eq-eqb x.number m.number (ap (λ (y : Sent). y.number) here))
+  | inr behind ↦ either (x.number == m.number) (list_any (λ (x : Sent). x.number == m.number) xs) (all_there xs m behind)
+]
+  where
+    either : (b c : Bool) → c ≡ true → (b || c) ≡ true
+    either true c is = refl
+    either false c is = is
+
+-- what stands under a number that one message has
+pub said_once : (xs : List Sent) (m : Sent) → Contains xs m → count_by (λ (x : Sent). x.number == m.number) xs ≤ 1 → request_sent m.number xs ≡ Some m.request
+said_once [] m there once = absurd (contains_nil m there)
+said_once (x ∷ xs) m there once = by (x.number == m.number) refl (said_once xs m)
+  where
+    F : Bool → Option Request
+    F b = option_map (λ (x : Sent). x.request) (cond b (Some x) (find (λ (x : Sent). x.number == m.number) xs))
+
+    c : count_by (λ (x : Sent). x.number == m.number) (x ∷ xs) ≡ one_if (x.number == m.number) + count_by (λ (x : Sent). x.number == m.number) xs
+    c = count-cons (λ (x : Sent). x.number == m.number) x xs
+
+    by : (b : Bool) → (x.number == m.number) ≡ b → (Contains xs m → count_by (λ (x : Sent). x.number == m.number) xs ≤ 1 → request_sent m.number xs ≡ Some m.request) → F (x.number == m.number) ≡ Some m.request
+    by true is on =
+        ap F is ∙ elim (contains_cons x xs m there) [
+          | inl here ↦ ap (λ (x : Sent). Some x.request) here
+          | inr later ↦
+              let more = counts_any (λ (x : Sent). x.number == m.number) xs (all_there xs m later) in
+              let o = ap one_if is in
+              let d = c in
+              absurd (omega arith)
+        ]
+    by false is on = ap F is ∙ elim (contains_cons x xs m there) [
+      | inl here ↦ absurd (let e : true ≡ false = sym (eq-eqb x.number m.number (ap (λ (x : Sent). x.number) here)) ∙ is in cc e)
+      | inr later ↦ on later (let o = ap one_if is in let d = c in omega arith)
+    ]
+
 each-map : {A B : Type 0} (f : A → B) (P : B → Type 0) (xs : List A) → Each (λ x. P (f x)) xs → Each P (map f xs)
 each-map f P [] h = tt
 each-map f P (x ∷ xs) h = (h.0, each-map f P xs h.1)

@@ -13,10 +13,10 @@ use Rattle.pc_desk.proofs.Counting.{insert_all, insert_contains, insert_count, l
 use Rattle.pc_desk.proofs.Entering.{log_kept}
 use Rattle.pc_desk.proofs.Going.{kept_below}
 use Rattle.pc_desk.proofs.Making.{added, hear_brings, hear_names_it, known_after_it, may_hear, own_after}
-use Rattle.pc_desk.proofs.Tracking.{answered_on, gives_same, track_delivered, track_done, track_heard, track_sent, unheard_yet, way_delivered, way_heard, way_sent}
+use Rattle.pc_desk.proofs.Tracking.{answered_on, gives_same, stray_on, track_delivered, track_done, track_heard, track_sent, unheard_yet, way_delivered, way_heard, way_sent}
 use Rattle.pc_desk.proofs.Waves.{newest_evaluated, note_behind}
 use Rattle.pc_desk.specs.declared.answered.Answered.{Answered}
-use Rattle.pc_desk.specs.Desk.{DeskMeaning, EndsWithSend, HasDelivered, HasDone, HasHeardFirst, HasKept, HasPosted, HasSentTo, IsAnsweredBy, IsDesk, IsOneSent, IsReadyToGo, KeepsTrack, MayHearNow, Posted, WaitingMessage, answered_as, as_sent, heard_as_number, posted_as, posting, times_sent, uses_by}
+use Rattle.pc_desk.specs.Desk.{DeskMeaning, EndsWithSend, HasDelivered, HasDone, HasHeardFirst, HasKept, HasPosted, HasSentTo, IsAnsweredBy, WasSetAside, IsDesk, IsOneSent, IsReadyToGo, IsStray, KeepsTrack, MayHearNow, Posted, WaitingMessage, answered_as, as_sent, heard_as_number, posted_as, posting, times_sent, uses_by}
 use Rattle.pc_desk.specs.OwnLog.{HasEntered, IsOwnLog, LogMeaning, MayEnter, Took}
 use Rattle.pc_desk.specs.Waiting.{IsBehindAll, IsNewest, WaitInWave}
 use Rattle.pc_desk.specs.Waves.{KeepsWaves, KeepsWavesNext}
@@ -89,8 +89,9 @@ heard-at old after a rest track none first entered =
       posted = refl;
       entered = entered;
       named = hear_names_it old.log a track.log by;
-      track = track_heard old new a track first refl by entered refl none;
-      way = way_heard old new a track first refl by entered;
+      track = track_heard old new a track first refl by entered refl refl none;
+      way = way_heard old new a track first refl by entered refl;
+      later = refl;
       limit = refl;
     }
 
@@ -139,13 +140,17 @@ module _ {C : Type 0} (old new : DeskMeaning C) (rest : List Posted) (m : Posted
   own-is : new.log.part.own ≡ old.log.part.own
   own-is = ap (λ (d : DeskMeaning C). d.log.part.own) kept.kept
 
+  later-is : new.later ≡ old.later
+  later-is = ap (λ (d : DeskMeaning C). d.later) kept.kept
+
   delivered-at : HasDelivered old new
   delivered-at = record {
     own = ap (λ (d : DeskMeaning C). d.log) kept.kept ∙ ap (λ ks. record old.log { part = record old.log.part { known = ks } }) (sym (ap (λ (d : DeskMeaning C). d.log.part.known) kept.kept));
     sends = ap (λ (d : DeskMeaning C). d.sends) kept.kept;
-    track = track_delivered old new m a track posted-is replies-are to later-are own-is range tells.place kept.log (ap (λ (d : DeskMeaning C). d.sends) kept.kept) (ap (λ (d : DeskMeaning C). d.log.part.id) kept.kept) knows-more
+    track = track_delivered old new m a track posted-is replies-are to later-are own-is later-is range tells.place kept.log (ap (λ (d : DeskMeaning C). d.sends) kept.kept) (ap (λ (d : DeskMeaning C). d.log.part.id) kept.kept) knows-more
         (λ x there. subst (λ l. Contains l x) (sym knows-more) there) (subst (λ l. Contains l told_of) (sym knows-more) (Contains-push old.log.part.known told_of)) (ap (λ (d : DeskMeaning C). d.log.part.given) kept.kept) (ap (λ (d : DeskMeaning C). d.log.beside) kept.kept) behind after;
-    way = way_delivered old new m a track posted-is replies-are to later-are own-is;
+    way = way_delivered old new m a track posted-is replies-are to later-are own-is later-is;
+    later = later-is;
     more = λ x there. subst (λ l. Contains l x) (sym knows-more) (Contains-append_left old.log.part.known (told_of ∷ []) x there);
     limit = ap (λ (d : DeskMeaning C). d.range_limit) kept.kept;
   }
@@ -159,7 +164,7 @@ has_delivered v old new rest m a note sender range same track first later whose 
 
 -- nothing was delivered yet
 pub delivers_none : {C : Type 0} (d : DeskMeaning C) → KeepsTrack d → HasDelivered d d
-delivers_none d track = record { own = refl; sends = refl; track = track; way = λ n. refl; more = λ k there. there; limit = refl }
+delivers_none d track = record { own = refl; sends = refl; track = track; way = λ n. refl; later = refl; more = λ k there. there; limit = refl }
 
 -- first this was delivered, then that
 pub delivers_both : {C : Type 0} (a b d : DeskMeaning C) → HasDelivered a b → HasDelivered b d → HasDelivered a d
@@ -168,6 +173,7 @@ delivers_both {C} a b d x y = record {
   sends = y.sends ∙ x.sends;
   track = y.track;
   way = λ n. y.way n ∙ x.way n;
+  later = y.later ∙ x.later;
   more = λ k there. y.more k (x.more k there);
   limit = y.limit ∙ x.limit;
 }
@@ -187,12 +193,19 @@ each-weaker P Q f [] h = tt
 each-weaker P Q f (x ∷ xs) h = (f x h.0, each-weaker P Q f xs h.1)
 
 module _ {C Y : Type 0} (splits : List (List ℕ)) (log : LogMeaning C) (g : ℕ × Y → WaitingMessage) (n : ℕ × Y → ℕ) (numbered : (e : ℕ × Y) → (g e).posted.number ≡ n e) (keyed : (e : ℕ × Y) → (g e).key ≡ e.0) (es : List (ℕ × Y)) (k : ℕ) (desk : IsDesk splits log (map g es)) where
+  -- each stands under its number
+  pub each_under : Each (λ e. e.0 ≡ n e) es
+  each_under =
+      each-weaker (λ e. IsReadyToGo log.part.id log.head.splits (g e)) (λ e. e.0 ≡ n e) (λ e r. sym (keyed e) ∙ (r.numbered ∙ numbered e)) es
+      (each-of g (IsReadyToGo log.part.id log.head.splits) es (recursion_from_All (IsReadyToGo log.part.id log.head.splits) (map g es) desk.ready))
+
   -- no message stands under a number that none has
   pub none_under : count_by (λ e. n e == k) es ≡ 0 → lookup (is_at (nat_cmp k)) es ≡ None
-  none_under none =
-      lookup_none n k es
-      (each-weaker (λ e. IsReadyToGo log.part.id log.head.splits (g e)) (λ e. e.0 ≡ n e) (λ e r. sym (keyed e) ∙ (r.numbered ∙ numbered e)) es
-      (each-of g (IsReadyToGo log.part.id log.head.splits) es (recursion_from_All (IsReadyToGo log.part.id log.head.splits) (map g es) desk.ready))) none
+  none_under none = lookup_none n k es each_under none
+
+-- how many of what waits have the number
+pub posted_count : {Y : Type 0} (f : ℕ × Y → Posted) (es : List (ℕ × Y)) (k : ℕ) → posted_as k (map f es) ≡ count_by (λ e. (f e).number == k) es
+posted_count f es k = count-map (λ (m : Posted). m.number == k) f es
 
 pub posted_none : {Y : Type 0} (f : ℕ × Y → Posted) (es : List (ℕ × Y)) (k : ℕ) → posted_as k (map f es) ≡ 0 → count_by (λ e. (f e).number == k) es ≡ 0
 posted_none f es k none = sym (count-map (λ (m : Posted). m.number == k) f es) ∙ none
@@ -247,6 +260,10 @@ desk_posted splits log after given g number w es new r same desk none ok err one
       few = desk.few;
       ready = all-after g (IsReadyToGo log.part.id log.head.splits) number w es new r none ok err desk.ready one;
     })
+
+-- what waits may go still once a use of an entry was given
+pub desk_noted : {C : Type 0} (splits : List (List ℕ)) (log after : LogMeaning C) (given : List ℕ) (ws : List WaitingMessage) → after ≡ record log { part = record log.part { given = given } } → IsDesk splits log ws → IsDesk splits after ws
+desk_noted splits log after given ws same desk = subst (λ l. IsDesk splits l ws) (sym same) (record { same = desk.same; rising = desk.rising; few = desk.few; ready = desk.ready })
 
 -- the note of the entry that was made last has one use, over a quiet wire
 pub one_use : {C : Type 0} (old l : LogMeaning C) (number range uses : ℕ) (request : Request) (verdict : Verdict) (note : List (KnownEntry Event)) → l ≡ old → EndsWithSend old number range request → uses ≡ uses_by verdict → verdict ≡ verdicts.Deliver
@@ -317,6 +334,7 @@ has_sent {C} old mid new number range request track none goes next entered rest 
     let were : mid.posted ≡ old.posted = ap (λ d. d.posted) rest in
     let counts : (n : ℕ) → posted_as n new.posted ≡ posted_as n old.posted + one_if (number == n) = (λ n. posted.counts n ∙ ap (λ l. posted_as n l + one_if (number == n)) were) in
     let replies : new.replies ≡ old.replies = ap (λ d. d.replies) posted.rest ∙ ap (λ d. d.replies) rest in
+    let later : new.later ≡ old.later = ap (λ d. d.later) posted.rest ∙ ap (λ d. d.later) rest in
     record {
       sent = record {
         range = range;
@@ -325,10 +343,11 @@ has_sent {C} old mid new number range request track none goes next entered rest 
         sent = mid.log;
         entered = entered;
         noted = posted.log;
-        track = track_sent old new mid.log number range 1 request track next entered id own known counts replies log (ap (λ d. d.sends) posted.rest ∙ ap (λ d. d.sends) rest)
+        track = track_sent old new mid.log number range 1 request track next entered id own known counts replies later log (ap (λ d. d.sends) posted.rest ∙ ap (λ d. d.sends) rest)
             (λ x there. elim (posted.all x there) [ inl before ↦ inl (subst (λ l. Contains l x) were before) | inr now ↦ inr now ]) (ap (λ l. l.part) posted.log) none (ap (λ (l : LogMeaning C). l.beside) posted.log ∙ ap (λ (l : LogMeaning C). l.beside) entered.stored);
-        way = way_sent old new mid.log number range 1 request track next entered id own known counts replies;
+        way = way_sent old new mid.log number range 1 request track next entered id own known counts replies later;
         replies = replies;
+        later = later;
         limit = ap (λ d. d.range_limit) posted.rest ∙ ap (λ d. d.range_limit) rest;
       };
       there = refl;
@@ -365,7 +384,12 @@ took-at {C} old after note took track =
       counted = track.counted ∙ ap (λ (k : Known). length k.sent) (sym same);
       numbers = subst (λ (k : Known). All (λ x. x.number ≤ length k.sent) k.sent) (sym same) track.numbers;
       once = λ n. subst (λ (k : Known). times_sent n k ≤ 1) (sym same) (track.once n);
-      stages = λ n. subst (λ (k : Known). posted_as n old.posted + answered_as n old.replies + heard_as_number n k ≡ times_sent n k) (sym same) (track.stages n);
+      dropped = track.dropped;
+      strays = All-weaker (IsStray old.log) (IsStray after)
+          (λ p. stray_on old.log after p (ap (λ (l : LogMeaning C). l.part.id) took.told_this) (λ one. subst (λ (k : Known). IsOneSent k.sent p) (sym same) one)
+          (λ x there. subst (λ ks. Contains ks x) (sym (ap (λ (l : LogMeaning C). l.part.known) took.told_this)) (Contains-append_left old.log.part.known note x there))) track.dropped track.strays;
+      stages = λ n. subst (λ (k : Known). posted_as n old.posted + (posted_as n old.later + posted_as n track.dropped) + answered_as n old.replies + heard_as_number n k ≡ times_sent n k) (sym same) (track.stages n);
+      aside = subst (λ (k : Known). All (WasSetAside k.sent) old.later) (sym same) track.aside;
       posted = subst (λ (k : Known). All (λ m. request_sent m.number k.sent ≡ Some m.request) old.posted) (sym same) track.posted;
       waits = subst (λ (k : Known). All (IsOneSent k.sent) old.posted) (sym same) track.waits;
       answered = All-weaker (IsAnsweredBy old.log) (IsAnsweredBy after)
@@ -386,16 +410,17 @@ has-entries : (own : List (Pair Event)) (m : Sent) → Contains (known_of own).s
 has-entries [] m there = absurd (contains_nil m there)
 has-entries (p ∷ own) m there = omega arith
 
--- where a message waits, the actor has an entry
-pub some_entry : {C : Type 0} (d : DeskMeaning C) → KeepsTrack d → 1 ≤ length d.posted → 1 ≤ length d.log.part.own
-some_entry d track some' = by d.posted refl
+-- where a message waits, or was set aside, the actor has an entry
+pub some_entry : {C : Type 0} (d : DeskMeaning C) → KeepsTrack d → 1 ≤ length d.posted + length d.later → 1 ≤ length d.log.part.own
+some_entry d track some' = by d.posted refl d.later refl
   where
-    by : (posted : List Posted) → d.posted ≡ posted → 1 ≤ length d.log.part.own
-    by [] is = (let n : length d.posted ≡ 0 = ap length is in absurd (omega arith))
-    by (m ∷ posted) is = has-entries d.log.part.own (as_sent m) (All-head (IsOneSent (known_of d.log.part.own).sent) m posted (subst (All (IsOneSent (known_of d.log.part.own).sent)) is track.waits))
+    by : (posted : List Posted) → d.posted ≡ posted → (later : List Posted) → d.later ≡ later → 1 ≤ length d.log.part.own
+    by [] is [] none = (let n : length d.posted ≡ 0 = ap length is in let l : length d.later ≡ 0 = ap length none in absurd (omega arith))
+    by [] is (m ∷ later) aside = has-entries d.log.part.own (as_sent m) (All-head (WasSetAside (known_of d.log.part.own).sent) m later (subst (All (WasSetAside (known_of d.log.part.own).sent)) aside track.aside)).one
+    by (m ∷ posted) is later aside = has-entries d.log.part.own (as_sent m) (All-head (IsOneSent (known_of d.log.part.own).sent) m posted (subst (All (IsOneSent (known_of d.log.part.own).sent)) is track.waits))
 
 -- a note of its last entry
-pub last_behind : {C : Type 0} (v old : DeskMeaning C) (note : List (KnownEntry Event)) → v ≡ old → KeepsTrack old → 1 ≤ length old.posted → note ≡ noted (length v.log.part.own - 1) 0 v.log.part → IsBehindAll old.log.part.own note
+pub last_behind : {C : Type 0} (v old : DeskMeaning C) (note : List (KnownEntry Event)) → v ≡ old → KeepsTrack old → 1 ≤ length old.posted + length old.later → note ≡ noted (length v.log.part.own - 1) 0 v.log.part → IsBehindAll old.log.part.own note
 last_behind {C} v old note same track some' is =
     subst (IsBehindAll old.log.part.own) (sym (is ∙ ap (λ (d : DeskMeaning C). noted (length d.log.part.own - 1) 0 d.log.part) same))
     (note_behind (protocol old.log.head) old.log.part track.log.stands 0 (some_entry old track some'))

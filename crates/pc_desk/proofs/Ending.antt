@@ -1,22 +1,24 @@
 -- An actor's list that has ended, and what became of its messages.
-use Rattle.std.proofs.Common.{◌≡◌, ℕ, ◌<◌, ◌≤◌, ◌⊎◌, ◌==◌, ◌||◌, Bool, true, false, All, Contains, IfErr, inl, inr, List, [], ◌∷◌, ◌++◌, length, Result, Ok, Err, refl, sym, ap, subst, ◌∙◌, arith}
+use Rattle.std.proofs.Common.{◌≡◌, ℕ, ◌+◌, ◌<◌, ◌≤◌, ◌⊎◌, ◌==◌, ◌||◌, Bool, true, false, All, Contains, IfErr, inl, inr, List, [], ◌∷◌, ◌++◌, length, count_by, Result, Ok, Err, refl, sym, ap, subst, ◌∙◌, arith}
 use Rattle.std.proofs.lemmas.Bool.{eq-eqb, eqb-true}
 use Rattle.std.proofs.lemmas.List.{append_assoc}
-use Rattle.std.proofs.lemmas.List.Elements.{All-contains, All-head, All-tail, Contains-append_left}
+use Rattle.std.proofs.lemmas.List.Elements.{All-append, All-contains, All-nil, All-weaker, Contains-append_left}
 use Rattle.std.specs.List.{list_any}
 use Rattle.pc_desk.proofs.Counting.{counted_once, counts_any, none_counted, uncounted}
 use Rattle.pc_desk.proofs.Refusing.{was_given_back}
+use Rattle.pc_desk.proofs.Turns.{counted_has}
 use Rattle.pc_desk.specs.declared.answered.Answered.{Answered}
 use Rattle.pc_desk.specs.declared.halt.Halt.{Halt}
 use Rattle.pc_desk.specs.declared.halt.Halt.TheVariants as halts
 use Rattle.pc_base.specs.declared.actor.ActorId.TheVariants as actors
-use Rattle.pc_desk.specs.Desk.{DeskMeaning, HasHalted, IsAnsweredBy, HasTakenFirst, KnowsFull, IsOneSent, KeepsTrack, Posted, as_sent, posted_as, posting, times_sent}
-use Rattle.pc_desk.specs.Ending.{EndsBy, EndsOnly, HasEnded, HasMadeLast, IsNotLost, IsSpent, WaitsUnheard}
+use Rattle.pc_desk.specs.Desk.{DeskMeaning, HasHalted, HasTaken, HasTakenFirst, IsAnsweredBy, WasSetAside, IsOneSent, IsStray, KeepsTrack, KnowsFull, Posted, as_sent, posted_as, posting, times_sent}
+use Rattle.pc_desk.specs.Ending.{EndsBy, EndsOnly, HasEnded, HasMadeLast, IsNotLost, IsSpent, PutsInCall, WaitsUnheard, all_waiting}
 use Rattle.pc_desk.specs.OwnLog.{HasStopped, IsHalt, LogMeaning}
 use Rattle.pc_desk.specs.Refused.{WasGivenBack}
 use Rattle.pc_history.specs.declared.named.Named.{Ghosts}
 use Rattle.pc_history.specs.declared.view.Known.{Known as KnownEntry}
 use Rattle.pc_history.specs.Parts.{known_entry, told, uses_left}
+use Rattle.pc_lists.proofs.Counts.{count-append}
 use Rattle.pc_lists.proofs.Lists.{all_from_contains, contains_head, contains_nil, contains_cons, contains_tail}
 use Rattle.pc_proto.specs.declared.event.Event.{Event}
 use Rattle.pc_range.specs.declared.commit_world.CommitWorld.{CommitWorld}
@@ -41,7 +43,7 @@ or_right : (a b : Bool) → b ≡ true → (a || b) ≡ true
 or_right true b e = refl
 or_right false b e = e
 
-any_there : {X : Type 0} (test : X → Bool) (xs : List X) (x : X) → test x ≡ true → Contains xs x → list_any test xs ≡ true
+pub any_there : {X : Type 0} (test : X → Bool) (xs : List X) (x : X) → test x ≡ true → Contains xs x → list_any test xs ≡ true
 any_there test [] x is there = absurd (contains_nil x there)
 any_there test (y ∷ ys) x is there = elim (contains_cons y ys x there) [
   | inl here ↦ ap (λ b. b || list_any test ys) (ap test here ∙ is)
@@ -52,16 +54,20 @@ module _ {C : Type 0} (d : DeskMeaning C) (track : KeepsTrack d) where
   abbrev k : Known
   k = known_of d.log.part.own
 
+  -- of what waits, or was set aside
+  waiting-count : (n : ℕ) → count_by (λ (p : Posted). p.number == n) (all_waiting d) ≡ posted_as n d.posted + posted_as n d.later
+  waiting-count n = count-append (λ (p : Posted). p.number == n) d.posted d.later
+
   one-not-lost : (m : Sent) → Contains k.sent m → IsNotLost d m
-  one-not-lost m there = by (list_any (λ (h : Heard). h.number == m.number) k.heard) (list_any (λ (p : Posted). p.number == m.number) d.posted) (list_any (λ (a : Answered). a.number == m.number) d.replies) refl refl refl
+  one-not-lost m there = by (list_any (λ (h : Heard). h.number == m.number) k.heard) (list_any (λ (p : Posted). p.number == m.number) (all_waiting d)) (list_any (λ (a : Answered). a.number == m.number) d.replies) refl refl refl
     where
       some : 1 ≤ times_sent m.number k
       some = counts_any (λ (x : Sent). x.number == m.number) k.sent (any_there (λ (x : Sent). x.number == m.number) k.sent m (eq-eqb m.number m.number refl) there)
 
-      by : (heard posted answered : Bool) → list_any (λ (h : Heard). h.number == m.number) k.heard ≡ heard → list_any (λ (p : Posted). p.number == m.number) d.posted ≡ posted → list_any (λ (a : Answered). a.number == m.number) d.replies ≡ answered → IsNotLost d m
-      by true posted answered h p a = inl h
+      by : (heard waiting answered : Bool) → list_any (λ (h : Heard). h.number == m.number) k.heard ≡ heard → list_any (λ (p : Posted). p.number == m.number) (all_waiting d) ≡ waiting → list_any (λ (a : Answered). a.number == m.number) d.replies ≡ answered → IsNotLost d m
+      by true waiting answered h p a = inl h
       by false true answered h p a =
-          let w = any_gives (λ (p : Posted). p.number == m.number) d.posted p in
+          let w = any_gives (λ (p : Posted). p.number == m.number) (all_waiting d) p in
           inr (inl (record { waiting = w.0; there = w.1; is = eqb-true w.0.number m.number w.2 }))
       by false false true h p a =
           let w = any_gives (λ (a : Answered). a.number == m.number) d.replies a in
@@ -70,25 +76,32 @@ module _ {C : Type 0} (d : DeskMeaning C) (track : KeepsTrack d) where
       by false false false h p a =
           let stages = track.stages m.number in
           let x = uncounted (λ (h : Heard). h.number == m.number) k.heard h in
-          let y = uncounted (λ (p : Posted). p.number == m.number) d.posted p in
+          let y = sym (waiting-count m.number) ∙ uncounted (λ (p : Posted). p.number == m.number) (all_waiting d) p in
           let z = uncounted (λ (a : Answered). a.number == m.number) d.replies a in
           let s = some in
-          absurd (omega arith)
+          let one : 1 ≤ posted_as m.number track.dropped = omega arith in
+          let w = counted_has (λ (p : Posted). p.number) m.number track.dropped one in
+          let of = All-contains (IsStray d.log) track.dropped w.0 track.strays w.1 in
+          inr (inr (record { evaluation = known_entry (evaluation of.step w.0.range d.log.part.id w.0.number of.reply) of.place 0; knows = of.knows; of_it = (refl, w.2) }))
 
   -- no message is lost
   pub not_lost : All (IsNotLost d) k.sent
   not_lost = all_from_contains (IsNotLost d) k.sent one-not-lost
 
-  -- what waits was not heard
-  waits-unheard : (m : Posted) → Contains d.posted m → is_heard k.heard (as_sent m) ≡ false
+  -- what waits, or was set aside, was not heard
+  waits-unheard : (m : Posted) → Contains (all_waiting d) m → is_heard k.heard (as_sent m) ≡ false
   waits-unheard m there =
-      let waits : 1 ≤ posted_as m.number d.posted = counts_any (λ (p : Posted). p.number == m.number) d.posted (any_there (λ (p : Posted). p.number == m.number) d.posted m (eq-eqb m.number m.number refl) there) in
+      let waits : 1 ≤ count_by (λ (p : Posted). p.number == m.number) (all_waiting d) = counts_any (λ (p : Posted). p.number == m.number) (all_waiting d) (any_there (λ (p : Posted). p.number == m.number) (all_waiting d) m (eq-eqb m.number m.number refl) there) in
+      let both = waiting-count m.number in
       let stages = track.stages m.number in
       let once = track.once m.number in
       none_counted (λ (h : Heard). h.number == m.number) k.heard (omega arith)
 
-  pub all_wait : All (WaitsUnheard k) d.posted
-  all_wait = all_from_contains (WaitsUnheard k) d.posted (λ m there. record { sent = All-contains (IsOneSent k.sent) d.posted m track.waits there; unheard = waits-unheard m there })
+  all_sent : All (IsOneSent k.sent) (all_waiting d)
+  all_sent = All-append (IsOneSent k.sent) d.posted d.later track.waits (All-weaker (WasSetAside k.sent) (IsOneSent k.sent) (λ m aside. aside.one) d.later track.aside)
+
+  pub all_wait : All (WaitsUnheard k) (all_waiting d)
+  all_wait = all_from_contains (WaitsUnheard k) (all_waiting d) (λ m there. record { sent = All-contains (IsOneSent k.sent) (all_waiting d) m all_sent there; unheard = waits-unheard m there })
 
 -- ---- a list that is full
 
@@ -117,17 +130,46 @@ ended_if {C} P v old after (Err halt) same track last h =
 
 -- ---- a range that is full
 
-module _ {C : Type 0} (old : DeskMeaning C) (m : Posted) (rest : List Posted) (notes : List (KnownEntry Event)) (track : KeepsTrack old) (first : old.posted ≡ m ∷ rest) (later : All (λ (p : Posted). m.number < p.number) rest) (refused : WasGivenBack old.range_limit (told notes old.log.part) (as_sent m)) where
-  all-waited : All (WaitsUnheard (known_of old.log.part.own)) (m ∷ rest)
-  all-waited = subst (All (WaitsUnheard (known_of old.log.part.own))) first (all_wait old track)
+-- the first of those that wait was taken
+pub taken_of_first : {C : Type 0} (old new : DeskMeaning C) (m : Posted) → HasTakenFirst old new m → HasTaken old new m
+taken_of_first {C} old new m taken =
+    let whole : old.posted ++ old.later ≡ m ∷ (new.posted ++ old.later) = ap (λ ps. ps ++ old.later) taken.first in
+    let same : new.posted ++ new.later ≡ new.posted ++ old.later = ap (λ (d : DeskMeaning C). new.posted ++ d.later) taken.rest in
+    record {
+      there = subst (λ ps. Contains ps m) (sym whole) (contains_head m (new.posted ++ old.later));
+      others = λ p there. elim (contains_cons m (new.posted ++ old.later) p (subst (λ ps. Contains ps p) whole there)) [ inl here ↦ inl here | inr behind ↦ inr (subst (λ ps. Contains ps p) (sym same) behind) ];
+      left = λ p there. subst (λ ps. Contains ps p) (sym whole) (contains_tail m (new.posted ++ old.later) p (subst (λ ps. Contains ps p) same there));
+      rest = taken.rest ∙ ap (λ ls. record old { posted = new.posted; later = ls }) (sym (ap (λ (d : DeskMeaning C). d.later) taken.rest));
+      later = taken.later;
+    }
 
+-- the first of those that were set aside was taken, where none waits
+taken_of_aside : {C : Type 0} (old new : DeskMeaning C) (m : Posted) → old.posted ≡ [] → old.later ≡ m ∷ new.later → new ≡ record old { later = new.later } → HasTaken old new m
+taken_of_aside {C} old new m none first rest =
+    let posted : new.posted ≡ [] = ap (λ (d : DeskMeaning C). d.posted) rest ∙ none in
+    let whole : old.posted ++ old.later ≡ m ∷ new.later = ap (λ ps. ps ++ old.later) none ∙ first in
+    let same : new.posted ++ new.later ≡ new.later = ap (λ ps. ps ++ new.later) posted in
+    record {
+      there = subst (λ ps. Contains ps m) (sym whole) (contains_head m new.later);
+      others = λ p there. elim (contains_cons m new.later p (subst (λ ps. Contains ps p) whole there)) [ inl here ↦ inl here | inr behind ↦ inr (subst (λ ps. Contains ps p) (sym same) behind) ];
+      left = λ p there. subst (λ ps. Contains ps p) (sym whole) (contains_tail m new.later p (subst (λ ps. Contains ps p) same there));
+      rest = rest ∙ ap (λ ps. record old { posted = ps; later = new.later }) (sym (ap (λ (d : DeskMeaning C). d.posted) rest));
+      later = subst (All (λ (p : Posted). m.number < p.number)) (sym posted) (All-nil (λ (p : Posted). m.number < p.number));
+    }
+
+-- as the parts of the step say it
+pub aside_taken : {C : Type 0} (v old : DeskMeaning C) (rest : List Posted) (m : Posted) → v ≡ old → old.posted ≡ [] → v.later ≡ m ∷ rest → HasTaken old (record v { later = rest }) m
+aside_taken {C} v old rest m same none first =
+    subst (λ (d : DeskMeaning C). d.later ≡ m ∷ rest → HasTaken old (record d { later = rest }) m) (sym same) (λ f. taken_of_aside old (record old { later = rest }) m none f refl) first
+
+module _ {C : Type 0} (old : DeskMeaning C) (m : Posted) (posted aside : List Posted) (notes : List (KnownEntry Event)) (track : KeepsTrack old) (taken : HasTaken old (record old { posted = posted; later = aside }) m) (refused : WasGivenBack old.range_limit (told notes old.log.part) (as_sent m)) (inside : PutsInCall (known_of old.log.part.own) m.request) where
   -- the message that its range refused
   it-waited : WaitsUnheard (known_of old.log.part.own) m
-  it-waited = All-head (WaitsUnheard (known_of old.log.part.own)) m rest all-waited
+  it-waited = All-contains (WaitsUnheard (known_of old.log.part.own)) (all_waiting old) m (all_wait old track) taken.there
 
   -- The desk that has stopped.
   abbrev stopped : DeskMeaning C
-  stopped = record old { posted = rest; log = record old.log { part = told notes old.log.part; stopped = true } }
+  stopped = record old { posted = posted; later = aside; log = record old.log { part = told notes old.log.part; stopped = true } }
 
   -- what was sent under its number is it
   the-one : (x : Sent) → Contains (known_of old.log.part.own).sent x → m.number ≡ x.number → as_sent m ≡ x
@@ -139,7 +181,7 @@ module _ {C : Type 0} (old : DeskMeaning C) (m : Posted) (rest : List Posted) (n
 
   not_lost_now : (x : Sent) → Contains (known_of old.log.part.own).sent x → IsNotLost old x → IsSpent stopped x ⊎ IsNotLost stopped x
   not_lost_now x there (inl heard) = inr (inl heard)
-  not_lost_now x there (inr (inl waits)) = elim (contains_cons m rest waits.waiting (subst (λ l. Contains l waits.waiting) first waits.there)) [
+  not_lost_now x there (inr (inl waits)) = elim (taken.others waits.waiting waits.there) [
     | inl here ↦ inl (subst (IsSpent stopped) (the-one x there (ap (λ (p : Posted). p.number) here ∙ waits.is)) it-is-spent)
     | inr behind ↦ inr (inr (inl (record { waiting = waits.waiting; there = behind; is = waits.is })))
   ]
@@ -154,19 +196,20 @@ module _ {C : Type 0} (old : DeskMeaning C) (m : Posted) (rest : List Posted) (n
       message = as_sent m;
       sent = it-waited.sent;
       spent = it-is-spent;
+      in_call = inside;
       others = all_from_contains (λ (x : Sent). IsSpent stopped x ⊎ IsNotLost stopped x) (known_of old.log.part.own).sent
           (λ x there. not_lost_now x there (All-contains (IsNotLost old) (known_of old.log.part.own).sent x (not_lost old track) there));
-      waits = All-tail (WaitsUnheard (known_of old.log.part.own)) m rest all-waited;
-      later = later;
+      waits = all_from_contains (WaitsUnheard (known_of old.log.part.own)) (all_waiting stopped) (λ p there. All-contains (WaitsUnheard (known_of old.log.part.own)) (all_waiting old) p (all_wait old track) (taken.left p there));
+      later = taken.later;
     });
   }
 
 -- the desk from which the message was taken
-ended-at_range : {C : Type 0} (d old : DeskMeaning C) (m : Posted) (notes : List (KnownEntry Event)) → KeepsTrack old → HasTakenFirst old d m → WasGivenBack d.range_limit (told notes d.log.part) (as_sent m)
+ended-at_range : {C : Type 0} (d old : DeskMeaning C) (m : Posted) (notes : List (KnownEntry Event)) → KeepsTrack old → HasTaken old d m → WasGivenBack d.range_limit (told notes d.log.part) (as_sent m) → PutsInCall (known_of old.log.part.own) m.request
     → HasEnded old (record d { log = record d.log { part = told notes d.log.part; stopped = true } })
-ended-at_range {C} d old m notes track taken refused =
+ended-at_range {C} d old m notes track taken refused inside =
     subst (λ (x : DeskMeaning C). WasGivenBack x.range_limit (told notes x.log.part) (as_sent m) → HasEnded old (record x { log = record x.log { part = told notes x.log.part; stopped = true } })) (sym taken.rest)
-    (λ r. ended_full old m d.posted notes track taken.first taken.later r) refused
+    (λ r. ended_full old m d.posted d.later notes track (subst (λ (x : DeskMeaning C). HasTaken old x m) taken.rest taken) r inside) refused
 
 -- The desk took what the range gave, and then the use of its message, and stopped.
 abbrev HasItBack : {C N : Type 0} {G : Ghosts N CommitWorld} → DeskMeaning C → List (KnownEntry Event) → Message N G → DeskMeaning C
@@ -186,12 +229,12 @@ halted_full {C} d after m message range last is some at full whose same =
     record { stopped = refl; head = refl; id = refl; cause = inr (m.range, ap actors.Range at, knows) }
 
 -- one message was given back, and the list has ended
-pub ended_refused : {C N : Type 0} {G : Ghosts N CommitWorld} (d after old : DeskMeaning C) (m : Posted) (message : Message N G) (last : List (KnownEntry Event)) → after ≡ HasItBack d last message → KeepsTrack old → HasTakenFirst old d m → 1 ≤ m.uses → IsFullNote m.range d.range_limit last
-    → message.sender ≡ d.log.part.id → posting message.number message.range message.request (uses_left message.note.known) ≡ m → HasEnded old after
-ended_refused {C} d after old m message last is track taken some full whose same =
+pub ended_refused : {C N : Type 0} {G : Ghosts N CommitWorld} (d after old : DeskMeaning C) (m : Posted) (message : Message N G) (last : List (KnownEntry Event)) → after ≡ HasItBack d last message → KeepsTrack old → HasTaken old d m → 1 ≤ m.uses → IsFullNote m.range d.range_limit last
+    → message.sender ≡ d.log.part.id → posting message.number message.range message.request (uses_left message.note.known) ≡ m → PutsInCall (known_of old.log.part.own) m.request → HasEnded old after
+ended_refused {C} d after old m message last is track taken some full whose same inside =
     let notes = last ++ message.note.known in
     subst (HasEnded old) (sym (is ∙ ap (λ ks. record d { log = record d.log { part = record d.log.part { known = ks }; stopped = true } }) (taken-both d.log.part.known last message.note.known)))
-    (ended-at_range d old m notes track taken (was_given_back d.range_limit (told notes d.log.part) m message last d.log.part.known refl full whose same some))
+    (ended-at_range d old m notes track taken (was_given_back d.range_limit (told notes d.log.part) m message last d.log.part.known refl full whose same some) inside)
 
 -- first messages were delivered, then the list ended
 pub ended_later : {C : Type 0} (old mid new : DeskMeaning C) (halt : Halt) → mid.log.stopped ≡ old.log.stopped → ((k : KnownEntry Event) → Contains old.log.part.known k → Contains mid.log.part.known k)

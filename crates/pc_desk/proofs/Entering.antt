@@ -1,5 +1,5 @@
 -- What one more entry of its own makes of an actor's list.
-use Rattle.std.proofs.Common.{◌≡◌, ℕ, ◌+◌, ◌<◌, ◌≤◌, ◌^◌, Bool, false, ◌==◌, All, List, [], ◌∷◌, ◌++◌, length, Option, None, Some, IfSome, refl, sym, ap, subst, ◌∙◌, arith, length-append}
+use Rattle.std.proofs.Common.{◌≡◌, ℕ, ◌+◌, ◌<◌, ◌≤◌, ◌^◌, Bool, false, true, ◌==◌, All, List, [], ◌∷◌, ◌++◌, length, Option, None, Some, IfSome, refl, sym, ap, subst, ◌∙◌, arith, length-append}
 use Rattle.std.proofs.lemmas.Bool.Decides.{nat_tests}
 use Rattle.std.proofs.lemmas.List.{append-nil, append_assoc}
 use Rattle.std.proofs.lemmas.List.Elements.{All-nil, All-push}
@@ -10,6 +10,8 @@ use Rattle.pc_desk.specs.Asks.{ReadsClock, asks_in, is_ask}
 use Rattle.pc_desk.specs.Keeping.{EachAfter, KeepsAs, KeepsEach, KeepsNext, ReadsEach}
 use Rattle.pc_desk.specs.OwnLog.{IsNoRange, IsOwnLog, LogMeaning, is_last}
 use Rattle.pc_desk.specs.Waves.{KeepsWavesEach, KeepsWavesNext}
+use Rattle.pc_follows.specs.PipelinedRounds.{MakesRounds}
+use Rattle.pc_follows.specs.Proving.{HearsNothingBehind, WritesLast}
 use Rattle.pc_history.specs.declared.pair.Pair.{Pair}
 use Rattle.pc_history.specs.declared.view.Part.{Part}
 use Rattle.pc_history.specs.declared.view.Known.{Known as KnownEntry}
@@ -21,7 +23,7 @@ use Rattle.pc_lists.proofs.Lists.{contains_nil}
 use Rattle.pc_proto.specs.declared.call.Call.{Call}
 use Rattle.pc_proto.specs.declared.event.Event.{Event}
 use Rattle.pc_proto.specs.declared.event.Event.TheVariants as events
-use Rattle.pc_world.specs.Known.{known_of}
+use Rattle.pc_world.specs.Known.{Known, known_of}
 use Rattle.pc_world.specs.Local.{Head, IsActorOf, IsLocal, MayDo}
 use Rattle.pc_world.specs.Run.{protocol}
 
@@ -40,23 +42,42 @@ local_does head (actors.Session number) own event named client there may = recor
 local_does head (actors.Recoverer number) own event named client there may = record { there = there; next = may }
 local_does head (actors.Range range) own event named client there may = absurd client
 
+-- a call that is asked is no message behind its own write, and no reply
+asks_last : (pipelining : Bool) (k : Known) (call : Call) (reading : ℕ) → WritesLast pipelining k (events.Ask call reading)
+asks_last true k call reading = tt
+asks_last false k call reading = tt
+
+hears_none : (pipelining : Bool) (k : Known) → HearsNothingBehind pipelining k None
+hears_none true k = tt
+hears_none false k = tt
+
+asks_beside : (pipelining : Bool) (k : Known) (call : Call) (reading : ℕ) → MakesRounds pipelining k (events.Ask call reading)
+asks_beside true k call reading = tt
+asks_beside false k call reading = tt
+
 -- a call that is asked keeps what is asked of it
 pub ask_keeps : (id : ActorId) (splits : List (List ℕ)) (pipelining : Bool) (own : List (Pair Event)) (call : Call) (reading : ℕ) → KeepsAs id splits pipelining own (events.Ask call reading) None
 ask_keeps (actors.Session number) splits pipelining own call reading = record {
   wire = tt;
   early_tell = tt;
-  early_proof = λ asked staged. tt;
+  early_proof = tt;
   written = tt;
   puts = tt;
+  proving = tt;
+  proved = tt;
+  last = asks_last pipelining (known_of own) call reading;
+  behind = hears_none pipelining (known_of own);
+  stages = tt;
   resends = tt;
   calls = tt;
   beats = tt;
+  last_beats = tt;
   finishes = tt;
   aborts = tt;
   rolled_back = tt;
   writes = tt;
   refreshes = tt;
-  rounds = tt;
+  rounds = asks_beside pipelining (known_of own) call reading;
   eighth = tt;
   waves = tt;
   pieces = tt;

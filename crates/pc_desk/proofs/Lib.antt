@@ -1,6 +1,7 @@
 pub mod Counting
 pub mod Entering
 pub mod Making
+pub mod Moving
 pub mod Turns
 pub mod Waves
 pub mod Tracking
@@ -15,3 +16,5 @@ pub mod Ending
 pub mod Stopping
 pub mod WaveSteps
 pub mod Besides
+pub mod Strays
+pub mod InCall

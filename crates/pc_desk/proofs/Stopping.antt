@@ -8,7 +8,7 @@ use Rattle.pc_desk.proofs.Entering.{log_kept}
 use Rattle.pc_desk.specs.declared.answered.Answered.{Answered}
 use Rattle.pc_desk.specs.declared.halt.Halt.{Halt}
 use Rattle.pc_desk.specs.declared.halt.Halt.TheVariants as halts
-use Rattle.pc_desk.specs.Desk.{DeskMeaning, EndsWithSend, HasHalted, HasPosted, IsAnsweredBy, KeepsTrack}
+use Rattle.pc_desk.specs.Desk.{DeskMeaning, EndsWithSend, HasHalted, HasPosted, IsAnsweredBy, IsStray, KeepsTrack}
 use Rattle.pc_desk.specs.Ending.{EndsBy, EndsOnly, HasMadeLast, IsAtStop}
 use Rattle.pc_desk.specs.OwnLog.{HasEntered, HasMadeEntry, HasStopped, IsOwnLog, LogMeaning, with_event}
 use Rattle.pc_follows.specs.WaveEvaluation.{IsSending}
@@ -62,9 +62,12 @@ module _ {C : Type 0} (d : DeskMeaning C) (stop : Option ℕ) (stopped : Bool) w
     counted = track.counted;
     numbers = track.numbers;
     once = track.once;
+    dropped = track.dropped;
+    strays = All-weaker (IsStray d.log) (IsStray so.log) (λ p stray. record { aside = stray.aside; step = stray.step; reply = stray.reply; place = stray.place; knows = stray.knows }) track.dropped track.strays;
     stages = track.stages;
     posted = track.posted;
     waits = track.waits;
+    aside = track.aside;
     answered = All-weaker (IsAnsweredBy d.log) (IsAnsweredBy so.log) answered-so d.replies track.answered;
     turn = track.turn;
     wave = track.wave;

@@ -2,7 +2,7 @@
 use Rattle.std.proofs.Common.{◌≡◌, ℕ, ◌+◌, ◌-◌, ◌<◌, ◌≤◌, nat_lt, slice_index, slice_set, Bool, true, false, ◌&&◌, ◌||◌, ◌==◌, not, All, Contains, List, [], ◌∷◌, ◌++◌, length, count_by, ◌⊎◌, inl, inr, Some, refl, sym, ap, subst, ◌∙◌, arith, length-append}
 use Rattle.std.proofs.lemmas.Bool.{eqb-true}
 use Rattle.std.proofs.lemmas.Bool.Decides.{nat_tests}
-use Rattle.std.proofs.lemmas.List.Elements.{All-contains, All-head, All-push, All-tail, All-weaker, Contains-append_left, Contains-push}
+use Rattle.std.proofs.lemmas.List.Elements.{All-contains, All-head, All-nil, All-push, All-tail, All-weaker, Contains-append_left, Contains-push}
 use Rattle.std.proofs.Math.Seq.{set-append_seam}
 use Rattle.std.specs.List.{list_any}
 use Rattle.pc_base.specs.declared.actor.ActorId.{ActorId}
@@ -10,9 +10,9 @@ use Rattle.pc_base.specs.declared.entry.Entry.{Entry}
 use Rattle.pc_desk.proofs.Counting.{any_counts, none_beyond, said_more, said_new}
 use Rattle.pc_desk.proofs.Making.{added, own_after, heard_more, heard_then, known_still, message_of, reply_of, sent_still, sent_then}
 use Rattle.pc_desk.proofs.Turns.{replies_below, turn_delivered, turn_heard}
-use Rattle.pc_desk.proofs.Waves.{wave_done, wave_evaluated, wave_heard, wave_sent}
+use Rattle.pc_desk.proofs.Waves.{wave_done, wave_evaluated, wave_heard, wave_new, wave_sent}
 use Rattle.pc_desk.specs.declared.answered.Answered.{Answered}
-use Rattle.pc_desk.specs.Desk.{AreInTurn, DeskMeaning, GivesOnce, IsAnsweredBy, IsOneSent, KeepsTrack, Posted, WaitInTurn, answered_as, heard_as_number, is_on_way, posted_as, posting, times_sent}
+use Rattle.pc_desk.specs.Desk.{AreInTurn, DeskMeaning, GivesOnce, IsAnsweredBy, WasSetAside, IsOneSent, IsStray, KeepsTrack, Posted, WaitInTurn, answered_as, heard_as_number, is_on_way, posted_as, posting, times_sent}
 use Rattle.pc_desk.specs.OwnLog.{HasEntered, IsOwnLog, LogMeaning}
 use Rattle.pc_desk.specs.Waiting.{WaitInWave}
 use Rattle.pc_follows.specs.WaveEvaluation.{IsSending}
@@ -77,6 +77,21 @@ answered_on l m a id says has by = record {
   knows = subst (λ (i : ActorId). Contains m.part.known (record { entry = evaluation a.step by.range i a.number a.reply; place = by.place; uses = 0 })) (sym id) (has _ by.knows);
 }
 
+-- what was set aside was sent still
+pub aside_on : (sent more : List Sent) (m : Posted) → (IsOneSent sent m → IsOneSent more m) → WasSetAside sent m → WasSetAside more m
+aside_on sent more m one aside = record { one = one aside.one; puts = aside.puts }
+
+-- the stray is one whose evaluation the actor knows still
+pub stray_on : {C : Type 0} (l m : LogMeaning C) (p : Posted) → m.part.id ≡ l.part.id → (IsOneSent (known_of l.part.own).sent p → IsOneSent (known_of m.part.own).sent p)
+    → ((x : KnownEntry Event) → Contains l.part.known x → Contains m.part.known x) → IsStray l p → IsStray m p
+stray_on l m p id one has stray = record {
+  aside = aside_on (known_of l.part.own).sent (known_of m.part.own).sent p one stray.aside;
+  step = stray.step;
+  reply = stray.reply;
+  place = stray.place;
+  knows = subst (λ (i : ActorId). Contains m.part.known (record { entry = evaluation stray.step p.range i p.number stray.reply; place = stray.place; uses = 0 })) (sym id) (has _ stray.knows);
+}
+
 -- what waits to be heard was evaluated before the next entry
 pub answers_before : {C : Type 0} (old : DeskMeaning C) (after : LogMeaning C) (event : Event) → KeepsTrack old → (entered : HasEntered old.log after event) → All (λ (a : Answered). a.step < entered.step) old.replies
 answers_before old after event track entered =
@@ -84,11 +99,36 @@ answers_before old after event track entered =
     (λ a by. All-contains (λ (e : Entry Event). e.step < entered.step) (knowledge old.log.part) (evaluation a.step by.range old.log.part.id a.number a.reply) entered.above
     (knows-known old.log.part (known_entry (evaluation a.step by.range old.log.part.id a.number a.reply) by.place 0) by.knows)) old.replies track.answered
 
+-- ---- nothing was sent
+
+-- an actor that has made nothing has no message at any stage
+pub track_new : {C : Type 0} (d : DeskMeaning C) → IsOwnLog d.log → d.log.part.own ≡ [] → d.log.part.given ≡ [] → d.sends ≡ 0 → d.posted ≡ [] → d.later ≡ [] → d.replies ≡ [] → KeepsTrack d
+track_new d log own given sends posted later replies = record {
+  log = log;
+  counted = sends ∙ sym (ap (λ (o : List (Pair Event)). length (known_of o).sent) own);
+  numbers = subst (λ (o : List (Pair Event)). All (λ (x : Sent). x.number ≤ length (known_of o).sent) (known_of o).sent) (sym own) (All-nil (λ (x : Sent). x.number ≤ 0));
+  once = λ n. subst (λ (o : List (Pair Event)). times_sent n (known_of o) ≤ 1) (sym own) (omega arith);
+  dropped = [];
+  strays = All-nil (IsStray d.log);
+  stages = λ n.
+      subst (λ (o : List (Pair Event)). posted_as n d.posted + (posted_as n d.later + posted_as n []) + answered_as n d.replies + heard_as_number n (known_of o) ≡ times_sent n (known_of o)) (sym own)
+      (let p : posted_as n d.posted ≡ 0 = ap (posted_as n) posted in let l : posted_as n d.later ≡ 0 = ap (posted_as n) later in let r : answered_as n d.replies ≡ 0 = ap (answered_as n) replies in omega arith);
+  posted = subst (All (Says (known_of d.log.part.own).sent)) (sym posted) (All-nil (Says (known_of d.log.part.own).sent));
+  waits = subst (All (IsOneSent (known_of d.log.part.own).sent)) (sym posted) (All-nil (IsOneSent (known_of d.log.part.own).sent));
+  aside = subst (All (WasSetAside (known_of d.log.part.own).sent)) (sym later) (All-nil (WasSetAside (known_of d.log.part.own).sent));
+  answered = subst (All (IsAnsweredBy d.log)) (sym replies) (All-nil (IsAnsweredBy d.log));
+  turn = subst (λ rs. WaitInTurn rs d.posted) (sym replies) (record { rising = tt; behind = subst (All (λ (m : Posted). All (λ (a : Answered). a.number < m.number) [])) (sym posted) (All-nil (λ (m : Posted). All (λ (a : Answered). a.number < m.number) [])) });
+  wave =
+      subst (λ (o : List (Pair Event)). WaitInWave d.log.beside o d.posted d.replies) (sym own)
+      (subst (WaitInWave d.log.beside [] d.posted) (sym replies) (subst (λ (ps : List Posted). WaitInWave d.log.beside [] ps []) (sym posted) (wave_new d.log.beside)));
+  given = record { each = ap length given ∙ sym (ap length own); once = subst (All (λ uses. uses ≤ 1)) (sym given) (All-nil (λ uses. uses ≤ 1)) };
+}
+
 -- ---- one more message is sent
 
 module _ {C : Type 0} (old new : DeskMeaning C) (sent : LogMeaning C) (number range uses : ℕ) (request : Request) (track : KeepsTrack old) (next : number ≡ old.sends + 1)
     (entered : HasEntered old.log sent (events.Send number range request)) (id : new.log.part.id ≡ sent.part.id) (own : new.log.part.own ≡ sent.part.own) (known : new.log.part.known ≡ sent.part.known)
-    (posted : (n : ℕ) → posted_as n new.posted ≡ posted_as n old.posted + one_if (number == n)) (replies : new.replies ≡ old.replies) where
+    (posted : (n : ℕ) → posted_as n new.posted ≡ posted_as n old.posted + one_if (number == n)) (replies : new.replies ≡ old.replies) (later : new.later ≡ old.later) where
   -- The message that is sent.
   abbrev m : Sent
   m = message_of old.log sent number range request entered
@@ -123,6 +163,9 @@ module _ {C : Type 0} (old new : DeskMeaning C) (sent : LogMeaning C) (number ra
   says-on : (n : ℕ) (r : Request) → request_sent n (known_of old.log.part.own).sent ≡ Some r → request_sent n (known_of new.log.part.own).sent ≡ Some r
   says-on n r said = ap (request_sent n) sent_is ∙ said_more n (known_of old.log.part.own).sent (m ∷ []) r said
 
+  one-on : (p : Posted) → IsOneSent (known_of old.log.part.own).sent p → IsOneSent (known_of new.log.part.own).sent p
+  one-on p one = subst (λ (xs : List Sent). IsOneSent xs p) (sym sent_is) (Contains-append_left (known_of old.log.part.own).sent (m ∷ []) _ one)
+
   says-now : request_sent number (known_of new.log.part.own).sent ≡ Some request
   says-now = ap (request_sent number) sent_is ∙ said_new (known_of old.log.part.own).sent m fresh
 
@@ -137,9 +180,16 @@ module _ {C : Type 0} (old new : DeskMeaning C) (sent : LogMeaning C) (number ra
         (All-weaker (λ x. x.number ≤ length (known_of old.log.part.own).sent) (λ x. x.number ≤ length ((known_of old.log.part.own).sent ++ m ∷ [])) (λ x h. omega (arith, length-append (known_of old.log.part.own).sent (m ∷ []))) (known_of old.log.part.own).sent track.numbers)
         (let c = track.counted in omega (arith, length-append (known_of old.log.part.own).sent (m ∷ []))));
     once = once-now;
+    dropped = track.dropped;
+    strays = All-weaker (IsStray old.log) (IsStray new.log)
+        (λ p. stray_on old.log new.log p (id ∙ ap (λ (l : LogMeaning C). l.part.id) entered.stored) (one-on p)
+        (λ x there. subst (λ ks. Contains ks x) (sym (known ∙ ap (λ (l : LogMeaning C). l.part.known) entered.stored)) there)) track.dropped track.strays;
     stages = λ n.
         let r : answered_as n new.replies ≡ answered_as n old.replies = ap (answered_as n) replies in
+        let l : posted_as n new.later ≡ posted_as n old.later = ap (posted_as n) later in
         omega (arith, posted n, heard_count n, sent_count n, track.stages n);
+    aside = subst (All (WasSetAside (known_of new.log.part.own).sent)) (sym later)
+        (All-weaker (WasSetAside (known_of old.log.part.own).sent) (WasSetAside (known_of new.log.part.own).sent) (λ p. aside_on (known_of old.log.part.own).sent (known_of new.log.part.own).sent p (one-on p)) old.later track.aside);
     posted = all_from_contains (Says (known_of new.log.part.own).sent) new.posted (λ x there. elim (all x there) [
       | inl before ↦ says-on x.number x.request (All-contains (Says (known_of old.log.part.own).sent) old.posted x track.posted before)
       | inr now ↦ subst (Says (known_of new.log.part.own).sent) now says-now
@@ -194,7 +244,7 @@ module _ {C : Type 0} (old new : DeskMeaning C) (sent : LogMeaning C) (number ra
 
 -- ---- a message is evaluated
 
-module _ {C : Type 0} (old new : DeskMeaning C) (m : Posted) (a : Answered) (track : KeepsTrack old) (first : old.posted ≡ m ∷ new.posted) (pushed : new.replies ≡ old.replies ++ a ∷ []) (to : a.number ≡ m.number) (later : All (λ (p : Posted). m.number < p.number) new.posted) (own : new.log.part.own ≡ old.log.part.own) where
+module _ {C : Type 0} (old new : DeskMeaning C) (m : Posted) (a : Answered) (track : KeepsTrack old) (first : old.posted ≡ m ∷ new.posted) (pushed : new.replies ≡ old.replies ++ a ∷ []) (to : a.number ≡ m.number) (later : All (λ (p : Posted). m.number < p.number) new.posted) (own : new.log.part.own ≡ old.log.part.own) (aside : new.later ≡ old.later) where
   posted-count : (n : ℕ) → posted_as n old.posted ≡ one_if (m.number == n) + posted_as n new.posted
   posted-count n = ap (posted_as n) first ∙ count-cons (λ (x : Posted). x.number == n) m new.posted
 
@@ -218,9 +268,13 @@ module _ {C : Type 0} (old new : DeskMeaning C) (m : Posted) (a : Answered) (tra
     counted = sends ∙ (track.counted ∙ ap (λ (k : Known). length k.sent) (sym same-known));
     numbers = subst (λ (k : Known). All (λ x. x.number ≤ length k.sent) k.sent) (sym same-known) track.numbers;
     once = λ n. subst (λ (k : Known). times_sent n k ≤ 1) (sym same-known) (track.once n);
+    dropped = track.dropped;
+    strays = All-weaker (IsStray old.log) (IsStray new.log)
+        (λ p. stray_on old.log new.log p id (λ one. subst (λ (k : Known). IsOneSent k.sent p) (sym same-known) one) (λ e knows. has e (Contains-append_left old.log.part.known _ e knows))) track.dropped track.strays;
     stages = λ n.
-        subst (λ (k : Known). posted_as n new.posted + answered_as n new.replies + heard_as_number n k ≡ times_sent n k) (sym same-known)
-        (omega (arith, posted-count n, replies-count n, track.stages n));
+        subst (λ (k : Known). posted_as n new.posted + (posted_as n new.later + posted_as n track.dropped) + answered_as n new.replies + heard_as_number n k ≡ times_sent n k) (sym same-known)
+        (let l : posted_as n new.later ≡ posted_as n old.later = ap (posted_as n) aside in omega (arith, posted-count n, replies-count n, track.stages n));
+    aside = subst (λ (k : Known). All (WasSetAside k.sent) new.later) (sym same-known) (subst (All (WasSetAside (known_of old.log.part.own).sent)) (sym aside) track.aside);
     posted = subst (λ (k : Known). All (Says k.sent) new.posted) (sym same-known) (All-tail (Says (known_of old.log.part.own).sent) m new.posted (subst (All (Says (known_of old.log.part.own).sent)) first track.posted));
     waits = subst (λ (k : Known). All (IsOneSent k.sent) new.posted) (sym same-known) (All-tail (IsOneSent (known_of old.log.part.own).sent) m new.posted (subst (All (IsOneSent (known_of old.log.part.own).sent)) first track.waits));
     answered = subst (All (IsAnsweredBy new.log)) (sym pushed)
@@ -266,7 +320,7 @@ module _ {C : Type 0} (old new : DeskMeaning C) (m : Posted) (a : Answered) (tra
 
 -- ---- a reply is heard
 
-module _ {C : Type 0} (old new : DeskMeaning C) (a : Answered) (track : KeepsTrack old) (first : old.replies ≡ a ∷ new.replies) (posted : new.posted ≡ old.posted) (by : IsAnsweredBy old.log a) (entered : HasEntered old.log new.log (events.Hear a.number a.step)) where
+module _ {C : Type 0} (old new : DeskMeaning C) (a : Answered) (track : KeepsTrack old) (first : old.replies ≡ a ∷ new.replies) (posted : new.posted ≡ old.posted) (by : IsAnsweredBy old.log a) (entered : HasEntered old.log new.log (events.Hear a.number a.step)) (later : new.later ≡ old.later) where
   sent-same : (known_of new.log.part.own).sent ≡ (known_of old.log.part.own).sent
   sent-same = sent_still old.log new.log a track.log by entered
 
@@ -284,8 +338,14 @@ module _ {C : Type 0} (old new : DeskMeaning C) (a : Answered) (track : KeepsTra
     counted = sends ∙ (track.counted ∙ ap length (sym sent-same));
     numbers = subst (λ (xs : List Sent). All (λ x. x.number ≤ length xs) xs) (sym sent-same) track.numbers;
     once = λ n. subst (λ (xs : List Sent). count_by (λ (x : Sent). x.number == n) xs ≤ 1) (sym sent-same) (track.once n);
+    dropped = track.dropped;
+    strays = All-weaker (IsStray old.log) (IsStray new.log)
+        (λ p. stray_on old.log new.log p (ap (λ (l : LogMeaning C). l.part.id) entered.stored) (λ one. subst (λ (xs : List Sent). IsOneSent xs p) (sym sent-same) one)
+        (λ e there. subst (λ ks. Contains ks e) (sym (known_still old.log new.log a track.log by entered)) there)) track.dropped track.strays;
+    aside = subst (All (WasSetAside (known_of new.log.part.own).sent)) (sym later) (subst (λ (xs : List Sent). All (WasSetAside xs) old.later) (sym sent-same) track.aside);
     stages = λ n.
         let p : posted_as n new.posted ≡ posted_as n old.posted = ap (posted_as n) posted in
+        let l : posted_as n new.later ≡ posted_as n old.later = ap (posted_as n) later in
         let s : times_sent n (known_of new.log.part.own) ≡ times_sent n (known_of old.log.part.own) = ap (count_by (λ (x : Sent). x.number == n)) sent-same in
         omega (arith, heard-count n, replies-were n, track.stages n);
     posted = subst (All (Says (known_of new.log.part.own).sent)) (sym posted) (subst (λ (xs : List Sent). All (Says xs) old.posted) (sym sent-same) track.posted);
@@ -349,13 +409,19 @@ pub track_done : {C : Type 0} (old new : DeskMeaning C) (event : Event) → Keep
 track_done {C} old new event track entered rest sent heard known no_sending no_hearing =
     let posted : new.posted ≡ old.posted = ap (λ d. d.posted) rest in
     let replies : new.replies ≡ old.replies = ap (λ d. d.replies) rest in
+    let later : new.later ≡ old.later = ap (λ d. d.later) rest in
     record {
       log = entered.log;
       counted = ap (λ d. d.sends) rest ∙ (track.counted ∙ ap length (sym sent));
       numbers = subst (λ (xs : List Sent). All (λ x. x.number ≤ length xs) xs) (sym sent) track.numbers;
       once = λ n. subst (λ (xs : List Sent). count_by (λ (x : Sent). x.number == n) xs ≤ 1) (sym sent) (track.once n);
+      dropped = track.dropped;
+      strays = All-weaker (IsStray old.log) (IsStray new.log)
+          (λ p. stray_on old.log new.log p (ap (λ l. l.part.id) entered.stored) (λ one. subst (λ (xs : List Sent). IsOneSent xs p) (sym sent) one) (λ e there. subst (λ ks. Contains ks e) (sym known) there)) track.dropped track.strays;
+      aside = subst (All (WasSetAside (known_of new.log.part.own).sent)) (sym later) (subst (λ (xs : List Sent). All (WasSetAside xs) old.later) (sym sent) track.aside);
       stages = λ n.
           let p : posted_as n new.posted ≡ posted_as n old.posted = ap (posted_as n) posted in
+          let l : posted_as n new.later ≡ posted_as n old.later = ap (posted_as n) later in
           let r : answered_as n new.replies ≡ answered_as n old.replies = ap (answered_as n) replies in
           let h : heard_as_number n (known_of new.log.part.own) ≡ heard_as_number n (known_of old.log.part.own) = ap (count_by (λ (x : Heard). x.number == n)) heard in
           let s : times_sent n (known_of new.log.part.own) ≡ times_sent n (known_of old.log.part.own) = ap (count_by (λ (x : Sent). x.number == n)) sent in

@@ -1,14 +1,15 @@
 -- Replies wait in the order of their messages, so that the first is to the oldest message that was not heard.
-use Rattle.std.proofs.Common.{◌≡◌, ℕ, ◌+◌, ◌<◌, ◌≤◌, nat_lt, Bool, true, false, ◌||◌, ◌==◌, All, Contains, List, [], ◌∷◌, ◌++◌, inl, inr, count_by, length, refl, sym, ap, subst, ◌∙◌, arith}
+use Rattle.std.proofs.Common.{◌≡◌, ℕ, zero, suc, ◌+◌, ◌<◌, ◌≤◌, nat_lt, Bool, true, false, ◌||◌, ◌==◌, All, Contains, List, [], ◌∷◌, ◌++◌, inl, inr, count_by, length, refl, sym, ap, subst, ◌∙◌, arith}
 use Rattle.std.proofs.lemmas.Bool.{eq-eqb, eqb-true}
 use Rattle.std.proofs.lemmas.Bool.Decides.{nat_tests}
 use Rattle.std.proofs.lemmas.List.Elements.{All-contains, All-head, All-nil, All-push, All-tail, All-weaker}
 use Rattle.std.specs.List.{list_any}
-use Rattle.pc_desk.proofs.Counting.{any_counts, counts_any, sent_where_said}
+use Rattle.pc_desk.proofs.Counting.{any_counts, counted_once, counts_any, sent_where_said}
 use Rattle.pc_desk.specs.declared.answered.Answered.{Answered}
-use Rattle.pc_desk.specs.Desk.{AreInTurn, DeskMeaning, IsAnsweredBy, KeepsTrack, Posted, WaitInTurn, answered_as, heard_as_number, posted_as, times_sent}
+use Rattle.pc_desk.specs.Desk.{AreInTurn, DeskMeaning, IsAnsweredBy, WasSetAside, IsStray, KeepsTrack, Posted, WaitInTurn, answered_as, as_sent, heard_as_number, posted_as, times_sent}
 use Rattle.pc_lists.proofs.Counts.{count-cons, one_if}
-use Rattle.pc_lists.proofs.Lists.{all_from_contains, contains_cons, contains_nil}
+use Rattle.pc_lists.proofs.Lists.{all_from_contains, contains_cons, contains_head, contains_nil, contains_tail}
+use Rattle.pc_proto.specs.Requests.{is_put}
 use Rattle.pc_follows.specs.OldestUnheard.{IsOldestUnheard}
 use Rattle.pc_follows.specs.WaveOrder.{IsHeardOrPut}
 use Rattle.pc_world.specs.Known.{Known, known_of}
@@ -79,9 +80,42 @@ there-sent (x ∷ sent) m there = elim (contains_cons x sent m there) [
     either true c is = refl
     either false c is = is
 
+-- one of the number is there where one is counted
+pub counted_has : {X : Type 0} (n : X → ℕ) (number : ℕ) (xs : List X) → 1 ≤ count_by (λ x. n x == number) xs → (x : X) × Contains xs x × (n x ≡ number)
+counted_has n number [] some = absurd (omega arith)
+counted_has {X} n number (x ∷ xs) some = by (n x == number) refl (counted_has n number xs)
+  where
+    by : (b : Bool) → (n x == number) ≡ b → (1 ≤ count_by (λ x. n x == number) xs → (y : X) × Contains xs y × (n y ≡ number)) → (y : X) × Contains (x ∷ xs) y × (n y ≡ number)
+    by true is on = (x, contains_head x xs, eqb-true (n x) number is)
+    by false is on =
+        let l = on (let c = count-cons (λ x. n x == number) x xs in let o = ap one_if is in omega arith) in
+        (l.0, contains_tail x xs l.0 l.1, l.2)
+
+-- a message whose number is among those that were set aside, or dropped, puts a write
+pub put_aside : {C : Type 0} (d : DeskMeaning C) (track : KeepsTrack d) (m : Sent) → Contains (known_of d.log.part.own).sent m → 1 ≤ posted_as m.number d.later + posted_as m.number track.dropped → is_put m.request ≡ true
+put_aside d track m there some = by (nat_lt 0 (posted_as m.number d.later)) refl
+  where
+    k : Known
+    k = known_of d.log.part.own
+
+    -- what was set aside under its number is it
+    it-is : (p : Posted) → WasSetAside k.sent p → p.number ≡ m.number → is_put m.request ≡ true
+    it-is p aside same =
+        let one : as_sent p ≡ m = counted_once (λ (x : Sent). x.number == m.number) k.sent (as_sent p) m (track.once m.number) aside.one there (eq-eqb p.number m.number same) (eq-eqb m.number m.number refl) in
+        sym (ap (λ (x : Sent). is_put x.request) one) ∙ aside.puts
+
+    by : (b : Bool) → nat_lt 0 (posted_as m.number d.later) ≡ b → is_put m.request ≡ true
+    by true is =
+        let f = counted_has (λ (p : Posted). p.number) m.number d.later (grind (arith, nat_tests)) in
+        it-is f.0 (All-contains (WasSetAside k.sent) d.later f.0 track.aside f.1) f.2
+    by false is =
+        let none : posted_as m.number d.later ≡ 0 = grind (arith, nat_tests) in
+        let f = counted_has (λ (p : Posted). p.number) m.number track.dropped (omega (arith, none, some)) in
+        it-is f.0 (All-contains (IsStray d.log) track.dropped f.0 track.strays f.1).aside f.2
+
 -- the reply that has waited longest is to the oldest message that was not heard
 pub oldest_waits : {C : Type 0} (d : DeskMeaning C) (a : Answered) (rest : List Answered) → KeepsTrack d → d.replies ≡ a ∷ rest → IsOldestUnheard (known_of d.log.part.own) a.number
-oldest_waits d a rest track first = all_from_contains (λ (m : Sent). m.number < a.number → IsHeardOrPut k.heard m) k.sent (λ m there low. inl (heard m there low))
+oldest_waits d a rest track first = all_from_contains (λ (m : Sent). m.number < a.number → IsHeardOrPut k.heard m) k.sent (λ m there low. heard_or_put m there low)
   where
     k : Known
     k = known_of d.log.part.own
@@ -89,8 +123,8 @@ oldest_waits d a rest track first = all_from_contains (λ (m : Sent). m.number <
     turn : WaitInTurn (a ∷ rest) d.posted
     turn = subst (λ rs. WaitInTurn rs d.posted) first track.turn
 
-    heard : (m : Sent) → Contains k.sent m → m.number < a.number → is_heard k.heard m ≡ true
-    heard m there low =
+    heard : (m : Sent) → Contains k.sent m → m.number < a.number → posted_as m.number d.later + posted_as m.number track.dropped ≡ 0 → is_heard k.heard m ≡ true
+    heard m there low unused =
         let n = m.number in
         let some : 1 ≤ times_sent n k = counts_any (λ (x : Sent). x.number == n) k.sent (there-sent k.sent m there) in
         let posted : posted_as n d.posted ≡ 0 = none-below (λ (p : Posted). p.number) n d.posted
@@ -104,3 +138,11 @@ oldest_waits d a rest track first = all_from_contains (λ (m : Sent). m.number <
         let count : 1 ≤ heard_as_number n k = omega arith in
         let yes : nat_lt 0 (heard_as_number n k) ≡ true = grind (arith, nat_tests) in
         any_counts (λ (h : Heard). h.number == n) k.heard ∙ yes
+
+    -- what was set aside, or dropped, is a put
+    heard_or_put : (m : Sent) → Contains k.sent m → m.number < a.number → IsHeardOrPut k.heard m
+    heard_or_put m there low = by (posted_as m.number d.later + posted_as m.number track.dropped) refl
+      where
+        by : (n : ℕ) → posted_as m.number d.later + posted_as m.number track.dropped ≡ n → IsHeardOrPut k.heard m
+        by zero none = inl (heard m there low none)
+        by (suc n) some = inr (put_aside d track m there (omega (arith, some)))

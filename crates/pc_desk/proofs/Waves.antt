@@ -1,11 +1,12 @@
 -- When what waits to be heard was evaluated, after each step of its actor, and what an evaluation needs to be of the actor's wave.
 use Rattle.std.proofs.Common.{◌≡◌, ℕ, ◌+◌, ◌-◌, ◌<◌, ◌≤◌, Bool, false, ◌⊎◌, inl, inr, All, Contains, List, [], ◌∷◌, ◌++◌, length, slice_get, Some, refl, sym, ap, subst, ◌∙◌, arith, length-append, suc, zero}
-use Rattle.std.proofs.lemmas.List.{append_assoc, same_from_push}
+use Rattle.std.proofs.lemmas.List.{append-nil, append_assoc, same_from_push}
 use Rattle.std.proofs.lemmas.List.Elements.{All-contains, All-head, All-nil, All-push, All-tail, All-weaker, Contains-append_left, Contains-push}
+use Rattle.std.proofs.lemmas.List.Sums.{fold-append}
 use Rattle.pc_base.specs.declared.entry.Entry.{Entry}
 use Rattle.pc_desk.specs.declared.answered.Answered.{Answered}
 use Rattle.pc_desk.specs.Waiting.{AreEvaluatedInOrder, AreInOrder, EndsUnheard, IsBehindAll, IsNewest, WaitInWave, WentOn}
-use Rattle.pc_follows.specs.WaveEvaluation.{AreHeardAfter, IsInWave, IsSending}
+use Rattle.pc_follows.specs.WaveEvaluation.{AreHeardAfter, IsHearingOfWave, IsInWave, IsSending}
 use Rattle.pc_follows.specs.WaveOrder.{IsHearing}
 use Rattle.pc_history.proofs.Callers.{noted-at}
 use Rattle.pc_history.proofs.Histories.{Rises, own-rises, rises-least}
@@ -17,9 +18,10 @@ use Rattle.pc_history.specs.Parts.{known_entry, noted}
 use Rattle.pc_history.specs.Sense.{Sense}
 use Rattle.pc_lists.proofs.Lists.{all_from_contains, contains_cons, contains_nil, get_contains, get_push}
 use Rattle.pc_proto.specs.declared.event.Event.{Event}
+use Rattle.pc_proto.specs.declared.event.Event.TheVariants as events
 use Rattle.pc_range.specs.Message.{ComesAfter}
-use Rattle.pc_world.specs.Known.{known_of}
-use Rattle.pc_world.specs.Known.Traffic.{Heard}
+use Rattle.pc_world.specs.Known.{Known, known_of, learn, nothing_known}
+use Rattle.pc_world.specs.Known.Traffic.{Heard, Sent, sent_by}
 
 -- a list has a last element, or none
 pub record IsEnding (xs : List (Pair Event)) : Type 0 where
@@ -34,6 +36,10 @@ ending_of (x ∷ xs) = elim (ending_of xs) [
   | inr some ↦ inr (record { front = x ∷ some.front; last = some.last; whole = ap (λ ys. x ∷ ys) some.whole })
 ]
 
+sends_none : (event : Event) → (IsSending event → ⊥) → sent_by event ≡ []
+sends_none (events.Send number range request) sends = absurd (sends tt)
+sends_none event sends = refl
+
 -- ---- the wave of one reply
 
 -- where the list does not end with a hearing, what was evaluated after all that was sent is of its wave
@@ -47,9 +53,15 @@ in_wave_now own step unheard behind = record {
     after front hearings whole hears = elim (ending_of hearings) [
       | inl none ↦ subst (All (λ (p : Pair Event). step < p.entry.step)) (sym none) (All-nil (λ (p : Pair Event). step < p.entry.step))
       | inr some ↦
-          let last : IsHearing some.last.entry.event = All-contains (λ (p : Pair Event). IsHearing p.entry.event) hearings some.last hears (subst (λ l. Contains l some.last) (sym some.whole) (Contains-push some.front some.last)) in
+          let last : IsHearingOfWave (known_of own).sent some.last.entry.event = All-contains (λ (p : Pair Event). IsHearingOfWave (known_of own).sent p.entry.event) hearings some.last hears (subst (λ l. Contains l some.last) (sym some.whole) (Contains-push some.front some.last)) in
           absurd (unheard (front ++ some.front) some.last (whole ∙ (ap (λ l. front ++ l) some.whole ∙ sym (append_assoc front some.front (some.last ∷ [])))) last)
     ]
+
+-- what is sent behind an entry is as before, where that sends nothing
+sends_on : (own : List (Pair Event)) (q : Pair Event) → (IsSending q.entry.event → ⊥) → (known_of (own ++ q ∷ [])).sent ≡ (known_of own).sent
+sends_on own q sends =
+    ap (λ (k : Known). k.sent) (fold-append (λ (k : Known) (p : Pair Event). learn p k) nothing_known own (q ∷ []))
+    ∙ (ap (λ ms. (known_of own).sent ++ ms) (sends_none q.entry.event sends) ∙ append-nil (known_of own).sent)
 
 -- it stays so behind an entry that sends nothing
 pub in_wave_on : (own : List (Pair Event)) (q : Pair Event) (step : ℕ) → (IsSending q.entry.event → ⊥) → step < q.entry.step → IsInWave own step → IsInWave (own ++ q ∷ []) step
@@ -64,15 +76,21 @@ in_wave_on own q step sends above one = record {
       | inr some ↦
           let longer : own ++ q ∷ [] ≡ (front ++ some.front) ++ some.last ∷ [] = whole ∙ (ap (λ l. front ++ l) some.whole ∙ sym (append_assoc front some.front (some.last ∷ []))) in
           let both = same_from_push own (front ++ some.front) q some.last longer in
-          let before : All (λ (p : Pair Event). IsHearing p.entry.event) some.front = all_from_contains (λ (p : Pair Event). IsHearing p.entry.event) some.front (λ p there.
-          All-contains (λ (p : Pair Event). IsHearing p.entry.event) hearings p hears (subst (λ l. Contains l p) (sym some.whole) (Contains-append_left some.front (some.last ∷ []) p there))) in
+          let later : All (λ (p : Pair Event). IsHearingOfWave (known_of own).sent p.entry.event) hearings = subst (λ ms. All (λ (p : Pair Event). IsHearingOfWave ms p.entry.event) hearings) (sends_on own q sends) hears in
+          let before : All (λ (p : Pair Event). IsHearingOfWave (known_of own).sent p.entry.event) some.front = all_from_contains (λ (p : Pair Event). IsHearingOfWave (known_of own).sent p.entry.event) some.front (λ p there.
+          All-contains (λ (p : Pair Event). IsHearingOfWave (known_of own).sent p.entry.event) hearings p later (subst (λ l. Contains l p) (sym some.whole) (Contains-append_left some.front (some.last ∷ []) p there))) in
           subst (All (λ (p : Pair Event). step < p.entry.step)) (sym some.whole)
           (All-push (λ (p : Pair Event). step < p.entry.step) some.front some.last (one.heard front some.front both.0 before) (subst (λ (p : Pair Event). step < p.entry.step) both.1 above))
     ]
 
+-- the hearing of a wave is one
+of_wave : (sent : List Sent) (event : Event) → IsHearingOfWave sent event → IsHearing event
+of_wave sent (events.Hear number step) of = tt
+of_wave sent event of = of
+
 -- a list whose last entry hears nothing
 pub unheard_push : (own : List (Pair Event)) (q : Pair Event) → (IsHearing q.entry.event → ⊥) → EndsUnheard (own ++ q ∷ [])
-unheard_push own q hears front p whole does = hears (subst (λ (x : Pair Event). IsHearing x.entry.event) (sym (same_from_push own front q p whole).1) does)
+unheard_push own q hears front p whole does = hears (subst (λ (x : Pair Event). IsHearing x.entry.event) (sym (same_from_push own front q p whole).1) (of_wave (known_of (own ++ q ∷ [])).sent p.entry.event does))
 
 -- ---- all that waits
 

@@ -16,7 +16,9 @@ use Rattle.pc_history.specs.declared.pair.Pair.{Pair}
 use Rattle.pc_history.specs.Parts.{gave, named_by, told}
 use Rattle.pc_proto.specs.declared.event.Event.{Event}
 use Rattle.pc_proto.specs.declared.event.Event.TheVariants as events
+use Rattle.pc_proto.specs.declared.reply.Reply.{Reply}
 use Rattle.pc_proto.specs.declared.request.Request.{Request}
+use Rattle.pc_proto.specs.Requests.{is_put}
 use Rattle.pc_proto.specs.Stamps.{request_stamps}
 use Rattle.pc_range.specs.Message.{IsFullNote, evaluation, sending}
 use Rattle.pc_wire.specs.declared.verdict.Verdict.{Verdict}
@@ -39,12 +41,13 @@ pub record Posted : Type 0 where
 abbrev pub posting : ℕ → ℕ → Request → ℕ → Posted
 posting number range request uses = record { number = number; range = range; request = request; uses = uses }
 
--- The actor's own list, how many messages it sent, those that wait to be evaluated, and the replies that wait to be heard; and how many
--- entries a range may have.
+-- The actor's own list, how many messages it sent, those that wait to be evaluated, those that were set aside until a wave waits for them, and the
+-- replies that wait to be heard; and how many entries a range may have.
 pub record DeskMeaning (C : Type 0) : Type 0 where
   pub log : LogMeaning C
   pub sends : ℕ
   pub posted : List Posted
+  pub later : List Posted
   pub replies : List Answered
   pub range_limit : ℕ
 
@@ -54,6 +57,7 @@ new_desk head part spare clock pipelining beside limit stop range_limit = record
   log = record { head = head; part = part; spare = spare; clock = clock; pipelining = pipelining; beside = beside; limit = limit; stop = stop; stopped = false };
   sends = 0;
   posted = [];
+  later = [];
   replies = [];
   range_limit = range_limit;
 }
@@ -129,6 +133,19 @@ as_sent m = record { number = m.number; range = m.range; request = m.request }
 abbrev pub IsOneSent : List Sent → Posted → Type 0
 IsOneSent sent m = Contains sent (as_sent m)
 
+-- What was set aside is one of the messages that were sent, and puts a write.
+pub record WasSetAside (sent : List Sent) (m : Posted) : Type 0 where
+  pub one : IsOneSent sent m
+  pub puts : is_put m.request ≡ true
+
+-- The message is a stray: it was set aside, the actor knows an evaluation of it, and nobody hears its reply.
+pub record IsStray {C : Type 0} (log : LogMeaning C) (m : Posted) : Type 0 where
+  pub aside : WasSetAside (known_of log.part.own).sent m
+  pub step : ℕ
+  pub reply : Reply
+  pub place : ℕ
+  pub knows : Contains log.part.known (record { entry = evaluation step m.range log.part.id m.number reply; place = place; uses = 0 })
+
 -- The replies are to messages of rising numbers.
 abbrev pub AreInTurn : List Answered → Type 0
 AreInTurn [] = Unit {0}
@@ -139,16 +156,20 @@ pub record WaitInTurn (replies : List Answered) (posted : List Posted) : Type 0 
   pub rising : AreInTurn replies
   pub behind : All (λ m. All (λ a. a.number < m.number) replies) posted
 
--- Each message that the actor sent stands at one stage, and no other does at any: it waits to be evaluated, or its reply to be heard, or
--- that was heard. What waits says what was sent, is in turn, and waits with its wave; and of no entry more than one use was given.
+-- Each message that the actor sent stands at one stage, and no other does at any: it waits to be evaluated, or was set aside, or its reply waits to be
+-- heard, or that was heard, or it is a stray whose reply was dropped. What waits says what was sent, is in turn, and waits with its wave; and of no entry
+-- more than one use was given.
 pub record KeepsTrack {C : Type 0} (d : DeskMeaning C) : Type 0 where
   pub log : IsOwnLog d.log
   pub counted : d.sends ≡ length (known_of d.log.part.own).sent
   pub numbers : All (λ m. m.number ≤ length (known_of d.log.part.own).sent) (known_of d.log.part.own).sent
   pub once : (number : ℕ) → times_sent number (known_of d.log.part.own) ≤ 1
-  pub stages : (number : ℕ) → posted_as number d.posted + answered_as number d.replies + heard_as_number number (known_of d.log.part.own) ≡ times_sent number (known_of d.log.part.own)
+  pub dropped : List Posted
+  pub strays : All (IsStray d.log) dropped
+  pub stages : (number : ℕ) → posted_as number d.posted + (posted_as number d.later + posted_as number dropped) + answered_as number d.replies + heard_as_number number (known_of d.log.part.own) ≡ times_sent number (known_of d.log.part.own)
   pub posted : All (λ m. request_sent m.number (known_of d.log.part.own).sent ≡ Some m.request) d.posted
   pub waits : All (IsOneSent (known_of d.log.part.own).sent) d.posted
+  pub aside : All (WasSetAside (known_of d.log.part.own).sent) d.later
   pub answered : All (IsAnsweredBy d.log) d.replies
   pub turn : WaitInTurn d.replies d.posted
   pub wave : WaitInWave d.log.beside d.log.part.own d.posted d.replies
@@ -158,6 +179,14 @@ pub record KeepsTrack {C : Type 0} (d : DeskMeaning C) : Type 0 where
 pub record HasTakenFirst {C : Type 0} (old new : DeskMeaning C) (m : Posted) : Type 0 where
   pub first : old.posted ≡ m ∷ new.posted
   pub rest : new ≡ record old { posted = new.posted }
+  pub later : All (λ p. m.number < p.number) new.posted
+
+-- The message was taken from those that wait, or from those that were set aside, and nothing else was done; those that wait then were sent later.
+pub record HasTaken {C : Type 0} (old new : DeskMeaning C) (m : Posted) : Type 0 where
+  pub there : Contains (old.posted ++ old.later) m
+  pub others : (p : Posted) → Contains (old.posted ++ old.later) p → (m ≡ p) ⊎ Contains (new.posted ++ new.later) p
+  pub left : (p : Posted) → Contains (new.posted ++ new.later) p → Contains (old.posted ++ old.later) p
+  pub rest : new ≡ record old { posted = new.posted; later = new.later }
   pub later : All (λ p. m.number < p.number) new.posted
 
 -- The message of this number is on its way: it waits to be evaluated, or its reply to be heard.
@@ -187,6 +216,7 @@ pub record HasSentNext {C : Type 0} (old new : DeskMeaning C) (number : ℕ) (re
   pub track : KeepsTrack new
   pub way : (other : ℕ) → is_on_way other new ≡ (number == other || is_on_way other old)
   pub replies : new.replies ≡ old.replies
+  pub later : new.later ≡ old.later
   pub limit : new.range_limit ≡ old.range_limit
 
 -- The actor sent this so, to this range.
@@ -226,6 +256,7 @@ pub record HasDelivered {C : Type 0} (old new : DeskMeaning C) : Type 0 where
   pub sends : new.sends ≡ old.sends
   pub track : KeepsTrack new
   pub way : (number : ℕ) → is_on_way number new ≡ is_on_way number old
+  pub later : new.later ≡ old.later
   pub more : (k : KnownEntry Event) → Contains old.log.part.known k → Contains new.log.part.known k
   pub limit : new.range_limit ≡ old.range_limit
 
@@ -244,6 +275,7 @@ pub record HasHeardFirst {C : Type 0} (old new : DeskMeaning C) (a : Answered) :
   pub named : named_by (protocol old.log.head) old.log.part (events.Hear a.number a.step) ≡ Some (evaluation a.step range old.log.part.id a.number a.reply)
   pub track : KeepsTrack new
   pub way : (number : ℕ) → is_on_way number new ≡ (is_on_way number old && not (a.number == number))
+  pub later : new.later ≡ old.later
   pub limit : new.range_limit ≡ old.range_limit
 
 -- The actor knows an entry of the range, which has at least so many entries up to it.

@@ -1,6 +1,6 @@
 -- How an actor's list ends before its work does: where it has as many entries as it may have, or a range has, or at its stated stop; and what
 -- becomes of its messages then.
-use Rattle.std.specs.Prelude.{◌≡◌, ℕ, ◌<◌, true, false, ◌⊎◌, Some, List, [], ◌∷◌, ◌++◌, length, All, Contains, IsTrue, ⊤}
+use Rattle.std.specs.Prelude.{◌≡◌, ℕ, ◌<◌, true, false, ◌⊎◌, Some, List, [], ◌∷◌, ◌++◌, length, is_some, All, Contains, IsTrue, ⊤}
 use Rattle.pc_desk.specs.declared.halt.Halt.{Halt}
 use Rattle.pc_desk.specs.declared.halt.Halt.TheVariants as halts
 use Rattle.pc_desk.specs.Desk.{DeskMeaning, KeepsTrack, Posted, as_sent}
@@ -10,6 +10,8 @@ use Rattle.pc_history.specs.declared.view.Known.{Known as KnownEntry}
 use Rattle.pc_history.specs.declared.view.Part.{Part}
 use Rattle.pc_history.specs.Parts.{knowledge}
 use Rattle.pc_proto.specs.declared.event.Event.{Event}
+use Rattle.pc_proto.specs.declared.request.Request.{Request}
+use Rattle.pc_proto.specs.Requests.{is_put}
 use Rattle.pc_world.specs.Caused.{Evaluates}
 use Rattle.pc_world.specs.Known.{Known, known_of}
 use Rattle.pc_world.specs.Known.Traffic.{Sent}
@@ -27,9 +29,13 @@ pub record KnowsEvaluation (part : Part Event) (number : ℕ) : Type 0 where
   pub knows : Contains part.known evaluation
   pub of_it : Evaluates part.id number evaluation.entry.event
 
+-- The messages that wait to be evaluated, and behind them those that were set aside.
+abbrev pub all_waiting : {C : Type 0} → DeskMeaning C → List Posted
+all_waiting d = d.posted ++ d.later
+
 -- The message was heard, or it waits to be evaluated, or the actor knows an evaluation of it.
 abbrev pub IsNotLost : {C : Type 0} → DeskMeaning C → Sent → Type 0
-IsNotLost d m = IsTrue (is_heard (known_of d.log.part.own).heard m) ⊎ WaitsStill d.posted m.number ⊎ KnowsEvaluation d.log.part m.number
+IsNotLost d m = IsTrue (is_heard (known_of d.log.part.own).heard m) ⊎ WaitsStill (all_waiting d) m.number ⊎ KnowsEvaluation d.log.part m.number
 
 -- What waits was sent, and no reply to it was heard.
 pub record WaitsUnheard (k : Known) (m : Posted) : Type 0 where
@@ -40,27 +46,36 @@ pub record WaitsUnheard (k : Known) (m : Posted) : Type 0 where
 pub record IsAtOwnEnd {C : Type 0} (d : DeskMeaning C) : Type 0 where
   pub long : length d.log.part.own ≡ d.log.limit
   pub each : All (IsNotLost d) (known_of d.log.part.own).sent
-  pub waits : All (WaitsUnheard (known_of d.log.part.own)) d.posted
+  pub waits : All (WaitsUnheard (known_of d.log.part.own)) (all_waiting d)
 
 -- The list has just as many entries as are stated for its stop, and no message was lost: those that were not evaluated wait.
 pub record IsAtStop {C : Type 0} (d : DeskMeaning C) : Type 0 where
   pub long : d.log.stop ≡ Some (length d.log.part.own)
   pub each : All (IsNotLost d) (known_of d.log.part.own).sent
-  pub waits : All (WaitsUnheard (known_of d.log.part.own)) d.posted
+  pub waits : All (WaitsUnheard (known_of d.log.part.own)) (all_waiting d)
 
 -- The message is spent: its range, which is full, refused it, so it is never evaluated, and no reply to it was heard.
 pub record IsSpent {C : Type 0} (d : DeskMeaning C) (m : Sent) : Type 0 where
   pub refused : WasGivenBack d.range_limit d.log.part m
   pub unheard : is_heard (known_of d.log.part.own).heard m ≡ false
 
--- A range has as many entries as it may have, and refused this message. No message was lost but those that are spent so, and those that wait
--- to be evaluated were sent later.
+-- Where the request puts a write, a call is open.
+abbrev pub PutsInCall : Known → Request → Type 0
+PutsInCall k request = is_put request ≡ true → is_some k.statement ≡ true
+
+-- So it is of each message that waits for the next wave.
+abbrev pub PostsInCall : {C : Type 0} → DeskMeaning C → Type 0
+PostsInCall d = All (λ m. PutsInCall (known_of d.log.part.own) m.request) d.posted
+
+-- A range has as many entries as it may have, and refused this message, in an open call where it puts a write. No message was lost but those that
+-- are spent so, and those that wait to be evaluated, and were not set aside, were sent later.
 pub record IsAtFullRange {C : Type 0} (d : DeskMeaning C) : Type 0 where
   pub message : Sent
   pub sent : Contains (known_of d.log.part.own).sent message
   pub spent : IsSpent d message
+  pub in_call : PutsInCall (known_of d.log.part.own) message.request
   pub others : All (λ m. IsSpent d m ⊎ IsNotLost d m) (known_of d.log.part.own).sent
-  pub waits : All (WaitsUnheard (known_of d.log.part.own)) d.posted
+  pub waits : All (WaitsUnheard (known_of d.log.part.own)) (all_waiting d)
   pub later : All (λ p. message.number < p.number) d.posted
 
 -- The list has ended before its work: at the limit of its entries, at a range that is full, or at its stop.

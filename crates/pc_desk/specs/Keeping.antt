@@ -1,5 +1,5 @@
 -- What each entry of an actor's own list keeps, whatever its script says: each call is asked at the next reading of the actor's clock, and
--- what a session sends, hears and is told in its calls is as its workload has it.
+-- what a session sends, hears and is told in its calls is as its workload has it. Own profile, as workloads are.
 use Rattle.std.specs.Prelude.{ℕ, Bool, Option, List, [], ◌∷◌, ◌++◌, ⊤}
 use Rattle.pc_base.specs.declared.actor.ActorId.{ActorId}
 use Rattle.pc_base.specs.declared.actor.ActorId.TheVariants as actors
@@ -16,13 +16,16 @@ use Rattle.pc_follows.specs.EarlyTell.{TellsEarly}
 use Rattle.pc_follows.specs.Eighth.{StopsAtEighth}
 use Rattle.pc_follows.specs.FinishingJobs.{DoesJobs, jobs_of}
 use Rattle.pc_follows.specs.Heartbeats.{KeepsHeartbeats}
-use Rattle.pc_follows.specs.Rollbacks.{AbortsFirst, TellsRollbacks}
+use Rattle.pc_follows.specs.LastBeats.{BeatsLast}
 use Rattle.pc_follows.specs.OneWrite.{WritesOnce}
+use Rattle.pc_follows.specs.OwnStages.{StagesBesidePuts}
 use Rattle.pc_follows.specs.PieceOrder.{SendsPiecesInOrder}
 use Rattle.pc_follows.specs.PipelinedPuts.{HearsOnlyItsPuts, TellsWritten}
+use Rattle.pc_follows.specs.PipelinedRounds.{MakesRounds}
+use Rattle.pc_follows.specs.Proving.{HearsNothingBehind, ProvesInWaves, WritesBehindProved, WritesLast}
+use Rattle.pc_follows.specs.PutsAgain.{ResendsOnlyAnswered}
 use Rattle.pc_follows.specs.Refreshes.{RefreshesInOneWave, RefreshesReads}
-use Rattle.pc_follows.specs.Resends.{ResendsOnlyAnswered}
-use Rattle.pc_follows.specs.Rounds.{KeepsRounds}
+use Rattle.pc_follows.specs.Rollbacks.{AbortsFirst, TellsRollbacks}
 use Rattle.pc_follows.specs.WaveOrder.{SendsInWave}
 use Rattle.pc_world.specs.Known.{known_of}
 use Rattle.pc_world.specs.Known.Traffic.{Heard, heard_by}
@@ -35,20 +38,26 @@ pub record KeepsSessionStep (splits : List (List ℕ)) (pipelining : Bool) (own 
   pub early_proof : ProvesNothingEarly (known_of own) h
   pub written : TellsWritten pipelining (known_of own) event
   pub puts : HearsOnlyItsPuts (known_of own) h
+  pub proving : ProvesInWaves (known_of own) h
+  pub proved : WritesBehindProved (known_of own) event
+  pub last : WritesLast pipelining (known_of own) event
+  pub behind : HearsNothingBehind pipelining (known_of own) h
+  pub stages : StagesBesidePuts (known_of own) event
   pub resends : ResendsOnlyAnswered (known_of own) event
-  pub calls : SendsForCall (known_of own) event
+  pub calls : SendsForCall pipelining (known_of own) event
   pub beats : KeepsHeartbeats (known_of own) event
+  pub last_beats : BeatsLast (known_of own) event
   pub finishes : DoesJobs (known_of own) (jobs_of own) event
   pub aborts : AbortsFirst (known_of own) event
   pub rolled_back : TellsRollbacks (known_of own) event
   pub writes : WritesOnce (known_of own) event
   pub refreshes : RefreshesReads (known_of own) event
-  pub rounds : KeepsRounds (known_of own) event
-  pub eighth : StopsAtEighth (known_of own) event
+  pub rounds : MakesRounds pipelining (known_of own) event
+  pub eighth : StopsAtEighth pipelining (known_of own) event
   pub waves : SendsInWave own event
   pub pieces : HearsAllPieces splits (known_of own) h
   pub refresh_wave : RefreshesInOneWave (known_of own) h
-  pub again : HearsAllAgain own h
+  pub again : HearsAllAgain pipelining own h
   pub piece_order : SendsPiecesInOrder (known_of own) event
   pub oldest : HearsOldest (known_of own) h
 

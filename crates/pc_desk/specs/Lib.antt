@@ -1,4 +1,5 @@
 -- The own list of an actor that is no range, and its messages on their way.
+pub mod Aside
 pub mod Asks
 pub mod Hearing
 pub mod WholeScan

@@ -1,5 +1,5 @@
 -- What an actor leaves in its outbox, and what it knows once that was evaluated.
-use Rattle.std.specs.Prelude.{◌≡◌, ℕ, ◌<◌, List, ◌∷◌, ◌++◌, All, Contains}
+use Rattle.std.specs.Prelude.{◌≡◌, ℕ, ◌≤◌, nat_lt, Bool, Option, Some, is_some, List, ◌∷◌, ◌++◌, All, Contains}
 use Rattle.pc_base.specs.declared.actor.ActorId.{ActorId}
 use Rattle.pc_desk.specs.Desk.{Posted, WaitingMessage, waiting_as}
 use Rattle.pc_desk.specs.Refused.{GivesBack}
@@ -15,12 +15,20 @@ use Rattle.pc_range.specs.Message.{evaluation}
 use Rattle.pc_wire.specs.declared.verdict.Verdict.{Verdict}
 use Rattle.pc_world.specs.Local.{Head}
 
--- The message was the first of those that are left; the others have greater numbers.
+-- The message was one of those that are left; none of the others has a lower number.
 pub record IsFirstOf (before after : List WaitingMessage) (sender : ActorId) (posted : Posted) : Type 0 where
   pub key : ℕ
   pub verdict : Verdict
-  pub whole : before ≡ waiting_as key sender verdict posted ∷ after
-  pub rises : All (λ w. key < w.key) after
+  pub front : List WaitingMessage
+  pub back : List WaitingMessage
+  pub whole : before ≡ front ++ waiting_as key sender verdict posted ∷ back
+  pub left : after ≡ front ++ back
+  pub least : All (λ w. key ≤ w.key) after
+
+-- What was set aside comes first, of the least numbers of both, if there are any.
+abbrev pub comes_first : Option ℕ → Option ℕ → Bool
+comes_first (Some aside) (Some other) = nat_lt aside other
+comes_first aside _ = is_some aside
 
 -- The actor took notes, and did nothing else.
 pub record HasOnlyLearnt (before after : ActorMeaning Head Event) : Type 0 where
@@ -34,13 +42,13 @@ pub record IsEvaluatedIn (part : Part Event) (w : WaitingMessage) : Type 0 where
   pub place : ℕ
   pub knows : Contains part.known (record { entry = evaluation step w.posted.range part.id w.posted.number reply; place = place; uses = 0 })
 
--- Of these messages those before one were evaluated, and that one was refused and given back, its range being full; those behind it have
--- greater numbers.
+-- Of these messages some were evaluated, and then one was refused and given back, its range being full; those behind it have no lower numbers.
 pub record StopsAt {N : Type 0} {G : Ghosts N CommitWorld} (limit : ℕ) (all : List WaitingMessage) (part : Part Event) (fault : ServeFault N G) : Type 0 where
   pub done : List WaitingMessage
   pub refused : WaitingMessage
   pub behind : List WaitingMessage
-  pub whole : all ≡ done ++ refused ∷ behind
+  pub each : All (λ w. Contains (done ++ refused ∷ behind) w) all
+  pub there : Contains all refused
   pub evaluated : All (IsEvaluatedIn part) done
-  pub rises : All (λ w. refused.key < w.key) behind
+  pub rises : All (λ w. refused.key ≤ w.key) behind
   pub gives : GivesBack limit part.id refused.posted fault

@@ -1,8 +1,7 @@
 -- When the replies that wait to be heard were evaluated, and what may still be evaluated beside them.
 use Rattle.std.specs.Prelude.{◌≡◌, ℕ, ◌<◌, Bool, false, List, [], ◌∷◌, ◌++◌, All, Contains}
 use Rattle.pc_desk.specs.declared.answered.Answered.{Answered}
-use Rattle.pc_follows.specs.WaveEvaluation.{IsInWave}
-use Rattle.pc_follows.specs.WaveOrder.{IsHearing}
+use Rattle.pc_follows.specs.WaveEvaluation.{IsHearingOfWave, IsInWave}
 use Rattle.pc_history.specs.declared.pair.Pair.{Pair}
 use Rattle.pc_history.specs.declared.view.Known.{Known as KnownEntry}
 use Rattle.pc_proto.specs.declared.event.Event.{Event}
@@ -10,9 +9,9 @@ use Rattle.pc_range.specs.Message.{ComesAfter}
 use Rattle.pc_world.specs.Known.{known_of}
 use Rattle.pc_world.specs.Known.Traffic.{Heard}
 
--- The list does not end with a hearing.
+-- The list does not end with a hearing of a wave: where nothing is sent behind a heartbeat, its reply ends none.
 abbrev pub EndsUnheard : List (Pair Event) → Type 0
-EndsUnheard own = (front : List (Pair Event)) (p : Pair Event) → own ≡ front ++ p ∷ [] → IsHearing p.entry.event → ⊥
+EndsUnheard own = (front : List (Pair Event)) (p : Pair Event) → own ≡ front ++ p ∷ [] → IsHearingOfWave (known_of own).sent p.entry.event → ⊥
 
 -- Some entry of the list was made after this step.
 pub record WentOn (own : List (Pair Event)) (step : ℕ) : Type 0 where

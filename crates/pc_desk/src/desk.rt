@@ -1,17 +1,24 @@
-ghost use Rattle.std.specs.Prelude.{◌≡◌, ℕ, ◌+◌, ◌-◌, ◌<◌, ◌≤◌, ◌^◌, [], ◌∷◌, true, Err, length, map, All, IfErr, IfOk, IfNone, IfSome, OnErr, OnOk};
+ghost use Rattle.std.specs.Prelude.{◌≡◌, ℕ, ◌+◌, ◌-◌, ◌<◌, ◌≤◌, ◌^◌, [], ◌∷◌, ◌++◌, true, Err, is_some, length, map, None, All, IfErr, IfOk, IfNone, IfSome, OnErr, OnOk};
+ghost use Rattle.std.specs.BTreeMap.{is_at};
+ghost use Rattle.std.specs.Map.{lookup, remove_entry};
+ghost use Rattle.std.specs.List.Sorted.{IsStrictlySortedBy};
+ghost use Rattle.std.specs.Ordering.{nat_cmp};
 ghost use Rattle.pc_base.specs.Rising.{AreRising};
 ghost use Rattle.pc_desk.specs.declared.halt.Halt.TheVariants as halts;
 ghost use Rattle.pc_desk.specs.Commits.{IsCommitPlace};
-ghost use Rattle.pc_desk.specs.Desk.{DeskMeaning, EndsWithSend, HasDelivered, HasDone, HasHalted, HasHeardFirst, HasKept, HasPosted, HasSentNext, HasSentTo, HasTakenFirst, IsReadyToGo, KeepsTrack, MayHearNow, MaySendNow, MaySendTo, Posted, new_desk, posted_as, uses_by};
-ghost use Rattle.pc_desk.specs.Ending.{EndsOnly};
+ghost use Rattle.pc_desk.specs.Desk.{DeskMeaning, EndsWithSend, HasDelivered, HasDone, HasHalted, HasHeardFirst, HasKept, HasPosted, HasSentNext, HasSentTo, HasTaken, HasTakenFirst, IsReadyToGo, KeepsTrack, MayHearNow, MaySendNow, MaySendTo, Posted, new_desk, posted_as, uses_by};
+ghost use Rattle.pc_desk.specs.Ending.{EndsOnly, PostsInCall, PutsInCall};
+ghost use Rattle.pc_desk.specs.Aside.{HasDropped, HasDroppedFirst, HasJoinedWave, HasSetAside, with_one};
 ghost use Rattle.pc_desk.specs.Keeping.{ReadsEach};
+ghost use Rattle.pc_wire.specs.Outbox.{first_from};
 ghost use Rattle.pc_desk.specs.OwnLog.{HasMadeEntry, IsNoRange, IsOwnLog, MayEnter};
 ghost use Rattle.pc_desk.specs.Refused.{GivesBack};
-ghost use Rattle.pc_desk.specs.Waiting.{IsBehindAll, IsNewest};
+ghost use Rattle.pc_desk.specs.Waiting.{EndsUnheard, IsBehindAll, IsNewest};
 ghost use Rattle.pc_desk.specs.Wave.{EndsFor, HasKeptAll, HasTakenIn, HasTakenWave, IsReply, MayGo, posted_of};
 ghost use Rattle.pc_history.specs.Own.{entries_of};
 ghost use Rattle.pc_history.specs.Parts.{newcomer, noted, told, with_uses, without_uses};
 ghost use Rattle.pc_proto.specs.declared.event.Event.TheVariants as events;
+ghost use Rattle.pc_proto.specs.Requests.{is_put};
 ghost use Rattle.pc_proto.specs.Stamps.{request_stamps};
 ghost use Rattle.pc_world.specs.Known.{known_of};
 ghost use Rattle.pc_wire.specs.declared.verdict.Verdict.TheVariants as verdicts;
@@ -49,6 +56,8 @@ pub struct Desk<'a, N: Named<CommitWorld>, C: Clock, V: Wire, G> {
     /// How many messages were sent.
     sends: u64,
     outbox: Outbox<Message<N>>,
+    /// Messages that were set aside until a wave waits for them.
+    later: Outbox<Message<N>>,
     replies: VecDeque<Answered>,
 }
 
@@ -64,12 +73,14 @@ impl<'a, N: Named<CommitWorld>, C: Clock, V: Wire, G> Model for Desk<'a, N, C, V
       log = d.log;
       sends = d.sends;
       posted = map (λ e. posting e.1.message.number e.1.message.range e.1.message.request (uses_left e.1.message.note.known)) d.outbox.waiting;
+      later = map (λ e. posting e.1.message.number e.1.message.range e.1.message.request (uses_left e.1.message.note.known)) d.later.waiting;
       replies = d.replies.items;
       range_limit = d.ranges.now.limit;
     } };
 
     ghost invariant = { λ d.
         IsDesk d.ranges.now.splits d.log (map (λ e. waiting_as e.0 e.1.message.sender e.1.verdict (posting e.1.message.number e.1.message.range e.1.message.request (uses_left e.1.message.note.known))) d.outbox.waiting)
+        × IsDesk d.ranges.now.splits d.log (map (λ e. waiting_as e.0 e.1.message.sender e.1.verdict (posting e.1.message.number e.1.message.range e.1.message.request (uses_left e.1.message.note.known))) d.later.waiting)
         × ((number : ℕ) → V.rule d.wire number ≡ Deliver) };
 }
 
@@ -106,6 +117,7 @@ impl<'a, N: Named<CommitWorld>, C: Clock, V: Wire, G: Gate> Desk<'a, N, C, V, G>
             wire,
             sends: 0,
             outbox: Outbox::new(alloc),
+            later: Outbox::new(alloc),
             replies: VecDeque::new(alloc),
         }
     }
@@ -284,6 +296,47 @@ impl<'a, N: Named<CommitWorld>, C: Clock, V: Wire, G: Gate> Desk<'a, N, C, V, G>
         self.outbox.add(number, verdict, message)
     }
 
+    /// Sets the message of this number aside, which puts a write: it is delivered once a wave waits for it.
+    pub fn set_aside(&mut self, number: u64) -> Result<(), Halt>
+        requires track { KeepsTrack self.old }
+        requires waits { 1 ≤ posted_as number self.old.posted }
+        requires puts { All (λ m. m.number ≡ number → is_put m.request ≡ true) self.old.posted }
+        ensures ok { OnOk result (HasSetAside self.old self.new number) }
+        ensures clock { self.new.log.clock ≡ self.old.log.clock }
+        ensures err { IfErr result (HasHalted self.old self.new) }
+        ensures ended { IfErr result (EndsOnly (λ made. ⊥) self.old self.new) }
+    {
+        match move_message(&mut self.outbox, &mut self.later, number) {
+            Ok(()) => Ok(()),
+            Err(NoMemory) => Err(self.want_memory()),
+        }
+    }
+
+    /// The least number, from this one on, of a message that was set aside.
+    pub fn next_aside(&self, number: u64) -> Option<u64>
+        ensures first { result ≡ first_from number (map (λ m. m.number) self.now.later) }
+        ensures in_order { IsStrictlySortedBy nat_cmp (map (λ m. m.number) self.now.later) }
+    {
+        self.later.first_from(number)
+    }
+
+    /// The message of this number, which was set aside, goes with the next wave. No reply waits to be heard then, and none of a wave was heard last.
+    pub fn join(&mut self, number: u64) -> Result<(), Halt>
+        requires track { KeepsTrack self.old }
+        requires none_waits { self.old.replies ≡ [] }
+        requires unheard { EndsUnheard self.old.log.part.own }
+        requires aside { 1 ≤ posted_as number self.old.later }
+        ensures ok { OnOk result (HasJoinedWave self.old self.new number) }
+        ensures clock { self.new.log.clock ≡ self.old.log.clock }
+        ensures err { IfErr result (HasHalted self.old self.new) }
+        ensures ended { IfErr result (EndsOnly (λ made. ⊥) self.old self.new) }
+    {
+        match move_message(&mut self.later, &mut self.outbox, number) {
+            Ok(()) => Ok(()),
+            Err(NoMemory) => Err(self.want_memory()),
+        }
+    }
+
     /// Stops for want of memory, of its user's too.
     pub fn want_memory(&mut self) -> Halt
         ensures memory { result ≡ halts.NoMemory }
@@ -305,6 +358,7 @@ impl<'a, N: Named<CommitWorld>, C: Clock, V: Wire, G: Gate> Desk<'a, N, C, V, G>
     pub fn deliver<R: Wait>(&mut self, rt: &R) -> Result<(), Halt>
         requires track { KeepsTrack self.old }
         requires none_waits { self.old.replies ≡ [] }
+        requires in_call { PostsInCall self.old }
         ensures ok { OnOk result (HasDelivered self.old self.new) }
         ensures all { OnOk result (self.new.posted ≡ []) }
         ensures clock { self.new.log.clock ≡ self.old.log.clock }
@@ -425,10 +479,17 @@ impl<'a, N: Named<CommitWorld>, C: Clock, V: Wire, G: Gate> Desk<'a, N, C, V, G>
         }
     }
 
+    /// How many messages were set aside.
+    fn aside(&self) -> usize
+        ensures { result ≡ length self.now.later }
+    {
+        self.later.waiting()
+    }
+
     /// A note of the actor's last entry, behind which the messages that wait are evaluated.
     fn note_last(&mut self) -> Result<Note<CommitWorld, N>, Halt>
         requires track { KeepsTrack self.old }
-        requires some { 1 ≤ length self.old.posted }
+        requires some { 1 ≤ length self.old.posted + length self.old.later }
         ensures behind { IfOk result (λ n. IsBehindAll self.old.log.part.own n.known) }
         ensures plain { IfOk result (λ n. n.known ≡ with_uses 0 n.known) }
         ensures same { OnOk result (self.new ≡ self.old) }
@@ -451,8 +512,10 @@ impl<'a, N: Named<CommitWorld>, C: Clock, V: Wire, G: Gate> Desk<'a, N, C, V, G>
         requires track { KeepsTrack self.old }
         requires some { 1 ≤ length self.old.posted }
         requires newest { IsNewest self.old.log.part.own self.old.replies last.known }
+        requires in_call { PostsInCall self.old }
         ensures ok { OnOk result (HasDelivered self.old self.new) }
         ensures one { OnOk result (length self.old.posted ≡ length self.new.posted + 1) }
+        ensures in_call { OnOk result (PostsInCall self.new) }
         ensures newest { IfOk result (λ n. IsNewest self.new.log.part.own self.new.replies n.known) }
         ensures clock { self.new.log.clock ≡ self.old.log.clock }
         ensures err { IfErr result (HasHalted self.old self.new) }
@@ -465,6 +528,72 @@ impl<'a, N: Named<CommitWorld>, C: Clock, V: Wire, G: Gate> Desk<'a, N, C, V, G>
         match self.ranges.serve(rt, message, Some(last)) {
             Ok(reply) => self.keep_noted(reply),
             Err(fault) => Err(self.refused(fault)),
+        }
+    }
+
+    /// Has the ranges evaluate all that was set aside, in the order of their numbers; the replies are dropped. No message waits to be evaluated then.
+    pub fn deliver_strays<R: Wait>(&mut self, rt: &R) -> Result<(), Halt>
+        requires track { KeepsTrack self.old }
+        requires alone { self.old.posted ≡ [] }
+        requires in_call { is_some (known_of self.old.log.part.own).statement ≡ true }
+        ensures ok { OnOk result (HasDropped self.old self.new) }
+        ensures all { OnOk result (self.new.later ≡ []) }
+        ensures clock { self.new.log.clock ≡ self.old.log.clock }
+        ensures err { IfErr result (HasHalted self.old self.new) }
+        ensures ended { IfErr result (EndsOnly (λ made. ⊥) self.old self.new) }
+    {
+        if self.aside() == 0 {
+            return Ok(());
+        }
+        let mut last = self.note_last()?;
+        while self.aside() > 0 {
+            last = self.deliver_stray(rt, last)?;
+        }
+        Ok(())
+    }
+
+    /// Has the range of the message with the least number that was set aside evaluate it, after what the note tells of. Gives a note of the
+    /// evaluation.
+    fn deliver_stray<R: Wait>(
+        &mut self,
+        rt: &R,
+        last: Note<CommitWorld, N>,
+    ) -> Result<Note<CommitWorld, N>, Halt>
+        requires track { KeepsTrack self.old }
+        requires alone { self.old.posted ≡ [] }
+        requires some { 1 ≤ length self.old.later }
+        requires in_call { is_some (known_of self.old.log.part.own).statement ≡ true }
+        ensures ok { OnOk result (HasDroppedFirst self.old self.new) }
+        ensures clock { self.new.log.clock ≡ self.old.log.clock }
+        ensures err { IfErr result (HasHalted self.old self.new) }
+        ensures ended { IfErr result (EndsOnly (λ made. ⊥) self.old self.new) }
+    {
+        let message = match self.later.take_first() {
+            Some((_, message)) => message,
+            None => unreachable!(),
+        };
+        let served = self.ranges.serve(rt, message, Some(last));
+        match served {
+            Ok(reply) => self.drop_noted(reply),
+            Err(fault) => Err(self.refused(fault)),
+        }
+    }
+
+    /// Knows the evaluation; its reply is dropped. Gives a copy of the evaluation's note.
+    fn drop_noted(&mut self, msg: ReplyMsg<N>) -> Result<Note<CommitWorld, N>, Halt>
+        ensures told { OnOk result (self.new ≡ record self.old { log = record self.old.log { part = told (without_uses 0 msg.note.known) self.old.log.part } }) }
+        ensures log { OnOk result (IsOwnLog self.new.log) }
+        ensures clock { self.new.log.clock ≡ self.old.log.clock }
+        ensures err { IfErr result (HasHalted self.old self.new) }
+        ensures memory { IfErr result (λ halt. halt ≡ halts.NoMemory) }
+    {
+        let mut note = msg.note;
+        match note.again(0) {
+            Ok(copy) => {
+                self.log.take(note);
+                Ok(copy)
+            }
+            Err(NoMemory) => Err(self.want_memory()),
         }
     }
 
@@ -516,7 +645,7 @@ impl<'a, N: Named<CommitWorld>, C: Clock, V: Wire, G: Gate> Desk<'a, N, C, V, G>
         requires { (m : Posted) × (1 ≤ m.uses) × GivesBack self.old.range_limit self.old.log.part.id m fault }
         ensures halted { HasHalted self.old self.new result }
         ensures clock { self.new.log.clock ≡ self.old.log.clock }
-        ensures ended { (old : DeskMeaning C) (m : Posted) → KeepsTrack old → HasTakenFirst old self.old m → 1 ≤ m.uses → GivesBack self.old.range_limit self.old.log.part.id m fault → EndsOnly (λ made. ⊥) old self.new result }
+        ensures ended { (old : DeskMeaning C) (m : Posted) → KeepsTrack old → HasTaken old self.old m → 1 ≤ m.uses → GivesBack self.old.range_limit self.old.log.part.id m fault → PutsInCall (known_of old.log.part.own) m.request → EndsOnly (λ made. ⊥) old self.new result }
     {
         match fault {
             ServeFault::Full {
@@ -577,6 +706,7 @@ impl<'a, N: Named<CommitWorld> + Send + Sync, C: Clock, V: Wire, G: Gate + Sync>
     pub fn deliver_wave<R: Wait + Threads + Sync>(&mut self, rt: &R) -> Result<(), Halt>
         requires track { KeepsTrack self.old }
         requires none_waits { self.old.replies ≡ [] }
+        requires in_call { PostsInCall self.old }
         ensures ok { OnOk result (HasDelivered self.old self.new) }
         ensures all { OnOk result (self.new.posted ≡ []) }
         ensures clock { self.new.log.clock ≡ self.old.log.clock }
@@ -596,6 +726,7 @@ impl<'a, N: Named<CommitWorld> + Send + Sync, C: Clock, V: Wire, G: Gate + Sync>
         requires beside { self.old.log.beside ≡ true }
         requires some { 1 ≤ length self.old.posted }
         requires none_waits { self.old.replies ≡ [] }
+        requires in_call { PostsInCall self.old }
         ensures ok { OnOk result (HasDelivered self.old self.new) }
         ensures all { OnOk result (self.new.posted ≡ []) }
         ensures clock { self.new.log.clock ≡ self.old.log.clock }
@@ -620,10 +751,27 @@ impl<'a, N: Named<CommitWorld>, C: Clock + Drop, V: Wire + Drop, G> Desk<'a, N, 
         ensures actor { (result.0.world ≡ self.entry.log.head) × (result.0.part ≡ self.entry.log.part) }
         ensures log { IsOwnLog self.entry.log }
         ensures reads { ReadsEach (C.rule self.entry.log.clock) self.entry.log.part.own }
-        ensures rest { map (λ w. w.posted) result.1 ≡ self.entry.posted }
+        ensures rest { map (λ w. w.posted) result.1 ≡ self.entry.posted ++ self.entry.later }
         ensures ready { All (IsReadyToGo self.entry.log.part.id self.entry.log.head.splits) result.1 }
     {
-        (self.log.into_actor(), Rest::of(self.outbox))
+        (self.log.into_actor(), Rest::of(self.outbox, self.later))
+    }
+}
+
+/// Moves the message of this number from one outbox to another, where none has this number.
+fn move_message<N: Named<CommitWorld>>(
+    from: &mut Outbox<Message<N>>,
+    to: &mut Outbox<Message<N>>,
+    number: u64,
+) -> Result<(), NoMemory>
+    requires free { lookup (is_at (nat_cmp number)) to.old.waiting ≡ None }
+    ensures gone { from.new ≡ record from.old { waiting = remove_entry (is_at (nat_cmp number)) from.old.waiting } }
+    ensures moved { OnOk result (to.new ≡ record to.old { waiting = with_one number (lookup (is_at (nat_cmp number)) from.old.waiting) to.old.waiting }) }
+    ensures refused { OnErr result (to.new ≡ to.old) }
+{
+    match from.take(number) {
+        Some((verdict, message)) => to.add(number, verdict, message),
+        None => Ok(()),
     }
 }
 

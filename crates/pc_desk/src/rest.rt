@@ -1,6 +1,10 @@
-ghost use Rattle.std.specs.Prelude.{◌≡◌, ℕ, ◌∷◌, [], map, All, IfErr, IfNone, IfSome, OnOk};
+ghost use Rattle.std.specs.Prelude.{◌≡◌, ℕ, ◌∷◌, [], ◌++◌, map, All, IfErr, IfNone, IfSome, OnOk};
+ghost use Rattle.std.specs.List.Sorted.{IsStrictlySortedBy};
+ghost use Rattle.std.specs.Map.{keys_of};
+ghost use Rattle.std.specs.Ordering.{nat_cmp};
 ghost use Rattle.pc_desk.specs.Desk.{IsReadyToGo, posting, waiting_as};
-ghost use Rattle.pc_desk.specs.Rest.{HasOnlyLearnt, IsEvaluatedIn, IsFirstOf, StopsAt};
+ghost use Rattle.pc_desk.specs.Rest.{HasOnlyLearnt, IsEvaluatedIn, IsFirstOf, StopsAt, comes_first};
+ghost use Rattle.pc_wire.specs.Outbox.{first_from};
 ghost use Rattle.pc_history.specs.Parts.{told, uses_left};
 
 use pc_history::{Actor, Named};
@@ -13,23 +17,25 @@ use std::sync::Wait;
 #[derive(Drop)]
 pub struct Rest<N: Named<CommitWorld>> {
     outbox: Outbox<Message<N>>,
+    /// What was set aside.
+    later: Outbox<Message<N>>,
 }
 
 impl<N: Named<CommitWorld>> Model for Rest<N> {
-    ghost use Rattle.std.specs.Prelude.{List, map};
+    ghost use Rattle.std.specs.Prelude.{◌++◌, List, map};
     ghost use Rattle.pc_desk.specs.Desk.{WaitingMessage, posting, waiting_as};
     ghost use Rattle.pc_history.specs.Parts.{uses_left};
 
     ghost Value = { List WaitingMessage };
 
-    ghost view = { λ r. map (λ e. waiting_as e.0 e.1.message.sender e.1.verdict (posting e.1.message.number e.1.message.range e.1.message.request (uses_left e.1.message.note.known))) r.outbox.waiting };
+    ghost view = { λ r. map (λ e. waiting_as e.0 e.1.message.sender e.1.verdict (posting e.1.message.number e.1.message.range e.1.message.request (uses_left e.1.message.note.known))) (r.outbox.waiting ++ r.later.waiting) };
 }
 
 impl<N: Named<CommitWorld>> Rest<N> {
-    pub(crate) fn of(outbox: Outbox<Message<N>>) -> Rest<N>
-        ensures { result ≡ map (λ e. waiting_as e.0 e.1.message.sender e.1.verdict (posting e.1.message.number e.1.message.range e.1.message.request (uses_left e.1.message.note.known))) outbox.waiting }
+    pub(crate) fn of(outbox: Outbox<Message<N>>, later: Outbox<Message<N>>) -> Rest<N>
+        ensures { result ≡ map (λ e. waiting_as e.0 e.1.message.sender e.1.verdict (posting e.1.message.number e.1.message.range e.1.message.request (uses_left e.1.message.note.known))) (outbox.waiting ++ later.waiting) }
     {
-        Rest { outbox }
+        Rest { outbox, later }
     }
 
     /// Takes the message of the least number.
@@ -37,8 +43,28 @@ impl<N: Named<CommitWorld>> Rest<N> {
         ensures first { IfSome result (λ m. IsFirstOf self.old self.new m.sender (posting m.number m.range m.request (uses_left m.note.known))) }
         ensures none { IfNone result (self.old ≡ []) }
     {
+        if comes_first(&self.later, &self.outbox) {
+            let (_, message) = self.later.take_first()?;
+            return Some(message);
+        }
         let (_, message) = self.outbox.take_first()?;
         Some(message)
+    }
+}
+
+/// Whether the message of the least number was set aside.
+fn comes_first<M: Drop>(aside: &Outbox<M>, other: &Outbox<M>) -> bool
+    ensures first { result ≡ comes_first (first_from 0 (map (λ e. e.0) aside.now.waiting)) (first_from 0 (map (λ e. e.0) other.now.waiting)) }
+    ensures in_order { IsStrictlySortedBy nat_cmp (keys_of aside.now.waiting) × IsStrictlySortedBy nat_cmp (keys_of other.now.waiting) }
+{
+    let first = aside.first_from(0);
+    let least = other.first_from(0);
+    match first {
+        Some(first) => match least {
+            Some(least) => first < least,
+            None => true,
+        },
+        None => false,
     }
 }
 

@@ -52,8 +52,8 @@ told_none (Some x) false is = refl
 -- a session that was made with its script is that of its place
 pub runner_begun : {C : Type 0} (work : Workload) (index : ℕ) (stated : SessionWork) (s : ScriptedMeaning C) (d : SessionMeaning C) (head : Head) (part : Part Event) (spare : ℕ) (clock : C) (pipelining beside : Bool) (limit : ℕ) (stop : Option ℕ) (range_limit : ℕ)
     → slice_get work.sessions index ≡ Some stated → IsScripted s → s ≡ record { session = d; script = stated.script; at = opened stated.script work.reruns }
-    → d.desk ≡ new_desk head part spare clock pipelining beside limit stop range_limit → head ≡ head_in_work work → part ≡ newcomer (actors.Session (index + 1)) → beside ≡ is_none work.turns → limit ≡ work.limit → stop ≡ stated.stop → range_limit ≡ work.limit → IsRunnerIn work index s
-runner_begun {C} work index stated s d head part spare clock pipelining beside limit stop range_limit listed scripted is desk head_is part_is beside_is limit_is stop_is range_is =
+    → d.desk ≡ new_desk head part spare clock pipelining beside limit stop range_limit → head ≡ head_in_work work → part ≡ newcomer (actors.Session (index + 1)) → pipelining ≡ work.pipelining → beside ≡ is_none work.turns → limit ≡ work.limit → stop ≡ stated.stop → range_limit ≡ work.limit → IsRunnerIn work index s
+runner_begun {C} work index stated s d head part spare clock pipelining beside limit stop range_limit listed scripted is desk head_is part_is piped_is beside_is limit_is stop_is range_is =
     let on : s.session.desk ≡ new_desk head part spare clock pipelining beside limit stop range_limit = ap (λ (x : ScriptedMeaning C). x.session.desk) is ∙ desk in
     record {
       scripted = scripted;
@@ -63,6 +63,7 @@ runner_begun {C} work index stated s d head part spare clock pipelining beside l
       script = sym (ap (λ (x : ScriptedMeaning C). x.script) is);
       reruns = sym (ap (λ (x : ScriptedMeaning C). x.at.reruns) is ∙ opened_reruns stated.script work.reruns);
       head = ap (λ (x : DeskMeaning C). x.log.head) on ∙ head_is;
+      piped = ap (λ (x : DeskMeaning C). x.log.pipelining) on ∙ piped_is;
       beside = ap (λ (x : DeskMeaning C). x.log.beside) on ∙ beside_is;
       limit = ap (λ (x : DeskMeaning C). x.log.limit) on ∙ limit_is;
       stop = ap (λ (x : DeskMeaning C). x.log.stop) on ∙ stop_is;
@@ -72,10 +73,10 @@ runner_begun {C} work index stated s d head part spare clock pipelining beside l
 -- where it was made
 pub runner_if : {C E : Type 0} (r : Result (ScriptedMeaning C) E) (work : Workload) (index : ℕ) (stated : SessionWork) (d : SessionMeaning C) (head : Head) (part : Part Event) (spare : ℕ) (clock : C) (pipelining beside : Bool) (limit : ℕ) (stop : Option ℕ) (range_limit : ℕ)
     → slice_get work.sessions index ≡ Some stated → IfOk r IsScripted → IfOk r (λ s. s ≡ record { session = d; script = stated.script; at = opened stated.script work.reruns })
-    → d.desk ≡ new_desk head part spare clock pipelining beside limit stop range_limit → head ≡ head_in_work work → part ≡ newcomer (actors.Session (index + 1)) → beside ≡ is_none work.turns → limit ≡ work.limit → stop ≡ stated.stop → range_limit ≡ work.limit → IfOk r (IsRunnerIn work index)
-runner_if (Ok s) work index stated d head part spare clock pipelining beside limit stop range_limit listed scripted is desk head_is part_is beside_is limit_is stop_is range_is =
-    runner_begun work index stated s d head part spare clock pipelining beside limit stop range_limit listed scripted is desk head_is part_is beside_is limit_is stop_is range_is
-runner_if (Err e) work index stated d head part spare clock pipelining beside limit stop range_limit listed scripted is desk head_is part_is beside_is limit_is stop_is range_is = tt
+    → d.desk ≡ new_desk head part spare clock pipelining beside limit stop range_limit → head ≡ head_in_work work → part ≡ newcomer (actors.Session (index + 1)) → pipelining ≡ work.pipelining → beside ≡ is_none work.turns → limit ≡ work.limit → stop ≡ stated.stop → range_limit ≡ work.limit → IfOk r (IsRunnerIn work index)
+runner_if (Ok s) work index stated d head part spare clock pipelining beside limit stop range_limit listed scripted is desk head_is part_is piped_is beside_is limit_is stop_is range_is =
+    runner_begun work index stated s d head part spare clock pipelining beside limit stop range_limit listed scripted is desk head_is part_is piped_is beside_is limit_is stop_is range_is
+runner_if (Err e) work index stated d head part spare clock pipelining beside limit stop range_limit listed scripted is desk head_is part_is piped_is beside_is limit_is stop_is range_is = tt
 
 -- its clock has the rule of its work
 pub clock_if : {C E : Type 0} (r : Result (ScriptedMeaning C) E) (rule : C → ℕ → ℕ → Bool) (given : ℕ → ℕ → Bool) (work : Workload) (index : ℕ) (stated : SessionWork) (d : SessionMeaning C) (at : Position) (clock : C)

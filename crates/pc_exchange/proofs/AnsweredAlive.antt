@@ -7,10 +7,9 @@ use Rattle.std.specs.Option.{option_map_or}
 use Rattle.pc_base.specs.declared.actor.ActorId.TheVariants as actors
 use Rattle.pc_base.specs.declared.transaction.TxnId.{TxnId}
 use Rattle.pc_base.specs.Transaction.{same_txn}
-use Rattle.pc_coord.specs.Events.{IsAnsweredAlive, IsAnsweredUnstaged, ShowsUncommitted, ShowsUnstaged}
+use Rattle.pc_coord.specs.Events.{IsAnsweredAlive, ShowsUncommitted}
 use Rattle.pc_desk.specs.OwnLog.{IsOwnLog, LogMeaning}
 use Rattle.pc_exchange.proofs.HeardKinds.{heard_kind, history_of, is_run, known_there}
-use Rattle.pc_exchange.proofs.NoStages.{none_staging}
 use Rattle.pc_implicit.proofs.Agreed.{agreed, open_there, owned}
 use Rattle.pc_implicit.proofs.Commits.{IsDecided, decided_is_committed, heard_decided}
 use Rattle.pc_implicit.proofs.Did.{session_at}
@@ -27,7 +26,7 @@ use Rattle.pc_proto.specs.declared.request.Request.TheVariants as requests
 use Rattle.pc_proto.specs.declared.view.View.{View}
 use Rattle.pc_proto.specs.declared.view.View.TheVariants as views
 use Rattle.pc_proto.specs.Replies.{view_in}
-use Rattle.pc_proto.specs.Requests.{is_about, subject}
+use Rattle.pc_proto.specs.Requests.{is_about}
 use Rattle.pc_proto.specs.Views.{is_committed_at}
 use Rattle.pc_world.specs.After.{known_at}
 use Rattle.pc_world.specs.Answering.{IsOfSome, IsRecordReply, MayAnswer}
@@ -73,11 +72,6 @@ module _ {C : Type 0} (l : LogMeaning C) (log : IsOwnLog l) where
   open_session : (t : Txn) → open_txn now_known ≡ Some t → l.part.id ≡ actors.Session t.id.session
   open_session t opened = (owned l.part.id _ (known_at l.head l.part.id (history_of l log)).txns t (agreed l.head (history_of l log) (is_run l log) l.part.id).numbered (known_open t opened)).0
 
-  -- no record of the open transaction was shown staging
-  open_unstaged : (h : Heard) → Contains now_known.heard h → (t : Txn) → open_txn now_known ≡ Some t → subject h.request ≡ Some t.id → (epoch ts : ℕ) (writes : List (List ℕ × ℕ)) → h.reply ≡ replies.Status (views.Staging epoch ts writes) → ⊥
-  open_unstaged h there t opened about epoch ts writes told =
-      none_staging l log t.id.session (open_session t opened) h there t.id refl about epoch ts writes (ap view_in told)
-
   module _ (h : Heard) (there : Contains now_known.heard h) (t : Txn) (opened : open_txn now_known ≡ Some t) (none : IsUncommitted t.id now_known.sent now_known.heard) (meta : TxnMeta) (ts now : ℕ) (asked : h.request ≡ requests.Beat meta ts now) (whose : meta.id ≡ t.id) where
     own_session : l.part.id ≡ actors.Session t.id.session
     own_session = open_session t opened
@@ -106,14 +100,11 @@ module _ {C : Type 0} (l : LogMeaning C) (log : IsOwnLog l) where
     beat_uncommitted : ShowsUncommitted h.reply
     beat_uncommitted = by h.reply refl (subst (λ q. MayAnswer q h.reply) asked (heard_kind l log h there))
       where
-        about : subject h.request ≡ Some t.id
-        about = ap subject asked ∙ ap (λ i. Some i) whose
-
         by_view : (view : View) → h.reply ≡ replies.Status view → IsOfSome view → ShowsUncommitted (replies.Status view)
         by_view (views.Pending epoch at) told some = tt
         by_view (views.Aborted epoch why locks) told some = tt
         by_view (views.Committed epoch at locks) told some = absurd (none_committed epoch at locks told)
-        by_view (views.Staging epoch at writes) told some = absurd (open_unstaged h there t opened about epoch at writes told)
+        by_view (views.Staging epoch at writes) told some = tt
         by_view views.Nothing told some = some
 
         by : (told : Reply) → h.reply ≡ told → IsRecordReply told → ShowsUncommitted told
@@ -132,23 +123,4 @@ module _ {C : Type 0} (l : LogMeaning C) (log : IsOwnLog l) where
           let later : IsUncommitted u.0.id now_known.sent now_known.heard =
           subst (λ ms. IsUncommitted u.0.id ms now_known.heard) (sym sent) (subst (λ hs. IsUncommitted u.0.id k.sent hs) (sym heard) (subst (λ id. IsUncommitted id k.sent (k.heard ++ h ∷ [])) (sym u.2) more)) in
           beat_uncommitted h there u.0 u.1 later meta ts now asked (whose ∙ sym u.2)
-      by r asked = tt
-
-  -- and a commit by no stage
-  pub answered_unstaged : (h : Heard) → Contains now_known.heard h → (k : Known) → ((t : Txn) → open_txn k ≡ Some t → (u : Txn) × (open_txn now_known ≡ Some u) × (u.id ≡ t.id)) → IsAnsweredUnstaged k h.request h.reply
-  answered_unstaged h there k open_on = by h.request refl
-    where
-      by : (r : Request) → h.request ≡ r → IsAnsweredUnstaged k r h.reply
-      by (requests.Commit meta ts locks) asked = λ t opened whose.
-          let u = open_on t opened in
-          let about : subject h.request ≡ Some u.0.id = ap subject asked ∙ ap (λ i. Some i) (whose ∙ sym u.2) in
-          shown h.reply refl (λ epoch at writes told. open_unstaged h there u.0 u.1 about epoch at writes told)
-        where
-          shown_view : (view : View) → ((epoch at : ℕ) (writes : List (List ℕ × ℕ)) → view ≡ views.Staging epoch at writes → ⊥) → ShowsUnstaged (replies.Status view)
-          shown_view (views.Staging epoch at writes) none = none epoch at writes refl
-          shown_view view none = tt
-
-          shown : (told : Reply) → h.reply ≡ told → ((epoch at : ℕ) (writes : List (List ℕ × ℕ)) → h.reply ≡ replies.Status (views.Staging epoch at writes) → ⊥) → ShowsUnstaged told
-          shown (replies.Status view) is none = shown_view view (λ epoch at writes same. none epoch at writes (is ∙ ap replies.Status same))
-          shown told is none = tt
       by r asked = tt

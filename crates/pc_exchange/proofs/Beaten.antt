@@ -1,11 +1,12 @@
 -- Messages of a conflict's round leave the heartbeats of the open transaction as they were: none comes due, and none is sent or heard.
-use Rattle.std.proofs.Common.{◌≡◌, ℕ, ◌+◌, ◌≤◌, Bool, ◌||◌, ◌==◌, inl, inr, All, Any, IsTrue, List, [], ◌∷◌, ◌++◌, refl, sym, ap, subst, ◌∙◌}
+use Rattle.std.proofs.Common.{◌≡◌, ℕ, ◌+◌, ◌≤◌, Bool, ◌||◌, ◌==◌, All, Any, IsTrue, List, [], ◌∷◌, ◌++◌, refl, sym, ap, subst, ◌∙◌}
 use Rattle.std.proofs.lemmas.List.{append-nil}
-use Rattle.std.proofs.lemmas.List.Elements.{All-append, All-contains, All-weaker, Contains-append_cases}
+use Rattle.std.proofs.lemmas.List.Elements.{All-append, All-weaker}
 use Rattle.std.proofs.lemmas.List.Folds.{list_any-append}
 use Rattle.std.specs.List.{list_any}
 use Rattle.pc_base.specs.declared.limits.TheConstants.{HEARTBEAT}
 use Rattle.pc_exchange.proofs.Aside.{open_same}
+use Rattle.pc_exchange.proofs.Lists.{any_front}
 use Rattle.pc_exchange.proofs.Timely.{no_beat}
 use Rattle.pc_exchange.specs.Aside.{IsAside, IsLaterAside}
 use Rattle.pc_lists.proofs.Anywhere.{any_kept}
@@ -16,14 +17,6 @@ use Rattle.pc_world.specs.Known.Traffic.{Heard, Sent}
 use Rattle.pc_world.specs.Known.Transactions.{Txn}
 use Rattle.pc_world.specs.Tell.Refusal.{is_heard}
 use Rattle.pc_world.specs.Views.{shows_committed}
-
--- one that is so is in front, where none behind is
-pub any_front : {X : Type 0} (P : X → Type 0) (xs ys : List X) → Any P (xs ++ ys) → All (λ y. P y → ⊥) ys → Any P xs
-any_front P xs ys any none =
-    elim (Contains-append_cases xs ys any.1 (any.0, any.2, any.3)) [
-      | inl front ↦ (front.0, any.1, front.1, front.2, any.4)
-      | inr behind ↦ absurd (All-contains (λ y. P y → ⊥) ys any.1 none behind any.4)
-    ]
 
 -- where two lists are none together, each is none
 front-none : {X : Type 0} (xs ys : List X) → xs ++ ys ≡ [] → xs ≡ []
@@ -64,13 +57,13 @@ module _ (session : ℕ) (start k : Known) (last : ℕ) (later : IsLaterAside se
       subst (All P) (sym later.sent_now)
       (All-append P start.sent_now later.sent_more
       (All-weaker (λ (m : Sent). IsTrue (is_heartbeat m.request) → IsTrue (is_heard start.heard m)) P (λ m on is. still m (on is)) start.sent_now beaten.heard)
-      (All-weaker (λ (m : Sent). IsAside session start m.request) P (λ m aside is. absurd (no_beat m.request aside.kind is)) later.sent_more later.sent_aside))
+      (All-weaker (λ (m : Sent). IsAside session start m.request) P (λ m aside is. absurd (no_beat start m.request aside.kind is)) later.sent_more later.sent_aside))
 
   alive-still : (why : Why) → Any (FindsAborted t why) k.heard_now → ⊥
   alive-still why any =
       beaten.alive why
       (any_front (FindsAborted t why) start.heard_now later.heard_more (subst (Any (FindsAborted t why)) later.heard_now any)
-      (All-weaker (λ (h : Heard). IsAside session start h.request) (λ h. FindsAborted t why h → ⊥) (λ h aside finds. no_beat h.request aside.kind finds.beat) later.heard_more later.heard_aside))
+      (All-weaker (λ (h : Heard). IsAside session start h.request) (λ h. FindsAborted t why h → ⊥) (λ h aside finds. no_beat start h.request aside.kind finds.beat) later.heard_more later.heard_aside))
 
   pub beaten_still : HasBeaten k t
   beaten_still = record { none_due = λ d. beaten.none_due (due-before d); heard = heard-still; alive = alive-still }

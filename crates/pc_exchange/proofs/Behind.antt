@@ -1,9 +1,9 @@
 -- What a round asks for behind its push: each thing once.
-use Rattle.std.proofs.Common.{◌≡◌, zero, suc, ◌⊎◌, false, inl, inr, All, Any, List, [], ◌∷◌, ◌++◌, Some, refl, sym, ap, ◌∙◌, subst, arith}
+use Rattle.std.proofs.Common.{◌≡◌, zero, suc, ◌⊎◌, false, inl, inr, All, Any, List, [], ◌∷◌, ◌++◌, Some, refl, sym, ap, ◌∙◌, subst, arith, true, None}
 use Rattle.std.proofs.lemmas.List.Elements.{All-cons, All-head, All-nil, All-tail}
 use Rattle.pc_base.specs.declared.transaction.TxnId.{TxnId}
 use Rattle.pc_call.specs.Paced.{IsBehindPushOf}
-use Rattle.pc_coord.specs.Rounds.{AreAskedOnce, IsBehindPush}
+use Rattle.pc_coord.specs.Rounds.{AreAskedOnce, IsBehindPush, EndsWithReply, LeavesRoundOn}
 use Rattle.pc_proto.specs.declared.reply.Reply.{Reply}
 use Rattle.pc_proto.specs.declared.reply.Reply.TheVariants as replies
 use Rattle.pc_proto.specs.declared.request.Request.{Request}
@@ -15,6 +15,10 @@ use Rattle.pc_follows.specs.Resends.{RecoveredTo}
 use Rattle.pc_world.specs.Counting.{AtLeast}
 use Rattle.pc_world.specs.Known.Traffic.{Heard}
 use Rattle.pc_world.specs.SameRequest.{IsSamePut, IsSameRequest}
+use Rattle.pc_proto.specs.declared.fate.Fate.{Fate}
+use Rattle.pc_proto.specs.declared.view.View.TheVariants as views
+use Rattle.pc_proto.specs.Views.{final_fate, is_final_view}
+use Rattle.pc_reads.specs.Replies.{unrefreshed_by}
 
 -- ---- lists
 
@@ -85,13 +89,38 @@ recovered_settles_none id view (requests.Recover id2 epoch ts anchor finding) re
 recovered_settles_none id view (requests.Resolve id2 key fate) reply shown other = absurd shown
 recovered_settles_none id view request reply shown other = refl
 
+pub recovered_held : (reply : Reply) (view : View) → reply ≡ replies.Status view → unrefreshed_by reply ≡ None
+recovered_held reply view is = ap unrefreshed_by is
+
+-- a recovery that is final leaves its round going on, and one that is not ends it
+pub recovered_leaves : (id : TxnId) (view : View) (request : Request) (reply : Reply) → RecoveredTo id view request reply → is_final_view view ≡ true → LeavesRoundOn request reply
+recovered_leaves id view (requests.Recover other epoch ts anchor finding) (replies.Status shown) is final = ap is_final_view is.1 ∙ final
+recovered_leaves id view (requests.Recover other epoch ts anchor finding) reply is final = absurd is
+recovered_leaves id view request reply is final = absurd is
+
+pub recovered_ends : (id : TxnId) (view : View) (request : Request) (reply : Reply) → RecoveredTo id view request reply → is_final_view view ≡ false → EndsWithReply request reply
+recovered_ends id view (requests.Recover other epoch ts anchor finding) (replies.Status shown) is final = ap is_final_view is.1 ∙ final
+recovered_ends id view (requests.Recover other epoch ts anchor finding) reply is final = absurd is
+recovered_ends id view request reply is final = absurd is
+
+-- a view that leaves a fate is final
+pub fate_final : (view : View) (fate : Fate) → final_fate view ≡ Some fate → is_final_view view ≡ true
+fate_final (views.Committed epoch ts locks) fate is = refl
+fate_final (views.Aborted epoch why locks) fate is = refl
+fate_final view fate is = absurd cc
+
+pub none_final : (view : View) → final_fate view ≡ None → is_final_view view ≡ false
+none_final (views.Committed epoch ts locks) is = absurd cc
+none_final (views.Aborted epoch why locks) is = absurd cc
+none_final view is = refl
+
 pub recovered_plain : (reply : Reply) (view : View) → reply ≡ replies.Status view → is_conflict reply ≡ false
 recovered_plain reply view is = ap is_conflict is
 
 -- a recovery stands behind the push
-pub recover_behind : (id : TxnId) (h : Heard) → Recovers id h.request → is_conflict h.reply ≡ false → IsBehindPush id h
-recover_behind id h is plain = record { behind = by h.request is; unmet = plain }
+pub recover_behind : (id : TxnId) (h : Heard) → Recovers id h.request → is_conflict h.reply ≡ false → unrefreshed_by h.reply ≡ None → IsBehindPush id h
+recover_behind id h is plain held = record { behind = by h.request is; unmet = plain; held = held }
   where
     by : (request : Request) → Recovers id request → IsBehindPushOf id request
-    by (requests.Recover other epoch ts anchor finding) is = record { about = ap (λ i. Some i) is; no_push = refl }
+    by (requests.Recover other epoch ts anchor finding) is = record { about = ap (λ i. Some i) is; no_push = refl; beside = refl }
     by request is = absurd is

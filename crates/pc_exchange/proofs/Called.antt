@@ -1,5 +1,5 @@
--- What was sent in the open call, and heard at all, was heard in it.
-use Rattle.std.proofs.Common.{◌≡◌, ℕ, ◌+◌, ◌≤◌, nat_lt, Bool, true, false, ◌||◌, ◌==◌, inl, inr, All, Contains, IsTrue, List, [], ◌∷◌, ◌++◌, length, Option, None, Some, refl, sym, ap, subst, ◌∙◌, arith, length-append}
+-- What was sent in the open call, and heard at all, was heard in it; and what was not heard was set aside.
+use Rattle.std.proofs.Common.{◌≡◌, ℕ, zero, suc, ◌+◌, ◌≤◌, nat_lt, Bool, true, false, ◌||◌, ◌==◌, inl, inr, All, Contains, List, [], ◌∷◌, ◌++◌, length, Option, None, Some, refl, sym, ap, subst, ◌∙◌, arith, length-append}
 use Rattle.std.proofs.lemmas.Bool.{eq-eqb, eqb-true}
 use Rattle.std.proofs.lemmas.List.{append-nil}
 use Rattle.std.proofs.lemmas.List.Elements.{All-contains, All-head, All-nil, All-push, All-tail, All-weaker, Contains-append_cases, Contains-append_left, Contains-push}
@@ -10,10 +10,12 @@ use Rattle.pc_base.specs.declared.actor.ActorId.{ActorId}
 use Rattle.pc_base.specs.declared.actor.ActorId.TheVariants as actors
 use Rattle.pc_base.specs.declared.entry.Entry.{Entry}
 use Rattle.pc_desk.proofs.Counting.{any_counts, none_beyond}
+use Rattle.pc_desk.proofs.Turns.{put_aside}
 use Rattle.pc_desk.specs.Desk.{DeskMeaning, answered_as, heard_as_number, posted_as, times_sent}
 use Rattle.pc_desk.specs.OwnLog.{IsNoRange}
 use Rattle.pc_exchange.proofs.HeardKinds.{history_of, is_run, known_there}
 use Rattle.pc_exchange.specs.Growing.{HasAllBack}
+use Rattle.pc_follows.specs.WaveOrder.{IsHeardOrPut}
 use Rattle.pc_history.specs.declared.pair.Pair.{Pair}
 use Rattle.pc_history.specs.Own.{named_in, own}
 use Rattle.pc_implicit.proofs.Doing.{same_or_not}
@@ -181,27 +183,37 @@ module _ {C : Type 0} (d : DeskMeaning C) (back : HasAllBack d) where
   abbrev known : Known
   known = known_of d.log.part.own
 
-  -- where no message is on its way, each that was sent was heard
-  heard-it : (m : Sent) → Contains known.sent m → is_heard known.heard m ≡ true
-  heard-it m there =
-      let sent : list_any (λ (x : Sent). x.number == m.number) known.sent ≡ true = there-passes m.number known.sent m there refl in
-      let some : nat_lt 0 (times_sent m.number known) ≡ true = sym (any_counts (λ (x : Sent). x.number == m.number) known.sent) ∙ sent in
-      let stages = back.track.stages m.number in
-      let none : posted_as m.number d.posted ≡ 0 = ap (posted_as m.number) back.posted in
-      let no : answered_as m.number d.replies ≡ 0 = ap (answered_as m.number) back.replies in
-      let count : heard_as_number m.number known ≡ times_sent m.number known = omega arith in
-      any_counts (λ (h : Heard). h.number == m.number) known.heard ∙ (ap (nat_lt 0) count ∙ some)
+  -- How often the message waits aside, or was a stray.
+  abbrev times_aside : Sent → ℕ
+  times_aside m = posted_as m.number d.later + posted_as m.number back.track.dropped
 
-  pub all_heard_ever : All (λ m. IsTrue (is_heard known.heard m)) known.sent
-  all_heard_ever = all_from_contains (λ m. IsTrue (is_heard known.heard m)) known.sent (λ m there. heard-it m there)
+  -- where no message is on its way, each that was sent was heard, or is a put that was set aside
+  pub heard_or_put : (m : Sent) → Contains known.sent m → IsHeardOrPut known.heard m
+  heard_or_put m there = by (times_aside m) refl
+    where
+      by : (n : ℕ) → times_aside m ≡ n → IsHeardOrPut known.heard m
+      by zero is =
+          let sent : list_any (λ (x : Sent). x.number == m.number) known.sent ≡ true = there-passes m.number known.sent m there refl in
+          let some : nat_lt 0 (times_sent m.number known) ≡ true = sym (any_counts (λ (x : Sent). x.number == m.number) known.sent) ∙ sent in
+          let stages = back.track.stages m.number in
+          let none : posted_as m.number d.posted ≡ 0 = ap (posted_as m.number) back.posted in
+          let no : answered_as m.number d.replies ≡ 0 = ap (answered_as m.number) back.replies in
+          let count : heard_as_number m.number known ≡ times_sent m.number known = omega (arith, stages, none, no, is) in
+          inl (any_counts (λ (h : Heard). h.number == m.number) known.heard ∙ (ap (nat_lt 0) count ∙ some))
+      by (suc n) is = inr (put_aside d back.track m there (omega (arith, is)))
 
-  -- and each that was sent in the open call in it
-  pub all_heard_in_call : All (λ m. IsTrue (is_heard known.heard_now m)) known.sent_now
+  pub all_heard_ever : All (IsHeardOrPut known.heard) known.sent
+  all_heard_ever = all_from_contains (IsHeardOrPut known.heard) known.sent heard_or_put
+
+  -- and what was sent in the open call in it
+  pub all_heard_in_call : All (IsHeardOrPut known.heard_now) known.sent_now
   all_heard_in_call =
       let log = back.track.log in
       let a : Since known = subst Since (known_there d.log log) (since d.log.head d.log.part.id log.client (history_of d.log log) (is_run d.log log)) in
-      all_from_contains (λ m. IsTrue (is_heard known.heard_now m)) known.sent_now (λ m there.
-      All-contains (λ m. is_heard known.heard m ≡ true → is_heard known.heard_now m ≡ true) known.sent_now m a.now there (heard-it m (a.among m there)))
+      all_from_contains (IsHeardOrPut known.heard_now) known.sent_now (λ m there. elim (heard_or_put m (a.among m there)) [
+        | inl heard ↦ inl (All-contains (λ m. is_heard known.heard m ≡ true → is_heard known.heard_now m ≡ true) known.sent_now m a.now there heard)
+        | inr put ↦ inr put
+      ])
 
   -- no message has the next number
   pub next_unsent : times_sent (next_number known) known ≡ 0

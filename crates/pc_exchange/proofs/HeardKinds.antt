@@ -7,7 +7,7 @@ use Rattle.pc_base.specs.declared.entry.Entry.{Entry}
 use Rattle.pc_base.specs.declared.transaction.TxnId.{TxnId}
 use Rattle.pc_base.specs.Timestamp.{greatest}
 use Rattle.pc_desk.specs.OwnLog.{IsOwnLog, LogMeaning}
-use Rattle.pc_exchange.proofs.PastEpochs.{past_then}
+use Rattle.pc_exchange.proofs.PastEpochs.{past_stage_then, past_then}
 use Rattle.pc_implicit.proofs.Agreed.{agreed, owned}
 use Rattle.pc_implicit.proofs.Anchored.{anchor_stays}
 use Rattle.pc_implicit.proofs.Answering.{reply_is_one}
@@ -35,8 +35,10 @@ use Rattle.pc_world.specs.Known.{Known, known_of}
 use Rattle.pc_world.specs.Known.Traffic.{Heard}
 use Rattle.pc_world.specs.Known.Transactions.{Txn}
 use Rattle.pc_world.specs.Run.{IsRun}
+use Rattle.pc_world.specs.StageFate.{SentStage}
 
-anchor_longer : (id : TxnId) (anchor : List ℕ) (front back : List (Entry Event)) → anchor_in id front ≡ Some anchor → anchor_in id (front ++ back) ≡ Some anchor
+-- an anchor stays
+pub anchor_longer : (id : TxnId) (anchor : List ℕ) (front back : List (Entry Event)) → anchor_in id front ≡ Some anchor → anchor_in id (front ++ back) ≡ Some anchor
 anchor_longer id anchor front [] is = ap (anchor_in id) (append-nil front) ∙ is
 anchor_longer id anchor front (e ∷ back) is =
     sym (ap (anchor_in id) (append_assoc front (e ∷ []) back))
@@ -54,7 +56,8 @@ module _ {C : Type 0} (l : LogMeaning C) (log : IsOwnLog l) where
   pub known_there : known_at l.head l.part.id history_of ≡ known_of l.part.own
   known_there = ap known_of log.stands.list
 
-  answered : (h : Heard) → Contains (known_of l.part.own).heard h → WasAnswered l.head history_of l.part.id h.number h.request h.reply
+  -- what was heard was answered so
+  pub answered : (h : Heard) → Contains (known_of l.part.own).heard h → WasAnswered l.head history_of l.part.id h.number h.request h.reply
   answered h there =
       each-contains (IsSo l.head history_of l.part.id) (known_at l.head l.part.id history_of).heard h (heard_is_so l.head history_of is_run l.part.id)
       (subst (λ (k : Known). Contains k.heard h) (sym known_there) there)
@@ -81,6 +84,13 @@ module _ {C : Type 0} (l : LogMeaning C) (log : IsOwnLog l) where
       w = answered h there
 
       by : (r : Request) → h.request ≡ r → IsPastWhereUndecided t r h.reply
+      by (requests.Stage meta ts now writes locks) is = λ whose low view status past.
+          let stage : SentStage = record { meta = meta; ts = ts; now = now; writes = writes; locks = locks } in
+          let told : reply (requests.Stage meta ts now writes locks) (state_at l.head w.range w.front) ≡ replies.Status view = sym (w.answers ∙ ap (λ q. reply q (state_at l.head w.range w.front)) is) ∙ status in
+          let known : Contains (known_at l.head l.part.id history_of).txns t = subst (λ (k : Known). Contains k.txns t) (sym known_there) mine in
+          let of : l.part.id ≡ actors.Session t.id.session = (owned l.part.id _ (known_at l.head l.part.id history_of).txns t (agreed l.head history_of is_run l.part.id).numbered known).0 in
+          let here : Contains (txns_of l.head meta.id history_of) t = subst (λ a. Contains (known_at l.head a history_of).txns t) (of ∙ ap (λ (i : TxnId). actors.Session i.session) (sym whose)) known in
+          past_stage_then l.head w.front w.back (subst (IsRun l.head) (sym w.whole) is_run) w.range stage t (subst (λ history. Contains (txns_of l.head meta.id history) t) (sym w.whole) here) (sym whose) low view told past
       by (requests.Commit meta ts locks) is = λ whose low undecided.
           let told : h.reply ≡ reply (requests.Commit meta ts locks) (state_at l.head w.range w.front) = w.answers ∙ ap (λ q. reply q (state_at l.head w.range w.front)) is in
           let known : Contains (known_at l.head l.part.id history_of).txns t = subst (λ (k : Known). Contains k.txns t) (sym known_there) mine in

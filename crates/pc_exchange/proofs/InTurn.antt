@@ -129,7 +129,7 @@ module _ (start k : Known) (conflict : Heard) (next : IsNextRound start conflict
   conflict_at = record { conflict = conflict; ts = ts; placed = next.placed; met = met }
 
   -- its push goes out in its place
-  pub push_in_turn : (m : Pushing) → m.holder ≡ holder → m.goal ≡ goal_for conflict.request → k.heard_now ≡ start.heard_now → rounds_begun k ≡ rounds_begun start → IsInItsRound k (push_of m) × IsBeforeEighth k (push_of m)
+  pub push_in_turn : (m : Pushing) → m.holder ≡ holder → m.goal ≡ goal_for conflict.request → k.heard_now ≡ start.heard_now → rounds_begun k ≡ rounds_begun start → IsInItsRound k (push_of m) × IsBeforeEighth false k (push_of m)
   push_in_turn m whose aims same begun = (
     record {
       key = key;

@@ -2,9 +2,8 @@
 use Rattle.std.proofs.Common.{◌≡◌, ℕ, zero, suc, ◌+◌, Bool, true, false, cond, is_some, if◌then◌else◌, List, [], ◌∷◌, ◌++◌, fold, map, drop, slice_get, Option, Some, None, refl, sym, ap, ◌∙◌, subst, arith}
 use Rattle.std.proofs.lemmas.Grind.{fold-append}
 use Rattle.pc_base.specs.declared.actor.ActorId.{ActorId}
-use Rattle.pc_coord.specs.Beside.{is_of_round_or_job}
 use Rattle.pc_coord.specs.declared.job.Job.{Job}
-use Rattle.pc_coord.specs.Knows.{messages_of_job}
+use Rattle.pc_coord.specs.Knows.{commit_in_front, messages_of_job}
 use Rattle.pc_exchange.specs.Exchange.{heard_pair, sent_pair}
 use Rattle.pc_exchange.specs.Finishing.{messages_due, with_rest}
 use Rattle.pc_history.specs.declared.pair.Pair.{Pair}
@@ -16,11 +15,12 @@ use Rattle.pc_proto.specs.declared.request.Request.{Request}
 use Rattle.pc_proto.specs.declared.request.Request.TheVariants as requests
 use Rattle.pc_resolve.specs.Resolving.{Resolving, at_end, finishing_after, finishing_due, finishing_heard, finishing_next, lock_resolve, remove_of, unsettled, with_reply}
 use Rattle.pc_world.specs.Answering.{MayAnswer}
-use Rattle.pc_follows.specs.FinishingJobs.{Duty, duty_after, jobs_of, without_first}
+use Rattle.pc_follows.specs.FinishingJobs.{Duty, duty_after, finishing_messages, jobs_of, without_first}
 use Rattle.pc_world.specs.Known.{Known, known_of, learn, nothing_known}
 use Rattle.pc_world.specs.Known.Statements.{Statement}
+use Rattle.pc_wave.specs.Standing.{goes_beside}
 
-less_left : (message : Request) (tail : List Request) (jobs : List (List Request)) → without_first (with_rest (message ∷ tail) jobs) ≡ with_rest tail jobs
+pub less_left : (message : Request) (tail : List Request) (jobs : List (List Request)) → without_first (with_rest (message ∷ tail) jobs) ≡ with_rest tail jobs
 less_left message [] jobs = refl
 less_left message (next ∷ tail) jobs = refl
 
@@ -31,7 +31,7 @@ left_less messages tail request jobs is = ap (λ l. without_first (with_rest l j
 -- What a message that is due leaves of the job.
 pub record IsFirstMessage (m : Resolving) (request : Request) (next : Resolving) : Type 0 where
   pub first : messages_due m ≡ request ∷ messages_due next
-  pub beside : is_of_round_or_job request ≡ true
+  pub beside : goes_beside request ≡ true
 
 drop-at : (xs : List (List ℕ)) (n : ℕ) (x : List ℕ) → slice_get xs n ≡ Some x → drop n xs ≡ x ∷ drop (n + 1) xs
 drop-at [] zero x at = absurd cc
@@ -89,10 +89,10 @@ is_first m next request reply due may made = subst (IsFirstMessage m request) (s
 pub record IsDueFirst (m : Resolving) (request : Request) : Type 0 where
   pub tail : List Request
   pub first : messages_due m ≡ request ∷ tail
-  pub beside : is_of_round_or_job request ≡ true
+  pub beside : goes_beside request ≡ true
 
 due-by : (m next : Resolving) (request other : Request) → other ≡ request → IsFirstMessage m other next → IsDueFirst m request
-due-by m next request other same is = record { tail = messages_due next; first = is.first ∙ ap (λ q. q ∷ messages_due next) same; beside = ap is_of_round_or_job (sym same) ∙ is.beside }
+due-by m next request other same is = record { tail = messages_due next; first = is.first ∙ ap (λ q. q ∷ messages_due next) same; beside = ap goes_beside (sym same) ∙ is.beside }
 
 pub due_first : (m : Resolving) (request : Request) → finishing_next m ≡ machine.Send request → IsDueFirst m request
 due_first m request due = by (unsettled m) refl due
@@ -120,14 +120,28 @@ none_left m due = by (unsettled m) refl due
             ∙ ap (λ b. cond b [] (requests.Remove m.id m.anchor ∷ [])) over
         ending false not due = absurd cc
 
--- a job has a message
-pub job_left : (job : Job) (jobs : List (List Request)) → with_rest (messages_of_job job) jobs ≡ messages_of_job job ∷ jobs
-job_left job jobs = by job.locks
+-- what finishes a transaction has a message
+pub finishing_left : (job : Job) (jobs : List (List Request)) → with_rest (finishing_messages job.meta.id job.fate job.meta.anchor job.locks) jobs ≡ finishing_messages job.meta.id job.fate job.meta.anchor job.locks ∷ jobs
+finishing_left job jobs = by job.locks
   where
-    by : (locks : List (List ℕ)) → with_rest (map (λ lock. requests.Resolve job.meta.id lock job.fate) locks ++ requests.Remove job.meta.id job.meta.anchor ∷ []) jobs
-        ≡ (map (λ lock. requests.Resolve job.meta.id lock job.fate) locks ++ requests.Remove job.meta.id job.meta.anchor ∷ []) ∷ jobs
+    by : (locks : List (List ℕ)) → with_rest (finishing_messages job.meta.id job.fate job.meta.anchor locks) jobs ≡ finishing_messages job.meta.id job.fate job.meta.anchor locks ∷ jobs
     by [] = refl
     by (lock ∷ locks) = refl
+
+-- those of a job that begins with no commit
+pub unstaged_messages : (job : Job) → job.staged ≡ None → messages_of_job job ≡ finishing_messages job.meta.id job.fate job.meta.anchor job.locks
+unstaged_messages job none = ap (λ o. commit_in_front o job ++ finishing_messages job.meta.id job.fate job.meta.anchor job.locks) none
+
+pub staged_messages : (job : Job) (ts : ℕ) → job.staged ≡ Some ts → messages_of_job job ≡ requests.Commit job.meta ts job.locks ∷ finishing_messages job.meta.id job.fate job.meta.anchor job.locks
+staged_messages job ts is = ap (λ o. commit_in_front o job ++ finishing_messages job.meta.id job.fate job.meta.anchor job.locks) is
+
+-- a job has a message
+pub job_left : (job : Job) (jobs : List (List Request)) → with_rest (messages_of_job job) jobs ≡ messages_of_job job ∷ jobs
+job_left job jobs = by job.staged
+  where
+    by : (staged : Option ℕ) → with_rest (commit_in_front staged job ++ finishing_messages job.meta.id job.fate job.meta.anchor job.locks) jobs ≡ (commit_in_front staged job ++ finishing_messages job.meta.id job.fate job.meta.anchor job.locks) ∷ jobs
+    by None = finishing_left job jobs
+    by (Some ts) = refl
 
 -- ---- the jobs of an actor's list after one exchange
 

@@ -1,38 +1,48 @@
 -- A session recovers the holder of a conflict: how the recovery begins, what each exchange of its machine leaves, and how it ends.
-use Rattle.std.proofs.Common.{◌≡◌, ℕ, ◌+◌, ◌≤◌, ◌⊎◌, max, Bool, true, false, All, Contains, List, [], ◌∷◌, ◌++◌, map, take, slice_get, Option, Some, None, is_some, inl, inr, refl, sym, ap, ◌∙◌, subst, arith}
+use Rattle.std.proofs.Common.{◌≡◌, ℕ, ◌+◌, ◌≤◌, ◌⊎◌, max, Bool, true, false, not, All, Contains, List, [], ◌∷◌, ◌++◌, map, take, slice_get, Option, Some, None, is_some, inl, inr, refl, sym, ap, ◌∙◌, subst, arith}
 use Rattle.std.proofs.lemmas.List.{append-nil, append_assoc, map-append}
-use Rattle.std.proofs.lemmas.List.Elements.{All-contains, All-head, All-nil, All-push, Contains-append_right}
+use Rattle.std.proofs.lemmas.List.Elements.{All-contains, All-head, All-nil, All-push, Contains-append_right, Contains-push}
 use Rattle.pc_base.specs.declared.actor.ActorId.{ActorId}
 use Rattle.pc_base.specs.declared.actor.ActorId.TheVariants as actors
 use Rattle.pc_base.specs.declared.transaction.TxnId.{TxnId}
+use Rattle.pc_base.specs.declared.transaction.Who.{Who}
 use Rattle.pc_base.specs.declared.transaction.Who.TheVariants as whos
+use Rattle.pc_base.specs.Transaction.{same_txn}
 use Rattle.pc_call.specs.Paced.{IsBehindPushOf}
 use Rattle.pc_coord.specs.declared.pusher.Pusher.{Pusher}
-use Rattle.pc_coord.specs.Rounds.{IsBehindPush}
+use Rattle.pc_coord.specs.Rounds.{IsBehindPush, LeavesRoundOn}
 use Rattle.pc_desk.specs.Desk.{DeskMeaning}
+use Rattle.pc_desk.specs.OwnLog.{LogMeaning}
 use Rattle.pc_exchange.proofs.Anchored.{anchor_is}
-use Rattle.pc_exchange.proofs.Aside.{no_own, open_same}
+use Rattle.pc_exchange.proofs.Aside.{heard_since, kind_now, open_same}
 use Rattle.pc_exchange.proofs.Behind.{once_push}
 use Rattle.pc_exchange.proofs.Called.{all_heard_in_call}
-use Rattle.pc_exchange.proofs.Going.{answered_by, aside_by, goes_both, goes_none, heard_now_by, jobs_by, part_by, reply_by, rounds_by}
-use Rattle.pc_exchange.proofs.HeardKinds.{heard_now_kind, history_of, is_run, known_there}
+use Rattle.pc_exchange.proofs.Going.{answered_by, aside_by, goes_both, goes_none, heard_now_by, jobs_by, not_same, part_by, reply_by, rounds_by, told_by}
+use Rattle.pc_exchange.proofs.HeardKinds.{heard_now_kind}
+use Rattle.pc_exchange.proofs.HeardSince.{shows_told, told_heard}
 use Rattle.pc_exchange.proofs.InTurn.{goes_on}
 use Rattle.pc_exchange.proofs.Listed.{SeqsRise, staging_rises}
 use Rattle.pc_exchange.proofs.Messages.{left_by_exchange}
-use Rattle.pc_exchange.proofs.NoStages.{none_staging}
+use Rattle.pc_exchange.proofs.NextTurn.{recovers_next}
 use Rattle.pc_exchange.proofs.Places.{one_more, seqs_before}
 use Rattle.pc_exchange.proofs.Rounding.{IsMade, behind_timely, pushes_recovered, query_aside, recover_aside, recovered_come, restood as stood_same, round_same}
-use Rattle.pc_exchange.proofs.Rounds.{made_it, whose}
-use Rattle.pc_exchange.proofs.Timely.{IsTimely, may_exchange}
-use Rattle.pc_exchange.proofs.Unmet.{plain_query, plain_recover, plain_resolve, query_unmet, recover_unmet}
+use Rattle.pc_exchange.proofs.Rounds.{closed_holder, made_it, whose}
+use Rattle.pc_exchange.proofs.RowsDecide.{recover_decides}
+use Rattle.pc_exchange.proofs.Silent.{beside_commits_none, behind_unqueried}
+use Rattle.pc_exchange.proofs.Timely.{IsTimely, IsTurnIn, may_exchange}
+use Rattle.pc_exchange.proofs.ToldViews.{IsStagingView}
+use Rattle.pc_exchange.proofs.Unmet.{plain_query, plain_recover, plain_resolve, query_unmet, recover_unmet, held_query, held_recover, held_resolve}
 use Rattle.pc_exchange.specs.Aside.{IsAside, IsLaterAside}
 use Rattle.pc_exchange.specs.Exchange.{MayExchangeNow, WasExchanged}
+use Rattle.pc_exchange.specs.Growing.{HasGoneBeside}
+use Rattle.pc_exchange.specs.InTurn.{IsFirstConflict, IsNextRound, IsNextRoundIn}
 use Rattle.pc_exchange.specs.Recovering.{AreQueries, HasDecidedInRound, HasQueriedInRound, HasRecoveredInRound, HasRecoveredUpTo, RecoversForRound, MayRecoverInRound, last_recovered}
+use Rattle.pc_exchange.specs.Told.{KeepsTold, StaysDecided}
 use Rattle.pc_exchange.specs.Rounding.{HasComeTo, IsRoundUnderWay, IsUnsureSince, WasPushedOnceFor, pushes_sent}
-use Rattle.pc_implicit.proofs.Agreed.{agreed, owned}
 use Rattle.pc_lists.proofs.Counts.{one_if}
 use Rattle.pc_lists.proofs.Lists.{all_from_contains, contains_cons, contains_head, contains_tail}
-use Rattle.pc_lists.proofs.Same.{same_txn-self}
+use Rattle.pc_lists.proofs.Same.{same_txn-is, same_txn-self}
+use Rattle.pc_proto.specs.declared.fate.Fate.TheVariants as fates
 use Rattle.pc_proto.specs.declared.fate.Finding.{Finding}
 use Rattle.pc_proto.specs.declared.fate.Finding.TheVariants as findings
 use Rattle.pc_proto.specs.declared.machine.MachineNext.{MachineNext}
@@ -57,19 +67,22 @@ use Rattle.pc_recover.specs.declared.progress.Progress.{Progress}
 use Rattle.pc_recover.specs.declared.progress.Progress.TheVariants as progresses
 use Rattle.pc_recover.specs.RecoverKnows.{MayRecover, RecoverKnows, RecoveringMayCome}
 use Rattle.pc_recover.specs.Recovering.{IsRecoveryOf, Recovering, asked_for, is_staging_view, over_by, progress_after, progress_after_deciding, progress_after_query, query_of, recover_of, recovering_after, recovering_at, recovering_due, recovering_heard, recovering_next}
+use Rattle.pc_wave.specs.Standing.{goes_beside}
 use Rattle.pc_world.proofs.Exchange.{heard_ever}
-use Rattle.pc_world.specs.After.{known_at}
 use Rattle.pc_world.specs.Answering.{MayAnswer}
 use Rattle.pc_world.specs.Exchange.{IsAllowed, IsPossibleReply, WasAnswered}
 use Rattle.pc_follows.specs.Eighth.{IsBeforeEighth, MetEighth}
 use Rattle.pc_follows.specs.FinishingJobs.{jobs_of}
 use Rattle.pc_follows.specs.Resends.{RecoveredTo, WasDone}
-use Rattle.pc_follows.specs.Rounds.{IsInItsRound, IsInRound, rounds_begun}
+use Rattle.pc_follows.specs.PipelinedRounds.{RecoversInRound}
+use Rattle.pc_follows.specs.Rounds.{IsInRound, rounds_begun}
 use Rattle.pc_world.specs.Known.{Known, known_of}
 use Rattle.pc_world.specs.Known.Traffic.{Heard}
 use Rattle.pc_world.specs.Known.Transactions.{Txn}
 use Rattle.pc_world.specs.Send.Recovery.{IsOwnName, WasStaging}
+use Rattle.pc_world.specs.Send.Settling.{MaySendResolve}
 use Rattle.pc_world.specs.Views.{anchor_heard}
+use Rattle.pc_reads.specs.Replies.{unrefreshed_by}
 
 -- ---- what was asked for
 
@@ -103,6 +116,11 @@ queries_settle_none : (r : Recovering) (id : TxnId) (heard : List Heard) → Has
 queries_settle_none r id heard q =
     all_from_contains (λ h. is_resolve_of id h.request ≡ false) heard
     (λ h there. let w = queries_are r q.count heard q.asked h there in ap (is_resolve_of id) w.2)
+
+queries_leave_on : (r : Recovering) (heard : List Heard) → HasQueriedInRound r heard → All (λ h. LeavesRoundOn h.request h.reply) heard
+queries_leave_on r heard q =
+    all_from_contains (λ h. LeavesRoundOn h.request h.reply) heard
+    (λ h there. let w = queries_are r q.count heard q.asked h there in subst (λ request. LeavesRoundOn request h.reply) (sym w.2) tt)
 
 -- ---- its beginning
 
@@ -152,21 +170,6 @@ module _ {C : Type 0} (d : DeskMeaning C) (own : TxnId) (holder : TxnMeta) (met 
   shows : view_in heard_unsure.h.reply ≡ Some (views.Staging stands.epoch stands.ts stands.writes)
   shows = ap view_in heard_unsure.told ∙ ap (λ v. Some v) stands.is
 
-  -- the holder is of another session
-  anothers : m.holder.id.session ≡ session → ⊥
-  anothers mine =
-      none_staging d.log under.goes.back.track.log session whose_it heard_unsure.h heard_unsure.there m.holder.id mine (ap subject heard_unsure.asked) stands.epoch stands.ts stands.writes shows
-
-  -- the transactions that the session knew are its own
-  own_txns : (t : Txn) → Contains old_known.txns t → t.id.session ≡ session
-  own_txns t there =
-      let now : Contains mid.txns t = subst (λ ts. Contains ts t) (sym under.aside.txns) there in
-      let known : Contains (known_at d.log.head d.log.part.id (history_of d.log under.goes.back.track.log)).txns t = subst (λ (k : Known). Contains k.txns t) (sym (known_there d.log under.goes.back.track.log)) now in
-      let of : d.log.part.id ≡ actors.Session t.id.session =
-      (owned d.log.part.id _ (known_at d.log.head d.log.part.id (history_of d.log under.goes.back.track.log)).txns t (agreed d.log.head (history_of d.log under.goes.back.track.log) (is_run d.log under.goes.back.track.log) d.log.part.id).numbered known).0 in
-      let same : actors.Session t.id.session ≡ actors.Session session = sym of ∙ whose_it in
-      cc
-
   staging : WasStaging mid.heard holder.id stands.epoch stands.ts stands.writes
   staging = (
     heard_unsure.there.0,
@@ -210,6 +213,7 @@ module _ {C : Type 0} (d : DeskMeaning C) (own : TxnId) (holder : TxnMeta) (met 
         part = [];
         goes = goes_none d under.goes.back;
         aside = subst (IsLaterAside session old_known mid) (sym zero_is) under.aside;
+        told = λ t anchor at anchored committed decides differ. under.told t anchor at anchored committed decides;
         jobs = under.jobs;
         begun = refl;
         epoch = stands.epoch;
@@ -275,39 +279,68 @@ module _ {C : Type 0} (d : DeskMeaning C) (own : TxnId) (holder : TxnMeta) (met 
   begun_one : rounds_begun now_known ≡ rounds_begun first_known + 1
   begun_one = f.begun ∙ (round.begun ∙ ap (λ p. rounds_begun first_known + pushes_sent p) start.decides.unsure)
 
-  made_now : IsMade number first_known round.start.number start.decides.conflict start.decides.reader round.start.met pushing
+  made_now : IsMade number start.decides.old.log.pipelining first_known round.start.number start.decides.conflict start.decides.reader round.start.met pushing
   made_now = made_it start.decides.old start.decides.pusher start.decides.reading start.decides.conflict start.decides.reader pushing d start.decides.ts round
 
   kinds_now : (h : Heard) → Contains now_known.heard_now h → MayAnswer h.request h.reply
   kinds_now = heard_now_kind now.log f.goes.back.track.log
 
   -- while nothing was decided the round goes on
-  round_goes_on : HasQueriedInRound r f.heard → IsInRound now_known pushing.holder.id round.start.met.key
-  round_goes_on q =
+  round_goes_on : HasQueriedInRound r f.heard → IsNextRound first_known round.start.met.h → IsInRound now_known pushing.holder.id round.start.met.key
+  round_goes_on q next =
       let was : WasPushedOnceFor round.start.met.holder.id pushing.goal (replies.Unsure met) f.heard first_known now_known = subst (λ (h : TxnMeta). WasPushedOnceFor h.id pushing.goal (replies.Unsure met) f.heard first_known now_known) round.holder was_pushed in
       let undone : WasDone round.start.met.holder.id round.start.met.key pushing.goal (replies.Unsure met) f.heard → ⊥ = λ done.
       let there : Contains f.heard done.recovery = subst (λ l. Contains l done.recovery) (sym done.whole) (Contains-append_right done.before (done.recovery ∷ done.after) done.recovery (contains_head done.recovery done.after)) in
       All-contains (λ h. (shown : View) → RecoveredTo round.start.met.holder.id shown h.request h.reply → ⊥) f.heard done.recovery (queries_decide_none r round.start.met.holder.id f.heard q) there done.view done.shown in
       subst (λ (h : TxnMeta). IsInRound now_known h.id round.start.met.key) (sym round.holder)
-      (goes_on first_known now_known round.start.met.h round.start.next round.start.met.holder round.start.met.ts round.start.met.key (round.start.met.told ∙ round.start.met.is) pushing.goal (replies.Unsure met) f.heard was begun_one undone)
+      (goes_on first_known now_known round.start.met.h next round.start.met.holder round.start.met.ts round.start.met.key (round.start.met.told ∙ round.start.met.is) pushing.goal (replies.Unsure met) f.heard was begun_one undone)
+
+  -- so where writes are pipelined
+  round_recovers : HasQueriedInRound r f.heard → IsFirstConflict first_known round.start.met.h → RecoversInRound now_known pushing.holder.id
+  round_recovers q next =
+      let was : WasPushedOnceFor round.start.met.holder.id pushing.goal (replies.Unsure met) f.heard first_known now_known = subst (λ (h : TxnMeta). WasPushedOnceFor h.id pushing.goal (replies.Unsure met) f.heard first_known now_known) round.holder was_pushed in
+      subst (λ (h : TxnMeta). RecoversInRound now_known h.id) (sym round.holder)
+      (recovers_next first_known now_known f.aside.txns.first round.start.met.h next round.start.met.holder round.start.met.ts round.start.met.key (round.start.met.told ∙ round.start.met.is)
+      (closed_holder start.decides.old start.decides.pusher start.decides.reading start.decides.conflict start.decides.reader pushing d start.decides.ts round) pushing.goal (replies.Unsure met) f.heard was refl
+      (queries_settle_none r round.start.met.holder.id f.heard q) met refl (queries_decide_none r round.start.met.holder.id f.heard q))
+
+  -- who asks is not the holder
+  asks_other : (w : List ℕ × ℕ) → goes_beside (query_of r w) ≡ true
+  asks_other w =
+      let t = round.start.met.t in
+      let who : record { id = t.id; level = t.priority } ≡ start.decides.pusher = let both = round.start.pushes t round.start.met.open_is in cc both in
+      let own_is : own ≡ t.id = sym start.decides.whose ∙ ap (λ (p : Pusher). p.id) (sym who) in
+      let by_is : r.by ≡ whos.Txn own = ap (λ (r : Recovering). r.by) f.same in
+      let no : same_txn own r.holder.id ≡ false =
+      not_same own r.holder.id (λ e. round.start.met.other (ap (λ (h : TxnMeta). h.id) (sym round.holder) ∙ (its_id ∙ (sym (ap (λ (h : TxnMeta). h.id) holder_is) ∙ (sym e ∙ own_is))))) in
+      ap (λ (b : Who). goes_beside (requests.Query r.holder.id r.epoch w.1 r.ts w.0 b)) by_is ∙ ap not no
+
+  -- a query of it, or its recovery, goes out in its turn
+  queries_in_turn : HasQueriedInRound r f.heard → (pipelining : Bool) → IsNextRoundIn pipelining first_known round.start.met.h → (w : List ℕ × ℕ) → IsTurnIn pipelining now_known (query_of r w)
+  queries_in_turn q false next w = inr (round.start.met.key, subst (λ i. IsInRound now_known i round.start.met.key) (its_id ∙ sym (ap (λ (h : TxnMeta). h.id) holder_is)) (round_goes_on q next))
+  queries_in_turn q true next w = inr (subst (RecoversInRound now_known) (its_id ∙ sym (ap (λ (h : TxnMeta). h.id) holder_is)) (round_recovers q next))
+
+  recovers_in_turn : HasQueriedInRound r f.heard → (pipelining : Bool) → IsNextRoundIn pipelining first_known round.start.met.h → (finding : Finding) → IsTurnIn pipelining now_known (recover_of r finding)
+  recovers_in_turn q false next finding = (round.start.met.key, subst (λ i. IsInRound now_known i round.start.met.key) (its_id ∙ sym (ap (λ (h : TxnMeta). h.id) holder_is)) (round_goes_on q next))
+  recovers_in_turn q true next finding = subst (RecoversInRound now_known) (its_id ∙ sym (ap (λ (h : TxnMeta). h.id) holder_is)) (round_recovers q next)
 
   -- What may be asked for now: beside the coordinator, in time, and not before.
   record MayAskNow (request : Request) : Type 0 where
     aside : IsAside number first_known request
-    timely : IsTimely now_known (jobs_of now.log.part.own) request
+    timely : IsTimely start.decides.old.log.pipelining now_known (jobs_of now.log.part.own) request
     behind : IsBehindPushOf holder.id request
     fresh : All (λ h. h.request ≡ request → ⊥) f.heard
 
-  timely_now : (request : Request) → IsBehindPushOf holder.id request → All (λ h. h.request ≡ request → ⊥) f.heard → (MetEighth now_known request → ⊥) → IsInItsRound now_known request × IsBeforeEighth now_known request → IsTimely now_known (jobs_of now.log.part.own) request
+  timely_now : (request : Request) → IsBehindPushOf holder.id request → All (λ h. h.request ≡ request → ⊥) f.heard → (MetEighth now_known request → ⊥) → IsTurnIn start.decides.old.log.pipelining now_known request × IsBeforeEighth start.decides.old.log.pipelining now_known request → IsTimely start.decides.old.log.pipelining now_known (jobs_of now.log.part.own) request
   timely_now request of fresh unmet turn =
-      behind_timely number first_known round.start.number start.decides.conflict start.decides.reader round.start.met now_known (max start.decides.ts (last_recovered r.progress)) f.aside (all_heard_in_call now f.goes.back) kinds_now (jobs_of now.log.part.own) pushing made_now request
+      behind_timely number start.decides.old.log.pipelining first_known round.start.number start.decides.conflict start.decides.reader round.start.met now_known (max start.decides.ts (last_recovered r.progress)) f.aside round.start.goes (all_heard_in_call now f.goes.back) kinds_now (jobs_of now.log.part.own) pushing made_now request
       (subst (λ i. IsBehindPushOf i request) (sym its_id) of) (replies.Unsure met) f.heard was_pushed fresh unmet turn
 
   -- the next listed write may be asked for
   query_now : (n : ℕ) (w : List ℕ × ℕ) → slice_get r.writes n ≡ Some w → AreQueries r n f.heard → MayAskNow (query_of r w)
   query_now n w at asked =
       let id_is : pushing.holder.id ≡ r.holder.id = its_id ∙ sym (ap (λ (h : TxnMeta). h.id) holder_is) in
-      let of : IsBehindPushOf holder.id (query_of r w) = record { about = ap (λ (h : TxnMeta). Some h.id) holder_is; no_push = refl } in
+      let of : IsBehindPushOf holder.id (query_of r w) = record { about = ap (λ (h : TxnMeta). Some h.id) holder_is; no_push = refl; beside = asks_other w } in
       let rise : SeqsRise 0 r.writes = subst (SeqsRise 0) (sym (writes_is ∙ listed_same)) (rises d own holder met start) in
       let fresh : All (λ h. h.request ≡ query_of r w → ⊥) f.heard =
       all_from_contains (λ h. h.request ≡ query_of r w → ⊥) f.heard
@@ -318,11 +351,12 @@ module _ {C : Type 0} (d : DeskMeaning C) (own : TxnId) (holder : TxnMeta) (met 
       let less = seqs_before r.writes n w from.0 rise at from.1 in
       absurd (omega (arith, seq, less))) in
       let q : HasQueriedInRound r f.heard = record { count = n; asked = asked } in
-      let turn : IsInItsRound now_known (query_of r w) = inr (round.start.met.key, subst (λ i. IsInRound now_known i round.start.met.key) id_is (round_goes_on q)) in
+      let turn = queries_in_turn q start.decides.old.log.pipelining round.start.next w in
       record {
         aside =
             subst (λ i. IsAside number first_known (requests.Query i r.epoch w.1 r.ts w.0 r.by)) id_is
-            (query_aside number first_known round.start.number start.decides.conflict start.decides.reader round.start.met pushing (anothers d own holder met start) (own_txns d own holder met start) r.epoch w.1 r.ts w.0 r.by);
+            (query_aside number start.decides.old.log.pipelining first_known round.start.number start.decides.conflict start.decides.reader round.start.met pushing made_now r.epoch w.1 r.ts w.0 r.by
+            (subst (λ i. goes_beside (requests.Query i r.epoch w.1 r.ts w.0 r.by) ≡ true) (sym id_is) (asks_other w)));
         timely = timely_now (query_of r w) of fresh (query_unmet now_known kinds_now r.holder.id r.epoch w.1 r.ts w.0 r.by) (turn, tt);
         behind = of;
         fresh = fresh;
@@ -335,12 +369,12 @@ module _ {C : Type 0} (d : DeskMeaning C) (own : TxnId) (holder : TxnMeta) (met 
   recover_now : (finding : Finding) → HasQueriedInRound r f.heard → MayAskNow (recover_of r finding)
   recover_now finding q =
       let id_is : pushing.holder.id ≡ r.holder.id = its_id ∙ sym (ap (λ (h : TxnMeta). h.id) holder_is) in
-      let of : IsBehindPushOf holder.id (recover_of r finding) = record { about = ap (λ (h : TxnMeta). Some h.id) holder_is; no_push = refl } in
+      let of : IsBehindPushOf holder.id (recover_of r finding) = record { about = ap (λ (h : TxnMeta). Some h.id) holder_is; no_push = refl; beside = refl } in
       let fresh : All (λ h. h.request ≡ recover_of r finding → ⊥) f.heard =
       all_from_contains (λ h. h.request ≡ recover_of r finding → ⊥) f.heard (λ h there same. let from = queries_are r q.count f.heard q.asked h there in let one : query_of r from.0 ≡ recover_of r finding = sym from.2 ∙ same in cc) in
-      let turn : IsInItsRound now_known (recover_of r finding) = (round.start.met.key, subst (λ i. IsInRound now_known i round.start.met.key) id_is (round_goes_on q)) in
+      let turn = recovers_in_turn q start.decides.old.log.pipelining round.start.next finding in
       record {
-        aside = recover_aside number first_known round.start.number start.decides.conflict start.decides.reader round.start.met pushing made_now (recover_of r finding) (sym id_is);
+        aside = recover_aside number start.decides.old.log.pipelining first_known round.start.number start.decides.conflict start.decides.reader round.start.met pushing made_now (recover_of r finding) (sym id_is);
         timely = timely_now (recover_of r finding) of fresh (recover_unmet now_known kinds_now r.holder.id r.epoch r.ts r.holder.anchor finding) (turn, tt);
         behind = of;
         fresh = fresh;
@@ -366,7 +400,8 @@ module _ {C : Type 0} (d : DeskMeaning C) (own : TxnId) (holder : TxnMeta) (met 
       let ask = ask_now r.progress request f.come (sym due ∙ is) in
       let allowed : IsAllowed now.log.head.splits (actors.Session number) now_known request =
       subst (RecoveringMayCome now.log.head.splits (actors.Session number) mid_known now_known r) is (may now.log.head.splits (actors.Session number) mid_known now_known f.knows) in
-      may_exchange now number request f.goes.back whose_now ask.aside.kind allowed ask.timely
+      may_exchange now number request f.goes.back whose_now (kind_now number first_known now_known (max start.decides.ts (last_recovered r.progress)) f.aside request ask.aside.kind) allowed
+      (subst (λ b. IsTimely b now_known (jobs_of now.log.part.own) request) (sym (ap (λ (l : LogMeaning C). l.pipelining) f.goes.grown.rest ∙ ap (λ (l : LogMeaning C). l.pipelining) round.goes.grown.rest)) ask.timely)
 
   module _ (request : Request) (due : recovering_next r ≡ machine.Send request) (new : DeskMeaning C) (reply : Reply) (x : WasExchanged now new request reply) where
     abbrev h : Heard
@@ -410,6 +445,9 @@ module _ {C : Type 0} (d : DeskMeaning C) (own : TxnId) (holder : TxnMeta) (met 
             decision = h;
             whole = refl;
             queried = queried;
+            told = told;
+            finding = finding;
+            asked = asked;
             shown = subst (λ y. RecoveredTo r.holder.id view request y) (sym told) (subst (λ q. RecoveredTo r.holder.id view q (replies.Status view)) (sym asked) (refl, refl));
             recovers = subst (Recovers r.holder.id) (sym asked) refl;
             before = now_known;
@@ -441,7 +479,10 @@ module _ {C : Type 0} (d : DeskMeaning C) (own : TxnId) (holder : TxnMeta) (met 
       whole = come.whole;
       queried = record { count = come.queried.count; asked = come.queried.asked };
       shown = come.shown;
+      told = come.told;
       recovers = come.recovers;
+      finding = come.finding;
+      asked = come.asked;
       before = come.before;
       since = come.since;
       answered = come.answered;
@@ -458,23 +499,35 @@ module _ {C : Type 0} (d : DeskMeaning C) (own : TxnId) (holder : TxnMeta) (met 
         plain (requests.Push holder by level now goal) of may = let e = of.no_push in absurd cc
         plain q of may = let e = of.about in absurd cc
 
+    held_it : MayAskNow request → unrefreshed_by reply ≡ None
+    held_it ask = plain request ask.behind x.kind
+      where
+        plain : (q : Request) → IsBehindPushOf holder.id q → MayAnswer q reply → unrefreshed_by reply ≡ None
+        plain (requests.Query id epoch seq ts key by) of may = held_query reply may
+        plain (requests.Recover id epoch ts anchor finding) of may = held_recover reply may
+        plain (requests.Resolve id key fate) of may = held_resolve reply may
+        plain (requests.Push holder by level now goal) of may = let e = of.no_push in absurd cc
+        plain q of may = let e = of.about in absurd cc
+
     -- one exchange more
     pub recovering_on : (next : Recovering) → next ≡ recovering_after reply r
         → ((actor : ActorId) (start k later : Known) (request : Request) → RecoverKnows actor start k r → recovering_next r ≡ machine.Send request → WasAnswered k later request reply → IsPossibleReply request reply → RecoverKnows actor start later next)
         → RecoversForRound d own holder met start next new
     recovering_on next made knows =
         let ask = ask_now r.progress request f.come due in
-        let apart = no_own number first_known now_known (max start.decides.ts (last_recovered r.progress)) f.aside request ask.aside in
         let to = come_on r.progress refl f.come due in
-        let of : IsBehindPush holder.id h = record { behind = ask.behind; unmet = unmet_it ask } in
+        let of : IsBehindPush holder.id h = record { behind = ask.behind; unmet = unmet_it ask; held = held_it ask } in
         let last : max (max start.decides.ts (last_recovered r.progress)) (greatest_of (reply_stamps reply)) ≡ max start.decides.ts (last_recovered next.progress) = to.1 ∙ ap (λ (r : Recovering). max start.decides.ts (last_recovered r.progress)) (sym made) in
         record {
           part = f.part ++ part_by now new request reply x;
           goes = goes_both d now new f.part (part_by now new request reply x) f.goes x.goes;
           aside = subst (IsLaterAside number first_known new_known) last (aside_by now new request reply f.goes.back x number first_known (max start.decides.ts (last_recovered r.progress)) f.aside ask.aside);
+          told = λ t anchor at anchored committed decides differ.
+              told_by now new request reply f.goes.back x (kind_now number first_known now_known (max start.decides.ts (last_recovered r.progress)) f.aside request ask.aside.kind) t at
+              (beside_commits_none request ask.behind.beside t.id) (behind_unqueried holder.id request ask.behind t.id differ) committed (f.told t anchor at anchored committed decides differ);
           jobs = jobs_by now new request reply x ∙ (ap (λ s. left_by_exchange s (jobs_of now.log.part.own)) (f.aside.statement ∙ round.start.met.opened) ∙ f.jobs);
           begun =
-              let sent = rounds_by now new request reply f.goes.back x ask.aside.kind apart in
+              let sent = rounds_by now new request reply f.goes.back x in
               let none : one_if (is_some (goal_in request)) ≡ 0 = ap (λ o. one_if (is_some o)) ask.behind.no_push in
               omega (arith, sent, none, f.begun);
           epoch = f.epoch;
@@ -487,7 +540,7 @@ module _ {C : Type 0} (d : DeskMeaning C) (own : TxnId) (holder : TxnMeta) (met 
               ∙ ap (λ (p : Progress). record { holder = holder; epoch = f.epoch; ts = f.ts; writes = f.writes; by = whos.Txn own; progress = p }) (sym (ap (λ (r : Recovering). r.progress) made)));
           knows = knows (actors.Session number) mid_known now_known new_known request f.knows due answered_now x.possible;
           heard = f.heard ++ h ∷ [];
-          more = heard_now_by now new request reply f.goes.back x ask.aside.kind apart ∙ (ap (λ l. l ++ h ∷ []) f.more ∙ append_assoc mid_known.heard_now f.heard (h ∷ []));
+          more = heard_now_by now new request reply f.goes.back x ∙ (ap (λ l. l ++ h ∷ []) f.more ∙ append_assoc mid_known.heard_now f.heard (h ∷ []));
           behind = All-push (IsBehindPush holder.id) f.heard h f.behind of;
           once = once_push holder.id f.heard h f.behind of ask.fresh f.once;
           come = subst (λ (n : Recovering). HasRecoveredUpTo n.progress n (f.heard ++ h ∷ []) mid_known new_known) (sym made) (restood (recovering_heard r.progress reply r) (recovering_heard r.progress reply r) to.0);
@@ -505,6 +558,10 @@ module _ {C : Type 0} (d : DeskMeaning C) (own : TxnId) (holder : TxnMeta) (met 
 
 -- ---- the round goes on by it
 
+push_subject : (id : TxnId) (request : Request) → is_push_of id request ≡ true → subject request ≡ Some id
+push_subject id (requests.Push holder by level now goal) is = ap (λ i. Some i) (same_txn-is holder.id id is)
+push_subject id request is = absurd cc
+
 module _ {C : Type 0} (d : DeskMeaning C) (own : TxnId) (holder : TxnMeta) (met : View) (start : MayRecoverInRound d own holder met) (new : DeskMeaning C) (view : View) (h : HasRecoveredInRound d own holder met start new view) where
   abbrev f : RecoversForRound d own holder met start h.r new
   f = h.recovered
@@ -512,7 +569,7 @@ module _ {C : Type 0} (d : DeskMeaning C) (own : TxnId) (holder : TxnMeta) (met 
   abbrev mine : Pushing
   mine = start.m
 
-  abbrev told : Reply
+  abbrev pub told : Reply
   told = replies.Status view
 
   decided : HasDecidedInRound h.r view f.heard (known_of d.log.part.own) (known_of new.log.part.own)
@@ -520,6 +577,70 @@ module _ {C : Type 0} (d : DeskMeaning C) (own : TxnId) (holder : TxnMeta) (met 
 
   same_id : mine.holder.id ≡ h.r.holder.id
   same_id = is_id d own holder met start ∙ sym (ap (λ (r : Recovering). r.holder.id) f.same)
+
+  -- ---- a transaction of the session that was told committed, and that was recovered
+
+  abbrev first_then : Known
+  first_then = known_of start.decides.old.log.part.own
+
+  its_goes : HasGoneBeside start.decides.old new (start.decides.under.part ++ f.part)
+  its_goes = goes_both start.decides.old d new start.decides.under.part f.part start.decides.under.goes f.goes
+
+  since_then : WasPushedOnceFor mine.holder.id mine.goal (replies.Unsure met) f.heard first_then (known_of new.log.part.own)
+  since_then = was_pushed d own holder met start h.r new f
+
+  heard_more_is : f.aside.heard_more ≡ since_then.push ∷ f.heard
+  heard_more_is = heard_since start.decides.under.start.session first_then (known_of new.log.part.own) (max start.decides.ts (last_recovered h.r.progress)) f.aside (since_then.push ∷ f.heard) since_then.more
+
+  push_there : Contains f.aside.heard_more since_then.push
+  push_there = subst (λ l. Contains l since_then.push) (sym heard_more_is) (contains_head since_then.push f.heard)
+
+  decision_there : Contains f.aside.heard_more decided.decision
+  decision_there =
+      subst (λ l. Contains l decided.decision) (sym heard_more_is)
+      (contains_tail since_then.push f.heard decided.decision (subst (λ l. Contains l decided.decision) (sym decided.whole) (Contains-push decided.queries decided.decision)))
+
+  module _ (t : Txn) (anchor : List ℕ) (at : ℕ) (there : Contains first_then.txns t) (anchored : t.anchor ≡ Some anchor) (committed : t.committed ≡ Some at) (is_holder : t.id ≡ holder.id) where
+    recovered_id : h.r.holder.id ≡ t.id
+    recovered_id = ap (λ (r : Recovering). r.holder.id) f.same ∙ sym is_holder
+
+    -- its push met it staging so
+    met_so : IsStagingView t.epoch at met
+    met_so =
+        let told : view_in since_then.push.reply ≡ Some met = ap view_in since_then.told in
+        let pushed : subject since_then.push.request ≡ Some t.id =
+        push_subject t.id since_then.push.request (subst (λ i. is_push_of i since_then.push.request ≡ true) (is_id d own holder met start ∙ sym is_holder) since_then.pushed) in
+        elim (shows_told start.decides.old new (start.decides.under.part ++ f.part) its_goes start.decides.under.start.back.track start.decides.under.start.session (max start.decides.ts (last_recovered h.r.progress)) f.aside t anchor at there anchored committed since_then.push push_there met pushed told) [
+          | inl shown ↦ absurd (let both : views.Staging f.epoch f.ts f.writes ≡ views.Committed t.epoch at shown.0 = sym f.is ∙ shown.1 in cc both)
+          | inr staged ↦ staged
+        ]
+
+    unstaged : IsStagingView t.epoch at view → ⊥
+    unstaged staged =
+        let both : views.Staging f.epoch f.ts f.writes ≡ views.Staging t.epoch at met_so.0 = sym f.is ∙ met_so.1 in
+        let epoch : f.epoch ≡ t.epoch = cc in
+        let ts : f.ts ≡ at = cc in
+        let epoch_is : t.epoch ≡ h.r.epoch = sym epoch ∙ sym (ap (λ (r : Recovering). r.epoch) f.same) in
+        let ts_is : at ≡ h.r.ts = sym ts ∙ sym (ap (λ (r : Recovering). r.ts) f.same) in
+        let heard : Contains (known_of new.log.part.own).heard decided.decision =
+        subst (λ hs. Contains hs decided.decision) (sym f.aside.heard) (Contains-append_right first_then.heard f.aside.heard_more decided.decision decision_there) in
+        recover_decides new.log f.goes.back.track.log decided.decision heard h.r.holder.id h.r.epoch h.r.ts h.r.holder.anchor decided.finding staged.0 decided.asked
+        (decided.told ∙ ap (λ v. replies.Status v) (staged.1 ∙ (ap (λ e. views.Staging e at staged.0) epoch_is ∙ ap (λ n. views.Staging h.r.epoch n staged.0) ts_is)))
+
+    -- so its recovery shows it committed
+    recovered_shown : MaySendResolve (known_of new.log.part.own) t.id (fates.Committed t.epoch at)
+    recovered_shown =
+        let about : is_about t.id decided.decision.request ≡ true = ap (is_about t.id) decided.asked ∙ (ap (λ i. same_txn i t.id) recovered_id ∙ same_txn-self t.id) in
+        told_heard start.decides.old new (start.decides.under.part ++ f.part) its_goes start.decides.under.start.back.track start.decides.under.start.session (max start.decides.ts (last_recovered h.r.progress)) f.aside t anchor at there anchored committed decided.decision decision_there about view
+        (ap view_in decided.told) unstaged
+
+  -- each stays so
+  told_still : KeepsTold first_then (known_of new.log.part.own)
+  told_still t anchor at anchored committed decides = by (same_txn t.id holder.id) refl
+    where
+      by : (b : Bool) → same_txn t.id holder.id ≡ b → StaysDecided (known_of new.log.part.own) t at
+      by true is = inr (recovered_shown t anchor at decides.0 anchored committed (same_txn-is t.id holder.id is))
+      by false not = f.told t anchor at anchored committed decides (λ same. let both : false ≡ true = sym not ∙ (ap (λ i. same_txn i holder.id) same ∙ same_txn-self holder.id) in cc both)
 
   after_is : round_after told mine ≡ round_heard (pushes.Unsure met) told mine
   after_is = ap (λ p. round_heard p told mine) start.decides.unsure
@@ -536,13 +657,14 @@ module _ {C : Type 0} (d : DeskMeaning C) (own : TxnId) (holder : TxnMeta) (met 
       subst (λ l. WasPushedOnceFor mine.holder.id mine.goal (replies.Unsure met) l first (known_of new.log.part.own)) x.whole (was_pushed d own holder met start h.r new f) in
       let to : HasComeTo (resolve_or (final_fate view) pushes.Over) mine first (known_of new.log.part.own) =
       recovered_come mine first (known_of new.log.part.own) met view x.queries x.decision was (subst (λ i. RecoveredTo i view x.decision.request x.decision.reply) (sym same_id) x.shown)
-      (queries_decide_none h.r mine.holder.id x.queries x.queried) (queries_settle_none h.r mine.holder.id x.queries x.queried) in
+      (queries_decide_none h.r mine.holder.id x.queries x.queried) (queries_settle_none h.r mine.holder.id x.queries x.queried) (queries_leave_on h.r x.queries x.queried) in
       let asks : Asks mine x.decision.request = subst (λ p. AsksAt p mine x.decision.request) (sym start.decides.unsure) (subst (λ i. Recovers i x.decision.request) (sym same_id) x.recovers) in
       record {
         start = u.start;
         part = u.part ++ f.part;
         goes = goes_both start.decides.old d new u.part f.part u.goes f.goes;
         aside = subst (λ p. IsLaterAside u.start.session first (known_of new.log.part.own) (max start.decides.ts (last_recovered p))) h.over f.aside;
+        told = told_still;
         jobs = f.jobs;
         knows =
             knows (actors.Session u.start.session) first x.before (known_of new.log.part.own) x.decision.request

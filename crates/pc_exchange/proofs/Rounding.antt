@@ -3,29 +3,32 @@ use Rattle.std.proofs.Common.{◌≡◌, ℕ, zero, suc, ◌+◌, ◌≤◌, Boo
 use Rattle.std.proofs.lemmas.List.{append_assoc}
 use Rattle.std.proofs.lemmas.List.Elements.{All-cons, All-nil, All-push, All-weaker}
 use Rattle.std.proofs.lemmas.Option.{same_Some}
-use Rattle.std.specs.Option.{option_map_or}
 use Rattle.pc_base.specs.declared.actor.ActorId.TheVariants as actors
 use Rattle.pc_base.specs.declared.transaction.TxnId.{TxnId}
 use Rattle.pc_base.specs.declared.transaction.Who.{Who}
 use Rattle.pc_base.specs.declared.transaction.Who.TheVariants as whos
 use Rattle.pc_base.specs.Transaction.{same_txn}
+use Rattle.pc_call.proofs.Beating.{beaten_so}
 use Rattle.pc_call.specs.Paced.{IsBehindPushOf, KeepsBehindPushes, was_met, was_pushed}
 use Rattle.pc_call.specs.Sending.{IsConflictNow, read_at}
 use Rattle.pc_coord.proofs.Rounds.{behind_no_push, round_no_put}
 use Rattle.pc_coord.specs.declared.pusher.Pusher.{Pusher}
 use Rattle.pc_coord.specs.declared.round.Round.TheVariants as rounds
 use Rattle.pc_coord.specs.Pusher.{IsPusherOf}
-use Rattle.pc_coord.specs.Rounds.{EndsRound, IsBehindPush, IsRefusedRound, IsSettledRound}
+use Rattle.pc_coord.specs.Rounds.{EndsRound, IsBehindPush, IsRefusedRound, IsSettledRound, EndsWithReply, LeavesRoundOn}
 use Rattle.pc_exchange.proofs.Aside.{open_same}
-use Rattle.pc_exchange.proofs.Beaten.{any_front, beaten_still}
-use Rattle.pc_exchange.proofs.Behind.{any_cut, once_push, recover_behind, recovered_one, recovered_plain, recovered_settles_none}
+use Rattle.pc_exchange.proofs.Beaten.{beaten_still}
+use Rattle.pc_exchange.proofs.Behind.{any_cut, once_push, recover_behind, recovered_one, recovered_plain, recovered_settles_none, fate_final, none_final, recovered_ends, recovered_held, recovered_leaves}
+use Rattle.pc_exchange.proofs.Free.{free_still}
 use Rattle.pc_exchange.proofs.Going.{not_same}
 use Rattle.pc_exchange.proofs.InTurn.{push_in_turn}
+use Rattle.pc_exchange.proofs.NextTurn.{push_next}
 use Rattle.pc_exchange.proofs.Pushed.{push_decides}
-use Rattle.pc_exchange.proofs.Timely.{IsTimely}
+use Rattle.pc_exchange.proofs.Timely.{IsTimely, IsTurnIn}
 use Rattle.pc_exchange.proofs.Unmet.{push_unmet}
 use Rattle.pc_exchange.specs.Aside.{IsAside, IsLaterAside}
-use Rattle.pc_exchange.specs.InTurn.{IsNextRound}
+use Rattle.pc_exchange.specs.InTurn.{IsNextRoundIn}
+use Rattle.pc_exchange.specs.Rounds.{MayGoInCall, course_of}
 use Rattle.pc_exchange.specs.Rounding.{HasComeTo, IsUnsureSince, LeavesFateSince, WasPushedOnceFor, pushes_sent}
 use Rattle.pc_lists.proofs.Anywhere.{any_last}
 use Rattle.pc_lists.proofs.Counts.{count-append, count-cons, one_if}
@@ -38,32 +41,32 @@ use Rattle.pc_proto.specs.declared.reply.Reply.TheVariants as replies
 use Rattle.pc_proto.specs.declared.request.Request.{Request}
 use Rattle.pc_proto.specs.declared.request.Request.TheVariants as requests
 use Rattle.pc_proto.specs.declared.view.View.{View}
-use Rattle.pc_proto.specs.Replies.{ConflictsWith, is_conflict, is_conflict_with, is_refused, view_in}
-use Rattle.pc_proto.specs.Requests.{Recovers, goal_in, is_about, is_push_of, is_resolve_of, round_of}
+use Rattle.pc_proto.specs.Replies.{ConflictsWith, is_conflict, is_conflict_with, is_refused}
+use Rattle.pc_proto.specs.Requests.{Recovers, goal_in, is_push_of, is_put, is_resolve_of, round_of}
 use Rattle.pc_proto.specs.Stamps.{goal_stamps, reply_stamps, view_stamps}
-use Rattle.pc_proto.specs.Views.{fate_after, final_fate, is_committed_at, is_staging_at}
+use Rattle.pc_proto.specs.Views.{fate_after, final_fate}
 use Rattle.pc_push.specs.declared.progress.Progress.{Progress}
 use Rattle.pc_push.specs.declared.progress.Progress.TheVariants as progresses
 use Rattle.pc_push.specs.PushKnows.{Asks, AsksAt, MayPush}
 use Rattle.pc_push.specs.Pushing.{Pushing, goal_of, holder_resolve, progress_after_push, progress_after_recovery, push_of, resolve_or, round_after, round_due, round_heard}
 use Rattle.pc_world.specs.Answering.{MayAnswer}
 use Rattle.pc_wave.proofs.Lists.{at_least-before}
+use Rattle.pc_wave.specs.Standing.{goes_beside}
 use Rattle.pc_world.specs.Counting.{AtLeast}
 use Rattle.pc_world.specs.Exchange.{IsPossibleReply}
-use Rattle.pc_follows.specs.EarlyTell.{IsCommitKnown}
 use Rattle.pc_follows.specs.Eighth.{IsBeforeEighth, MetEighth}
 use Rattle.pc_follows.specs.Heartbeats.{HasBeaten}
 use Rattle.pc_follows.specs.Resends.{HasMoreConflicts, MayGoAgain, RecoveredTo, WasDone}
-use Rattle.pc_follows.specs.Rounds.{IsInItsRound, LeavesFate, rounds_begun}
-use Rattle.pc_world.specs.Known.{Known, call_in, open_txn, reading_of}
+use Rattle.pc_follows.specs.Rounds.{LeavesFate, rounds_begun}
+use Rattle.pc_follows.specs.WaveOrder.{IsHeardOrPut}
+use Rattle.pc_world.specs.Known.{Known, open_txn, reading_of}
 use Rattle.pc_world.specs.Known.Traffic.{Heard, Sent}
 use Rattle.pc_world.specs.Known.Transactions.{Txn}
 use Rattle.pc_world.specs.SameRequest.{IsSameRequest}
 use Rattle.pc_world.specs.Send.Push.{goal_for}
 use Rattle.pc_world.specs.Send.Settling.{ResolvedTo}
-use Rattle.pc_world.specs.Tell.End.{shows_staging}
 use Rattle.pc_world.specs.Tell.Refusal.{is_heard}
-use Rattle.pc_world.specs.Views.{shows_committed}
+use Rattle.pc_reads.specs.Replies.{unrefreshed_by}
 
 -- ---- counts
 
@@ -95,82 +98,87 @@ same_push : (m : Pushing) (h : Heard) → IsSameRequest (push_of m) h.request �
 same_push m h (inl same) = sym (ap (is_push_of m.holder.id) same) ∙ same_txn-self m.holder.id
 same_push m h (inr put) = absurd put
 
+round_unput : (request : Request) (id : TxnId) → round_of request ≡ Some id → is_put request ≡ false
+round_unput (requests.Put meta seq ts key value) id round = absurd cc
+round_unput request id round = refl
+
 -- ---- the messages of the round
 
-module _ (session : ℕ) (start : Known) (number : ℕ) (conflict : Reply) (reader : Option ℕ) (met : IsConflictNow start number conflict reader) where
+module _ (session : ℕ) (pipelining : Bool) (start : Known) (number : ℕ) (conflict : Reply) (reader : Option ℕ) (met : IsConflictNow (course_of pipelining) start number conflict reader) where
   -- The machine makes this round, and its holder was begun.
   pub record IsMade (m : Pushing) : Type 0 where
     pub holder : m.holder ≡ met.holder
     pub begun : m.holder.id.session ≡ session → m.holder.id.number ≤ start.begun
 
+  -- the holder is not the open transaction
+  other-holder : (m : Pushing) → IsMade m → (t : Txn) → open_txn start ≡ Some t → same_txn m.holder.id t.id ≡ false
+  other-holder m made t opened =
+      let is_t : met.t ≡ t = let both = sym met.open_is ∙ opened in cc both in
+      not_same m.holder.id t.id (λ e. met.other (sym (ap (λ (h : TxnMeta). h.id) made.holder) ∙ (e ∙ sym (ap (λ (t : Txn). t.id) is_t))))
+
   pub push_aside : (m : Pushing) → IsMade m → IsAside session start (push_of m)
   push_aside m made = record {
-    kind = refl;
-    begun = λ id about whose.
-        let same : m.holder.id ≡ id = cc in
-        subst (λ (id : TxnId). id.number ≤ start.begun) same (made.begun (ap (λ (id : TxnId). id.session) same ∙ whose));
-    other = λ t opened.
-        let is_t : met.t ≡ t = let both = sym met.open_is ∙ opened in cc both in
-        not_same m.holder.id t.id (λ e. met.other (sym (ap (λ (h : TxnMeta). h.id) made.holder) ∙ (e ∙ sym (ap (λ (t : Txn). t.id) is_t))));
-    query_of = tt;
-    unqueried = λ t there. refl;
+    kind = inl refl;
+    own = record {
+      write = tt;
+      record_of = λ id about whose.
+          let same : m.holder.id ≡ id = cc in
+          subst (λ (id : TxnId). id.number ≤ start.begun) same (made.begun (ap (λ (id : TxnId). id.session) same ∙ whose));
+      query_of = tt;
+    };
+    other = other-holder m made;
+    unqueried = λ t opened. refl;
   }
 
   pub resolve_aside : (m : Pushing) (fate : Fate) → IsAside session start (holder_resolve m fate)
-  resolve_aside m fate = record { kind = refl; begun = λ id about whose. absurd cc; query_of = tt; other = λ t opened. refl; unqueried = λ t there. refl }
+  resolve_aside m fate = record { kind = inl refl; own = record { write = tt; record_of = λ id about whose. absurd cc; query_of = tt }; other = λ t opened. refl; unqueried = λ t opened. refl }
 
   -- a recovery speaks of the record as the push does
   pub recover_aside : (m : Pushing) → IsMade m → (request : Request) → Recovers m.holder.id request → IsAside session start request
   recover_aside m made (requests.Recover id epoch ts anchor finding) is =
       let push = push_aside m made in
       record {
-        kind = refl;
-        begun = λ other about whose.
-            let same : id ≡ other = cc in
-            push.begun other (ap (λ i. Some i) (sym is ∙ same)) whose;
-        query_of = tt;
+        kind = inl refl;
+        own = record {
+          write = tt;
+          record_of = λ other about whose.
+              let same : id ≡ other = cc in
+              push.own.record_of other (ap (λ i. Some i) (sym is ∙ same)) whose;
+          query_of = tt;
+        };
         other = λ t opened. subst (λ i. same_txn i t.id ≡ false) (sym is) (push.other t opened);
-        unqueried = λ t there. refl;
+        unqueried = λ t opened. refl;
       }
   recover_aside m made request is = absurd is
 
-  -- and a query asks for a write of another session's transaction
-  pub query_aside : (m : Pushing) → (m.holder.id.session ≡ session → ⊥) → ((t : Txn) → Contains start.txns t → t.id.session ≡ session) → (epoch seq ts : ℕ) (key : List ℕ) (by : Who) → IsAside session start (requests.Query m.holder.id epoch seq ts key by)
-  query_aside m anothers own epoch seq ts key by = record {
-    kind = refl;
-    begun = λ id about whose. absurd cc;
-    query_of = λ mine. absurd (anothers mine);
+  -- and a query asks for a write of the holder
+  pub query_aside : (m : Pushing) → IsMade m → (epoch seq ts : ℕ) (key : List ℕ) (by : Who) → goes_beside (requests.Query m.holder.id epoch seq ts key by) ≡ true → IsAside session start (requests.Query m.holder.id epoch seq ts key by)
+  query_aside m made epoch seq ts key by beside = record {
+    kind = inl beside;
+    own = record { write = tt; record_of = λ id about whose. absurd cc; query_of = made.begun };
     other = λ t opened. refl;
-    unqueried = λ t there. not_same m.holder.id t.id (λ e. anothers (ap (λ (i : TxnId). i.session) e ∙ own t there));
+    unqueried = other-holder m made;
   }
 
-  module _ (k : Known) (last : ℕ) (later : IsLaterAside session start k last) (answered : All (λ m. IsTrue (is_heard k.heard_now m)) k.sent_now) (kinds : (h : Heard) → Contains k.heard_now h → MayAnswer h.request h.reply) (waiting : List (List Request)) where
-    -- what was heard since speaks of no record of the open transaction
-    heard-before : (t : Txn) → open_txn start ≡ Some t → (p : Heard → Bool) → ((h : Heard) → is_about t.id h.request ≡ false → p h ≡ false) → Any (λ h. IsTrue (p h)) k.heard → Any (λ h. IsTrue (p h)) start.heard
-    heard-before t opened p none any =
-        any_front (λ h. IsTrue (p h)) start.heard later.heard_more (subst (Any (λ h. IsTrue (p h))) later.heard any)
-        (All-weaker (λ (h : Heard). IsAside session start h.request) (λ h. IsTrue (p h) → ⊥) (λ h aside is. let no : p h ≡ false = none h (aside.other t opened) in cc) later.heard_more later.heard_aside)
+  module _ (k : Known) (last : ℕ) (later : IsLaterAside session start k last) (free : MayGoInCall pipelining start) (answered : All (IsHeardOrPut k.heard_now) k.sent_now) (kinds : (h : Heard) → Contains k.heard_now h → MayAnswer h.request h.reply) (waiting : List (List Request)) where
+    -- the next message may go out as this one did
+    now_free : MayGoInCall pipelining k
+    now_free = free_still session start k last later pipelining free answered
 
-    not_decided : (t : Txn) (ts : ℕ) → IsCommitKnown k t ts → ⊥
-    not_decided t ts d =
-        let opened : open_txn start ≡ Some t = sym (open_same session start k last later) ∙ d.opened in
-        met.undecided t ts (record {
-          opened = opened;
-          asked = sym (ap call_in later.statement) ∙ d.asked;
-          why = elim d.why [
-            | inl was ↦ inl (heard-before t opened (shows_committed t.id ts) (λ h none. ap (λ b. b && option_map_or (is_committed_at ts) (view_in h.reply) false) none) was)
-            | inr implicit ↦ inr (record { staging = heard-before t opened (shows_staging t.id t.epoch ts) (λ h none. ap (λ b. b && option_map_or (is_staging_at t.epoch ts) (view_in h.reply) false) none) implicit.staging; proved = implicit.proved })
-          ];
-        })
+    -- what is of a round is no put
+    answered-one : (request : Request) (id : TxnId) → round_of request ≡ Some id → (m : Sent) → IsHeardOrPut k.heard_now m → IsSameRequest request m.request → IsTrue (is_heard k.heard_now m)
+    answered-one request id round m (inl heard) same = heard
+    answered-one request id round m (inr put) (inl same) = absurd (let none = round_unput m.request id (ap round_of (sym same) ∙ round) in let both : false ≡ true = sym none ∙ put in cc both)
+    answered-one request id round m (inr put) (inr also) = absurd (round_no_put request m.request id round also)
 
     in_call : k.statement ≡ Some met.s
     in_call = later.statement ∙ met.opened
 
-    timely : (request : Request) (id : TxnId) → round_of request ≡ Some id → (MetEighth k request → ⊥) → IsInItsRound k request × IsBeforeEighth k request → HasMoreConflicts k request id → IsTimely k waiting request
+    timely : (request : Request) (id : TxnId) → round_of request ≡ Some id → (MetEighth k request → ⊥) → IsTurnIn pipelining k request × IsBeforeEighth pipelining k request → HasMoreConflicts k request id → IsTimely pipelining k waiting request
     timely request id round unmet turn more = record {
-      undecided = not_decided;
+      undecided = now_free.undecided;
       again = λ s opened any. (
-        All-weaker (λ (m : Sent). IsTrue (is_heard k.heard_now m)) (λ (m : Sent). IsSameRequest request m.request → IsTrue (is_heard k.heard_now m)) (λ m heard same. heard) k.sent_now answered,
+        All-weaker (IsHeardOrPut k.heard_now) (λ (m : Sent). IsSameRequest request m.request → IsTrue (is_heard k.heard_now m)) (answered-one request id round) k.sent_now answered,
         subst (MayGoAgain k request) (sym round) more,
       );
       kind = λ s opened. inr (id, round);
@@ -180,26 +188,34 @@ module _ (session : ℕ) (start : Known) (number : ℕ) (conflict : Reply) (read
       beats = λ s t opened is.
           let open_then : open_txn start ≡ Some t = sym (open_same session start k last later) ∙ is in
           let is_t : met.t ≡ t = let both = sym met.open_is ∙ open_then in cc both in
-          subst (HasBeaten k) is_t (beaten_still session start k last later met.t met.beaten);
+          subst (HasBeaten k) is_t (beaten_still session start k last later met.t (beaten_so false start met.t met.beaten refl));
+      beaten_last = λ s opened. now_free.beaten_last;
+      unsent = now_free.unsent;
+      proved = now_free.proved;
+      heard = λ s opened. now_free.heard;
     }
 
     -- more conflicts with the holder were heard than pushes of it
-    pub push_timely : (m : Pushing) → IsMade m → IsNextRound start met.h → m.goal ≡ goal_for met.h.request → rounds_begun k ≡ rounds_begun start → k.heard_now ≡ start.heard_now → IsTimely k waiting (push_of m)
+    pub push_timely : (m : Pushing) → IsMade m → IsNextRoundIn pipelining start met.h → m.goal ≡ goal_for met.h.request → rounds_begun k ≡ rounds_begun start → k.heard_now ≡ start.heard_now → IsTimely pipelining k waiting (push_of m)
     push_timely m made next aims begun same =
         let id = m.holder.id in
         let is : id ≡ met.holder.id = ap (λ (h : TxnMeta). h.id) made.holder in
         let low : count_by (was_pushed id) start.heard_now + 1 ≤ count_by (was_met id) start.heard_now =
         subst (λ id. count_by (was_pushed id) start.heard_now + 1 ≤ count_by (was_met id) start.heard_now) (sym is) met.pushes in
-        let turn = push_in_turn start k met.h next met.holder met.ts met.key (met.told ∙ met.is) m made.holder aims same begun in
+        let turn = turn_of pipelining next in
         timely (push_of m) id refl (push_unmet k kinds m) turn (λ n many.
         let a : n ≤ count_by (was_pushed id) k.heard_now = at_least-count (λ h. IsSameRequest (push_of m) h.request) (was_pushed id) (same_push m) n k.heard_now many in
         let b : count_by (was_pushed id) k.heard_now ≡ count_by (was_pushed id) start.heard_now = ap (count_by (was_pushed id)) same in
         let d : count_by (was_met id) k.heard_now ≡ count_by (was_met id) start.heard_now = ap (count_by (was_met id)) same in
         count-at_least (λ h. IsTrue (is_conflict_with id h.reply)) (was_met id) (λ h is. is) (n + 1) k.heard_now (omega (arith, a, b, d, low)))
+      where
+        turn_of : (pipelining : Bool) → IsNextRoundIn pipelining start met.h → IsTurnIn pipelining k (push_of m) × IsBeforeEighth pipelining k (push_of m)
+        turn_of false next = push_in_turn start k met.h next met.holder met.ts met.key (met.told ∙ met.is) m made.holder aims same begun
+        turn_of true next = (push_next start k later.txns.first met.h next met.holder met.ts met.key (met.told ∙ met.is) m made.holder aims same, tt)
 
     -- and than requests that stand behind it
     pub behind_timely : (m : Pushing) → IsMade m → (request : Request) → IsBehindPushOf m.holder.id request → (reply : Reply) (heard : List Heard) → WasPushedOnceFor m.holder.id m.goal reply heard start k → All (λ h. h.request ≡ request → ⊥) heard
-        → (MetEighth k request → ⊥) → IsInItsRound k request × IsBeforeEighth k request → IsTimely k waiting request
+        → (MetEighth k request → ⊥) → IsTurnIn pipelining k request × IsBeforeEighth pipelining k request → IsTimely pipelining k waiting request
     behind_timely m made request of reply heard was fresh unmet turn =
         let id = m.holder.id in
         let is : id ≡ met.holder.id = ap (λ (h : TxnMeta). h.id) made.holder in
@@ -230,9 +246,9 @@ low_goal None top low = All-nil (λ ts. ts ≤ top + 1)
 low_goal (Some ts) top low = All-cons (λ ts. ts ≤ top + 1) (ts + 1) [] (omega (arith, low)) (All-nil (λ ts. ts ≤ top + 1))
 
 -- the session may push the holder
-pub may_push : (session : ℕ) (k : Known) (number : ℕ) (conflict : Reply) (reader : Option ℕ) (met : IsConflictNow k number conflict reader) (pusher : Pusher) (reading : ℕ) → IsPusherOf k (Some pusher) → reading_of k ≡ Some reading
+pub may_push : (session : ℕ) (k : Known) (pipelining : Bool) (number : ℕ) (conflict : Reply) (reader : Option ℕ) (met : IsConflictNow (course_of pipelining) k number conflict reader) (pusher : Pusher) (reading : ℕ) → IsPusherOf k (Some pusher) → reading_of k ≡ Some reading
     → (m : Pushing) → m.holder ≡ met.holder → m.by ≡ whos.Txn pusher.id → m.level ≡ pusher.level → m.reading ≡ reading → m.goal ≡ goal_of reader → MayPush (actors.Session session) k m
-may_push session k number conflict reader met pusher reading pushes read m holder by level now goal =
+may_push session k pipelining number conflict reader met pusher reading pushes read m holder by level now goal =
     let who : record { id = met.t.id; level = met.t.priority } ≡ pusher = let both = pushes met.t met.open_is in cc both in
     let goal_is : m.goal ≡ goal_for met.h.request = goal ∙ (ap goal_of met.reads ∙ goal_reads met.h.request) in
     let holds : ConflictsWith m.holder met.h.reply = subst (ConflictsWith m.holder) (sym (met.told ∙ met.is)) (sym holder) in
@@ -260,7 +276,7 @@ sends_asks progresses.Over m request is = absurd cc
 
 -- the intent was recovered: it is settled next where the recovery's view is final, and else the round is over
 module _ (m : Pushing) (start k : Known) (met view : View) (queries : List Heard) (h : Heard) (was : WasPushedOnceFor m.holder.id m.goal (replies.Unsure met) (queries ++ h ∷ []) start k) (shown : RecoveredTo m.holder.id view h.request h.reply)
-    (none : All (λ g. (other : View) → RecoveredTo m.holder.id other g.request g.reply → ⊥) queries) (unsettled : All (λ g. is_resolve_of m.holder.id g.request ≡ false) queries) where
+    (none : All (λ g. (other : View) → RecoveredTo m.holder.id other g.request g.reply → ⊥) queries) (unsettled : All (λ g. is_resolve_of m.holder.id g.request ≡ false) queries) (on : All (λ g. LeavesRoundOn g.request g.reply) queries) where
   pub recovered_come : HasComeTo (resolve_or (final_fate view) progresses.Over) m start k
   recovered_come = by (final_fate view) refl
     where
@@ -277,6 +293,7 @@ module _ (m : Pushing) (start k : Known) (met view : View) (queries : List Heard
             All-push (Final fate) queries h (All-weaker (λ g. (other : View) → RecoveredTo m.holder.id other g.request g.reply → ⊥) (Final fate) (λ g not other is. absurd (not other is)) queries none)
             (λ other also. ap final_fate (recovered_one m.holder.id other view h.request h.reply also shown) ∙ is);
         unsettled = All-push (λ g. is_resolve_of m.holder.id g.request ≡ false) queries h unsettled (recovered_settles_none m.holder.id view h.request h.reply shown m.holder.id);
+        on = All-push (λ g. LeavesRoundOn g.request g.reply) queries h on (recovered_leaves m.holder.id view h.request h.reply shown (fate_final view fate is));
       }
       by None is = record {
         push = was.push;
@@ -296,6 +313,7 @@ module _ (m : Pushing) (start k : Known) (met view : View) (queries : List Heard
         });
         behind = was.behind;
         once = was.once;
+        ends = record { before = queries; last = h; whole = refl; on = on; over = recovered_ends m.holder.id view h.request h.reply shown (none_final view is) };
       }
 
 -- what a recovery was answered
@@ -334,6 +352,7 @@ module _ (m : Pushing) (start k later : Known) (h : Heard) (more : later.heard_n
     left = is;
     recovered = All-nil (λ (g : Heard). (other : View) → RecoveredTo m.holder.id other g.request g.reply → final_fate other ≡ Some fate);
     unsettled = All-nil (λ (g : Heard). is_resolve_of m.holder.id g.request ≡ false);
+    on = All-nil (λ (g : Heard). LeavesRoundOn g.request g.reply);
   }
 
   come_push : (reply : Reply) → h.reply ≡ reply → k.heard_now ≡ start.heard_now → h.request ≡ push_of m → MayAnswer (push_of m) reply → IsPossibleReply (push_of m) reply → HasComeTo (round_heard progresses.Push reply m).progress m start later
@@ -358,7 +377,7 @@ module _ (m : Pushing) (start k later : Known) (h : Heard) (more : later.heard_n
   come_recover met come asks may =
       let r = recovered_to m.holder.id h.request h.reply asks may in
       let id = m.holder.id in
-      let of = recover_behind id h asks (recovered_plain h.reply r.0 r.2) in
+      let of = recover_behind id h asks (recovered_plain h.reply r.0 r.2) (recovered_held h.reply r.0 r.2) in
       let was : WasPushedOnceFor id m.goal (replies.Unsure met) (h ∷ []) start later = record {
         push = come.was.push;
         more = more ∙ (ap (λ l. l ++ h ∷ []) come.was.more ∙ append_assoc start.heard_now (come.was.push ∷ []) (h ∷ []));
@@ -369,7 +388,7 @@ module _ (m : Pushing) (start k later : Known) (h : Heard) (more : later.heard_n
         once = once_push id [] h (All-nil (IsBehindPush id)) of (All-nil (λ g. g.request ≡ h.request → ⊥)) (λ request none. none);
       } in
       subst (λ reply. HasComeTo (progress_after_recovery reply) m start later) (sym r.2)
-      (recovered_come m start later met r.0 [] h was r.1 (All-nil (λ (g : Heard). (other : View) → RecoveredTo id other g.request g.reply → ⊥)) (All-nil (λ (g : Heard). is_resolve_of id g.request ≡ false)))
+      (recovered_come m start later met r.0 [] h was r.1 (All-nil (λ (g : Heard). (other : View) → RecoveredTo id other g.request g.reply → ⊥)) (All-nil (λ (g : Heard). is_resolve_of id g.request ≡ false)) (All-nil (λ (g : Heard). LeavesRoundOn g.request g.reply)))
 
   module _ (fate : Fate) (l : LeavesFateSince m.holder.id m.goal fate start k) (asked : h.request ≡ holder_resolve m fate) (told : h.reply ≡ replies.Resolved) where
     resolves : ResolvedTo m.holder.id m.key fate h
@@ -397,9 +416,12 @@ module _ (m : Pushing) (start k later : Known) (h : Heard) (more : later.heard_n
         All-weaker (λ g. is_resolve_of m.holder.id g.request ≡ false) (λ g. g.request ≡ h.request → ⊥)
         (λ g not same. let e : true ≡ false = sym (same_txn-self m.holder.id) ∙ (sym (ap (is_resolve_of m.holder.id) (same ∙ asked)) ∙ not) in cc) l.later l.unsettled
 
+    settles : EndsWithReply h.request h.reply
+    settles = subst (λ y. EndsWithReply h.request y) (sym told) (subst (λ q. EndsWithReply q replies.Resolved) (sym asked) tt)
+
     come_settled : IsSettledRound m.holder.id m.key start later
     come_settled =
-        let of : IsBehindPush m.holder.id h = record { behind = record { about = ap round_of asked; no_push = ap goal_in asked }; unmet = ap is_conflict told } in
+        let of : IsBehindPush m.holder.id h = record { behind = record { about = ap round_of asked; no_push = ap goal_in asked; beside = ap goes_beside asked }; unmet = ap is_conflict told; held = ap unrefreshed_by told } in
         record {
           push = l.was.push;
           later = l.later ++ h ∷ [];
@@ -410,6 +432,7 @@ module _ (m : Pushing) (start k later : Known) (h : Heard) (more : later.heard_n
           done = subst (λ r. WasDone m.holder.id m.key m.goal r (l.later ++ h ∷ [])) (sym l.was.told) (resolve_done l.reply l.left);
           behind = All-push (IsBehindPush m.holder.id) l.later h l.was.behind of;
           once = once_push m.holder.id l.later h l.was.behind of none_same l.was.once;
+          ends = record { before = l.later; last = h; whole = refl; on = l.on; over = settles };
         }
 
   come_resolve : (reply : Reply) (fate : Fate) → h.reply ≡ reply → LeavesFateSince m.holder.id m.goal fate start k → h.request ≡ holder_resolve m fate → MayAnswer (holder_resolve m fate) reply → IsSettledRound m.holder.id m.key start later
@@ -496,12 +519,12 @@ pub of_conflict : (conflict : Reply) (m : Pushing) (holder : TxnMeta) (ts : ℕ)
 of_conflict conflict m holder ts key is one two = subst (λ r. IsOfConflict r m) (sym is) (one, two)
 
 -- a refused push ends it so
-pub ends_refused : (conflict : Reply) (m : Pushing) (start k : Known) → IsOfConflict conflict m → IsRefusedRound m.holder.id start k → EndsRound conflict rounds.Refused start k
+pub ends_refused : (conflict : Reply) (m : Pushing) (start k : Known) → IsOfConflict conflict m → IsRefusedRound m.holder.id start k → EndsRound false conflict rounds.Refused start k
 ends_refused (replies.Conflict holder ts key) m start k of ended = subst (λ (h : TxnMeta). IsRefusedRound h.id start k) of.0 ended
 ends_refused conflict m start k of ended = absurd of
 
 -- and the settling of the intent so
-pub ends_settled : (conflict : Reply) (m : Pushing) (start k : Known) → IsOfConflict conflict m → IsSettledRound m.holder.id m.key start k → EndsRound conflict rounds.Again start k
+pub ends_settled : (conflict : Reply) (m : Pushing) (start k : Known) → IsOfConflict conflict m → IsSettledRound m.holder.id m.key start k → EndsRound false conflict rounds.Again start k
 ends_settled (replies.Conflict holder ts key) m start k of ended =
     subst (λ key. IsSettledRound holder.id key start k) of.1 (subst (λ (h : TxnMeta). IsSettledRound h.id m.key start k) of.0 ended)
 ends_settled conflict m start k of ended = absurd of

@@ -1,5 +1,5 @@
 -- A session makes a conflict's round: how it begins, what each exchange of its machine leaves, and how it ends.
-use Rattle.std.proofs.Common.{◌≡◌, ℕ, ◌+◌, ◌≤◌, ◌<◌, max, true, false, All, Any, Contains, List, [], ◌∷◌, ◌++◌, Option, Some, None, IfSome, refl, sym, ap, ◌∙◌, subst, arith}
+use Rattle.std.proofs.Common.{◌≡◌, ℕ, ◌+◌, ◌≤◌, ◌<◌, max, Bool, true, false, inl, All, Any, Contains, List, [], ◌∷◌, ◌++◌, Option, Some, None, IfSome, refl, sym, ap, ◌∙◌, subst, arith}
 use Rattle.std.proofs.lemmas.List.Elements.{All-contains, All-weaker, Contains-append_right}
 use Rattle.pc_base.specs.declared.actor.ActorId.{ActorId}
 use Rattle.pc_base.specs.declared.actor.ActorId.TheVariants as actors
@@ -11,18 +11,23 @@ use Rattle.pc_coord.specs.declared.round.Round.{Round}
 use Rattle.pc_coord.specs.declared.round.Round.TheVariants as rounds
 use Rattle.pc_coord.specs.Rounds.{EndsRound}
 use Rattle.pc_desk.specs.Desk.{DeskMeaning}
-use Rattle.pc_exchange.proofs.Aside.{aside_none, goes_on_beside, left_still, no_own}
+use Rattle.pc_desk.specs.OwnLog.{LogMeaning}
+use Rattle.pc_exchange.proofs.Anchored.{own_named}
+use Rattle.pc_exchange.proofs.Aside.{aside_none, goes_on_beside, kind_now, left_still}
 use Rattle.pc_exchange.proofs.Called.{all_heard_in_call}
 use Rattle.pc_exchange.proofs.Coordinator.{counted_met}
-use Rattle.pc_exchange.proofs.Going.{answered_by, aside_by, goes_both, goes_none, heard_now_by, jobs_by, part_by, reply_by, rounds_by}
+use Rattle.pc_exchange.proofs.Going.{answered_by, aside_by, goes_both, goes_none, heard_now_by, jobs_by, not_same, part_by, reply_by, rounds_by, told_by}
 use Rattle.pc_exchange.proofs.HeardKinds.{heard_begun, heard_now_kind, top_below}
 use Rattle.pc_exchange.proofs.InTurn.{fate_of, goes_on}
 use Rattle.pc_exchange.proofs.Messages.{left_by_exchange}
+use Rattle.pc_exchange.proofs.NextTurn.{settles_next}
 use Rattle.pc_exchange.proofs.Rounding.{IsMade, at_changed, at_finished, at_refused, at_unsure, behind_timely, come_on, ends_refused, ends_settled, goal_reads, may_push, of_conflict, one_finished, one_refused, push_aside, push_timely, pushes_on, recover_aside, resolve_aside, round_same, sends_asks}
-use Rattle.pc_exchange.proofs.Timely.{IsTimely, may_exchange}
+use Rattle.pc_exchange.proofs.Silent.{asks_commits_none, asks_unqueried}
+use Rattle.pc_exchange.proofs.Timely.{IsTimely, IsTurnIn, may_exchange}
 use Rattle.pc_exchange.proofs.Unmet.{resolve_unmet}
 use Rattle.pc_exchange.specs.Aside.{IsAside}
 use Rattle.pc_exchange.specs.Exchange.{MayExchangeNow, WasExchanged}
+use Rattle.pc_exchange.specs.InTurn.{IsNextRoundIn}
 use Rattle.pc_exchange.specs.Recovering.{MayDecideNow}
 use Rattle.pc_exchange.specs.Rounding.{HasComeTo, IsRoundUnderWay, LeavesFateSince, WasPushedOnceFor, pushes_sent}
 use Rattle.pc_exchange.specs.Rounds.{HasMadeRoundOf, MayMakeRound}
@@ -50,9 +55,11 @@ use Rattle.pc_world.proofs.Exchange.{answered}
 use Rattle.pc_world.specs.Answering.{MayAnswer}
 use Rattle.pc_world.specs.Exchange.{IsAllowed, IsPossibleReply, WasAnswered}
 use Rattle.pc_follows.specs.FinishingJobs.{jobs_of}
+use Rattle.pc_follows.specs.PipelinedRounds.{SettlesInRound}
 use Rattle.pc_follows.specs.Resends.{RecoveredTo, WasDone}
-use Rattle.pc_follows.specs.Rounds.{IsFateOfRound, IsInItsRound, IsInRound, LeavesFate, rounds_begun}
-use Rattle.pc_world.specs.Known.{Known, known_of}
+use Rattle.pc_follows.specs.RoundsMade.{is_open_one}
+use Rattle.pc_follows.specs.Rounds.{IsFateOfRound, IsInRound, LeavesFate, rounds_begun}
+use Rattle.pc_world.specs.Known.{Known, known_of, open_txn}
 use Rattle.pc_world.specs.Known.Traffic.{Heard}
 use Rattle.pc_world.specs.Send.Settling.{ResolvedTo}
 
@@ -104,8 +111,9 @@ module _ {C : Type 0} (old : DeskMeaning C) (pusher : Pusher) (reading : ℕ) (c
         part = [];
         goes = goes_none old start.back;
         aside = aside_none start.session k;
+        told = λ t anchor at anchored committed decides. inl decides;
         jobs = refl;
-        knows = knows (actors.Session start.session) k (may_push start.session k start.number conflict reader met pusher reading start.pushes start.read m holder
+        knows = knows (actors.Session start.session) k (may_push start.session k old.log.pipelining start.number conflict reader met pusher reading start.pushes start.read m holder
             (ap (λ (m : Pushing). m.by) made) (ap (λ (m : Pushing). m.level) made) (ap (λ (m : Pushing). m.reading) made) (ap (λ (m : Pushing). m.goal) made));
         come = subst (λ p. HasComeTo p m k k) (sym (ap (λ (m : Pushing). m.progress) made)) refl;
         holder = holder;
@@ -125,7 +133,7 @@ module _ {C : Type 0} (old : DeskMeaning C) (pusher : Pusher) (reading : ℕ) (c
   pub whose : d.log.part.id ≡ actors.Session r.start.session
   whose = ap (λ l. l.part.id) r.goes.grown.rest ∙ r.start.whose
 
-  pub made_it : IsMade r.start.session start_known r.start.number conflict reader r.start.met m
+  pub made_it : IsMade r.start.session old.log.pipelining start_known r.start.number conflict reader r.start.met m
   made_it = record {
     holder = r.holder;
     begun = λ mine.
@@ -140,18 +148,35 @@ module _ {C : Type 0} (old : DeskMeaning C) (pusher : Pusher) (reading : ℕ) (c
 
   -- what it asks for is asked for beside the coordinator
   asks_aside : (p : Progress) (request : Request) → AsksAt p m request → IsAside r.start.session start_known request
-  asks_aside progresses.Push request asks = subst (IsAside r.start.session start_known) (sym asks) (push_aside r.start.session start_known r.start.number conflict reader r.start.met m made_it)
+  asks_aside progresses.Push request asks = subst (IsAside r.start.session start_known) (sym asks) (push_aside r.start.session old.log.pipelining start_known r.start.number conflict reader r.start.met m made_it)
   asks_aside progresses.Refused request asks = absurd asks
-  asks_aside (progresses.Unsure view) request asks = recover_aside r.start.session start_known r.start.number conflict reader r.start.met m made_it request asks
-  asks_aside (progresses.Resolve fate) request asks = subst (IsAside r.start.session start_known) (sym asks) (resolve_aside r.start.session start_known r.start.number conflict reader r.start.met m fate)
+  asks_aside (progresses.Unsure view) request asks = recover_aside r.start.session old.log.pipelining start_known r.start.number conflict reader r.start.met m made_it request asks
+  asks_aside (progresses.Resolve fate) request asks = subst (IsAside r.start.session start_known) (sym asks) (resolve_aside r.start.session old.log.pipelining start_known r.start.number conflict reader r.start.met m fate)
   asks_aside progresses.Over request asks = absurd asks
 
   kinds : (h : Heard) → Contains now_known.heard_now h → MayAnswer h.request h.reply
   kinds = heard_now_kind d.log r.goes.back.track.log
 
+  -- the holder is not the open transaction
+  pub closed_holder : is_open_one (open_txn start_known) r.start.met.holder.id ≡ false
+  closed_holder = ap (λ o. is_open_one o r.start.met.holder.id) r.start.met.open_is ∙ not_same r.start.met.t.id r.start.met.holder.id (λ e. r.start.met.other (sym e))
+
+  unmet_reply : (goal : Goal) (reply : Reply) (later : List Heard) (fate : Fate) → LeavesFate r.start.met.holder.id goal reply later fate → is_conflict reply ≡ false
+  unmet_reply goal (replies.Status view) later fate left = refl
+  unmet_reply goal (replies.Unsure view) later fate left = refl
+  unmet_reply goal reply later fate left = absurd left
+
   -- the intent is settled while its round goes on
-  resolves_in_turn : (fate : Fate) (l : LeavesFateSince m.holder.id m.goal fate start_known now_known) → rounds_begun now_known ≡ rounds_begun start_known + 1 → IsInItsRound now_known (holder_resolve m fate)
-  resolves_in_turn fate l begun =
+  resolves_in_turn : (fate : Fate) (l : LeavesFateSince m.holder.id m.goal fate start_known now_known) → rounds_begun now_known ≡ rounds_begun start_known + 1 → (pipelining : Bool) → IsNextRoundIn pipelining start_known r.start.met.h → IsTurnIn pipelining now_known (holder_resolve m fate)
+  resolves_in_turn fate l begun true next =
+      let conflict_is = r.start.met.told ∙ r.start.met.is in
+      let was : WasPushedOnceFor r.start.met.holder.id m.goal l.reply l.later start_known now_known = subst (λ (h : TxnMeta). WasPushedOnceFor h.id m.goal l.reply l.later start_known now_known) r.holder l.was in
+      let left : LeavesFate r.start.met.holder.id m.goal l.reply l.later fate = subst (λ (h : TxnMeta). LeavesFate h.id m.goal l.reply l.later fate) r.holder l.left in
+      let settles = settles_next start_known now_known r.aside.txns.first r.start.met.h next r.start.met.holder r.start.met.ts r.start.met.key conflict_is closed_holder m.goal l.reply l.later was (unmet_reply m.goal l.reply l.later fate left)
+      (subst (λ (h : TxnMeta). All (λ (g : Heard). is_resolve_of h.id g.request ≡ false) l.later) r.holder l.unsettled) fate
+      (subst (λ (h : TxnMeta). All (λ (g : Heard). (shown : View) → RecoveredTo h.id shown g.request g.reply → final_fate shown ≡ Some fate) l.later) r.holder l.recovered) left in
+      subst (λ key. SettlesInRound now_known m.holder.id key fate) (sym r.key) (subst (λ (h : TxnMeta). SettlesInRound now_known h.id r.start.met.key fate) (sym r.holder) settles)
+  resolves_in_turn fate l begun false next =
       let conflict_is = r.start.met.told ∙ r.start.met.is in
       let was : WasPushedOnceFor r.start.met.holder.id m.goal l.reply l.later start_known now_known = subst (λ (h : TxnMeta). WasPushedOnceFor h.id m.goal l.reply l.later start_known now_known) r.holder l.was in
       let left : LeavesFate r.start.met.holder.id m.goal l.reply l.later fate = subst (λ (h : TxnMeta). LeavesFate h.id m.goal l.reply l.later fate) r.holder l.left in
@@ -159,15 +184,15 @@ module _ {C : Type 0} (old : DeskMeaning C) (pusher : Pusher) (reading : ℕ) (c
       unsettled_undone r.start.met.holder.id r.start.met.key m.goal fate l.reply l.later
       (subst (λ (h : TxnMeta). All (λ (g : Heard). (shown : View) → RecoveredTo h.id shown g.request g.reply → final_fate shown ≡ Some fate) l.later) r.holder l.recovered)
       (subst (λ (h : TxnMeta). All (λ (g : Heard). is_resolve_of h.id g.request ≡ false) l.later) r.holder l.unsettled) in
-      let on = goes_on start_known now_known r.start.met.h r.start.next r.start.met.holder r.start.met.ts r.start.met.key conflict_is m.goal l.reply l.later was begun undone in
-      let fates = fate_of start_known now_known r.start.met.h r.start.next r.start.met.holder r.start.met.ts r.start.met.key conflict_is m.goal l.reply l.later was begun fate left in
+      let on = goes_on start_known now_known r.start.met.h next r.start.met.holder r.start.met.ts r.start.met.key conflict_is m.goal l.reply l.later was begun undone in
+      let fates = fate_of start_known now_known r.start.met.h next r.start.met.holder r.start.met.ts r.start.met.key conflict_is m.goal l.reply l.later was begun fate left in
       subst (λ (h : TxnMeta). IsInRound now_known h.id m.key × IsFateOfRound now_known h.id fate) (sym r.holder) (subst (λ key. IsInRound now_known r.start.met.holder.id key) (sym r.key) on, fates)
 
-  asks_timely : (p : Progress) (request : Request) → HasComeTo p m start_known now_known → rounds_begun now_known ≡ rounds_begun start_known + pushes_sent p → round_due p m ≡ machine.Send request → IsTimely now_known (jobs_of d.log.part.own) request
+  asks_timely : (p : Progress) (request : Request) → HasComeTo p m start_known now_known → rounds_begun now_known ≡ rounds_begun start_known + pushes_sent p → round_due p m ≡ machine.Send request → IsTimely old.log.pipelining now_known (jobs_of d.log.part.own) request
   asks_timely progresses.Push request come begun due =
       let asks : push_of m ≡ request = cc in
-      subst (IsTimely now_known (jobs_of d.log.part.own)) asks
-      (push_timely r.start.session start_known r.start.number conflict reader r.start.met now_known ts r.aside (all_heard_in_call d r.goes.back) kinds (jobs_of d.log.part.own) m made_it r.start.next r.aims (begun ∙ plus_nothing (rounds_begun start_known)) come)
+      subst (IsTimely old.log.pipelining now_known (jobs_of d.log.part.own)) asks
+      (push_timely r.start.session old.log.pipelining start_known r.start.number conflict reader r.start.met now_known ts r.aside r.start.goes (all_heard_in_call d r.goes.back) kinds (jobs_of d.log.part.own) m made_it r.start.next r.aims (begun ∙ plus_nothing (rounds_begun start_known)) come)
   asks_timely progresses.Refused request come begun due = absurd cc
   asks_timely (progresses.Unsure view) request come begun due = absurd cc
   asks_timely (progresses.Resolve fate) request come begun due =
@@ -175,9 +200,9 @@ module _ {C : Type 0} (old : DeskMeaning C) (pusher : Pusher) (reading : ℕ) (c
       let fresh : All (λ (g : Heard). g.request ≡ holder_resolve m fate → ⊥) come.later =
       All-weaker (λ (g : Heard). is_resolve_of m.holder.id g.request ≡ false) (λ g. g.request ≡ holder_resolve m fate → ⊥)
       (λ g not same. let e : true ≡ false = sym (same_txn-self m.holder.id) ∙ (sym (ap (is_resolve_of m.holder.id) same) ∙ not) in cc) come.later come.unsettled in
-      subst (IsTimely now_known (jobs_of d.log.part.own)) asks
-      (behind_timely r.start.session start_known r.start.number conflict reader r.start.met now_known ts r.aside (all_heard_in_call d r.goes.back) kinds (jobs_of d.log.part.own) m made_it (holder_resolve m fate)
-      (record { about = refl; no_push = refl }) come.reply come.later come.was fresh (resolve_unmet now_known kinds m fate) (resolves_in_turn fate come begun, tt))
+      subst (IsTimely old.log.pipelining now_known (jobs_of d.log.part.own)) asks
+      (behind_timely r.start.session old.log.pipelining start_known r.start.number conflict reader r.start.met now_known ts r.aside r.start.goes (all_heard_in_call d r.goes.back) kinds (jobs_of d.log.part.own) m made_it (holder_resolve m fate)
+      (record { about = refl; no_push = refl; beside = refl }) come.reply come.later come.was fresh (resolve_unmet now_known kinds m fate) (resolves_in_turn fate come begun old.log.pipelining r.start.next, tt))
   asks_timely progresses.Over request come begun due = absurd cc
 
   -- what it gives to be sent is what it asks for
@@ -191,7 +216,8 @@ module _ {C : Type 0} (old : DeskMeaning C) (pusher : Pusher) (reading : ℕ) (c
       let asks = given_asks given request due is in
       let allowed : IsAllowed d.log.head.splits (actors.Session r.start.session) now_known request =
       subst (RoundMayCome d.log.head.splits (actors.Session r.start.session) start_known now_known m) is (may d.log.head.splits (actors.Session r.start.session) start_known now_known r.knows) in
-      may_exchange d r.start.session request r.goes.back whose (asks_aside m.progress request asks).kind allowed (asks_timely m.progress request r.come r.begun (sym due ∙ is))
+      may_exchange d r.start.session request r.goes.back whose (kind_now r.start.session start_known now_known ts r.aside request (asks_aside m.progress request asks).kind) allowed
+      (subst (λ b. IsTimely b now_known (jobs_of d.log.part.own) request) (sym (ap (λ (l : LogMeaning C). l.pipelining) r.goes.grown.rest)) (asks_timely m.progress request r.come r.begun (sym due ∙ is)))
 
   module _ (next : Pushing) (new : DeskMeaning C) (request : Request) (reply : Reply) (asks : Asks m request) (x : WasExchanged d new request reply) where
     pub still_jobs : left_by_exchange now_known.statement (jobs_of d.log.part.own) ≡ jobs_of d.log.part.own
@@ -203,7 +229,6 @@ module _ {C : Type 0} (old : DeskMeaning C) (pusher : Pusher) (reading : ℕ) (c
         → IsRoundUnderWay old pusher reading conflict reader next new (max ts (greatest_of (reply_stamps reply)))
     round_on made knows =
         let aside = asks_aside m.progress request asks in
-        let apart = no_own r.start.session start_known now_known ts r.aside request aside in
         let answered = answered_by d new request reply r.goes.back x in
         let same = round_same reply m in
         let k = known_of new.log.part.own in
@@ -212,15 +237,18 @@ module _ {C : Type 0} (old : DeskMeaning C) (pusher : Pusher) (reading : ℕ) (c
           part = r.part ++ part_by d new request reply x;
           goes = goes_both old d new r.part (part_by d new request reply x) r.goes x.goes;
           aside = aside_by d new request reply r.goes.back x r.start.session start_known ts r.aside aside;
+          told = λ t anchor at anchored committed decides.
+              told_by d new request reply r.goes.back x (kind_now r.start.session start_known now_known ts r.aside request aside.kind) t at (asks_commits_none m.progress m request asks t.id) (asks_unqueried m.progress m request asks t.id) committed
+              (r.told t anchor at anchored committed decides);
           jobs = jobs_by d new request reply x ∙ (still_jobs ∙ r.jobs);
           knows = knows (actors.Session r.start.session) start_known now_known k request r.knows asks answered x.possible;
           come = subst (λ (m : Pushing). HasComeTo m.progress m start_known k) (sym made)
-              (come_on m start_known now_known k (reply_by d new request reply x) (heard_now_by d new request reply r.goes.back x aside.kind apart) (answered_stamps now_known k request reply answered) r.come asks x.kind x.possible);
+              (come_on m start_known now_known k (reply_by d new request reply x) (heard_now_by d new request reply r.goes.back x) (answered_stamps now_known k request reply answered) r.come asks x.kind x.possible);
           holder = ap (λ (m : Pushing). m.holder) made ∙ (same.0 ∙ r.holder);
           key = ap (λ (m : Pushing). m.key) made ∙ (same.1 ∙ r.key);
           aims = ap (λ (m : Pushing). m.goal) made ∙ (same.2 ∙ r.aims);
           begun =
-              let sent = rounds_by d new request reply r.goes.back x aside.kind apart in
+              let sent = rounds_by d new request reply r.goes.back x in
               let more = pushes_on start_known now_known m request reply r.come asks x.kind x.possible in
               let is : pushes_sent next.progress ≡ pushes_sent (round_after reply m).progress = ap (λ (m : Pushing). pushes_sent m.progress) made in
               omega (arith, sent, more, is, r.begun);
@@ -228,7 +256,7 @@ module _ {C : Type 0} (old : DeskMeaning C) (pusher : Pusher) (reading : ℕ) (c
 
   -- ---- its end
 
-  made_round : (round : Round) → EndsRound conflict round start_known now_known → pushes_sent m.progress ≡ 1 → HasMadeRoundOf old d conflict round ts
+  made_round : (round : Round) → EndsRound false conflict round start_known now_known → pushes_sent m.progress ≡ 1 → HasMadeRoundOf old d conflict round ts
   made_round round ends one = record {
     session = r.start.session;
     whose = r.start.whose;
@@ -238,7 +266,7 @@ module _ {C : Type 0} (old : DeskMeaning C) (pusher : Pusher) (reading : ℕ) (c
       ends = ends;
       begun = r.begun ∙ ap (λ n. rounds_begun start_known + n) one;
       aside = r.aside;
-      left = left_still r.start.session start_known now_known ts r.aside;
+      left = left_still r.start.session start_known now_known ts r.aside r.told (own_named d.log r.goes.back.track.log);
       beside = λ c number reader same knows next. goes_on_beside r.start.session start_known now_known ts r.aside c same (counted_met c start_known number conflict reader knows next);
     };
     jobs = r.jobs;

@@ -1,5 +1,5 @@
 -- No message of a round meets an intent, so none met its eighth.
-use Rattle.std.proofs.Common.{◌≡◌, ℕ, true, false, inl, inr, Contains, List, [], ◌∷◌, refl, sym, subst, arith}
+use Rattle.std.proofs.Common.{◌≡◌, ℕ, true, false, inl, inr, Contains, List, [], ◌∷◌, refl, sym, subst, arith, None}
 use Rattle.pc_base.specs.declared.limits.TheConstants.{MOST_CONFLICTS}
 use Rattle.pc_base.specs.declared.transaction.TxnId.{TxnId}
 use Rattle.pc_base.specs.declared.transaction.Who.{Who}
@@ -20,6 +20,7 @@ use Rattle.pc_world.specs.Known.{Known}
 use Rattle.pc_world.specs.Known.Traffic.{Heard}
 use Rattle.pc_world.specs.SameRequest.{IsSamePut, IsSameRequest}
 use Rattle.pc_world.specs.Tell.Refusal.{IsConflictOf}
+use Rattle.pc_reads.specs.Replies.{unrefreshed_by}
 
 none-so : {X : Type 0} (P : X → Type 0) (xs : List X) → ((x : X) → Contains xs x → P x → ⊥) → AtLeast P 1 xs → ⊥
 none-so P [] none at = at
@@ -46,6 +47,20 @@ plain_recover reply may = absurd may
 pub plain_resolve : (reply : Reply) → IsResolved reply → is_conflict reply ≡ false
 plain_resolve replies.Resolved may = refl
 plain_resolve reply may = absurd may
+
+-- nor does it meet a write
+pub held_query : (reply : Reply) → IsQueryReply reply → unrefreshed_by reply ≡ None
+held_query replies.Found may = refl
+held_query replies.Missing may = refl
+held_query reply may = absurd may
+
+pub held_recover : (reply : Reply) → IsRecoverReply reply → unrefreshed_by reply ≡ None
+held_recover (replies.Status view) may = refl
+held_recover reply may = absurd may
+
+pub held_resolve : (reply : Reply) → IsResolved reply → unrefreshed_by reply ≡ None
+held_resolve replies.Resolved may = refl
+held_resolve reply may = absurd may
 
 module _ (k : Known) (kinds : (h : Heard) → Contains k.heard_now h → MayAnswer h.request h.reply) where
   unmet : (request : Request) → ((reply : Reply) → MayAnswer request reply → is_conflict reply ≡ false) → ((other : Request) → IsSamePut request other → ⊥) → MetEighth k request → ⊥

@@ -34,9 +34,11 @@ pub record HasAllBack {C : Type 0} (d : DeskMeaning C) : Type 0 where
   pub posted : d.posted ≡ []
   pub replies : d.replies ≡ []
 
--- The actor's list went on by these entries, by which no call is asked and no answer told; no message of it is on its way.
+-- The actor's list went on by these entries, by which no call is asked and no answer told; no message of it is on its way, and what was set aside
+-- is so still.
 pub record HasGoneBeside {C : Type 0} (old new : DeskMeaning C) (part : List (Pair Event)) : Type 0 where
   pub grown : HasGrownBy old.log new.log part
   pub within : All IsInBetween (events_of part)
   pub back : HasAllBack new
   pub limit : new.range_limit ≡ old.range_limit
+  pub later : new.later ≡ old.later

@@ -1,5 +1,5 @@
 -- A finishing job of a session: each lock of its transaction is settled, and then the record removed.
-use Rattle.std.specs.Prelude.{◌≡◌, ℕ, ◌≤◌, None, Some, List, ◌∷◌, All, IsTrue}
+use Rattle.std.specs.Prelude.{◌≡◌, ℕ, ◌≤◌, false, None, Some, List, ◌∷◌, All}
 use Rattle.pc_base.specs.declared.actor.ActorId.TheVariants as actors
 use Rattle.pc_coord.specs.Coordination.{Coordination}
 use Rattle.pc_coord.specs.declared.job.Job.{Job}
@@ -11,9 +11,9 @@ use Rattle.pc_history.specs.declared.pair.Pair.{Pair}
 use Rattle.pc_proto.specs.declared.event.Event.{Event}
 use Rattle.pc_proto.specs.declared.request.Request.{Request}
 use Rattle.pc_follows.specs.FinishingJobs.{jobs_of}
+use Rattle.pc_follows.specs.WaveOrder.{IsHeardOrPut}
 use Rattle.pc_world.specs.Known.{Known, known_of, open_txn}
 use Rattle.pc_world.specs.Known.Transactions.{Txn}
-use Rattle.pc_world.specs.Tell.Refusal.{is_heard}
 
 -- The job may be done, and its transaction was begun and is not the open one.
 pub record IsFinishable (k : Known) (job : Job) : Type 0 where
@@ -36,9 +36,10 @@ pub record MayFinishNow {C : Type 0} (d : DeskMeaning C) (job : Job) : Type 0 wh
 pub record IsJobMade (session : ℕ) (start k : Known) (ts : ℕ) : Type 0 where
   pub aside : IsLaterAside session start k ts
   pub left : (job : Job) → IsFinishable start job → IsFinishable k job
-  pub beside : (c : Coordination) → c.session ≡ session → Knows c start → MayGoOnBeside c start k ts
+  pub beside : (c : Coordination) → c.session ≡ session → Knows false c start → MayGoOnBeside c start k ts
 
--- The session did its oldest job, this one, whole and beside its coordinator: the others wait, and each message that it ever sent was heard.
+-- The session did its oldest job, this one, whole and beside its coordinator: the others wait, and each message that it ever sent was heard, or is a
+-- put that was set aside.
 pub record HasFinishedJob {C : Type 0} (old new : DeskMeaning C) (job : Job) (ts : ℕ) : Type 0 where
   pub session : ℕ
   pub whose : old.log.part.id ≡ actors.Session session
@@ -46,4 +47,4 @@ pub record HasFinishedJob {C : Type 0} (old new : DeskMeaning C) (job : Job) (ts
   pub goes : HasGoneBeside old new part
   pub made : IsJobMade session (known_of old.log.part.own) (known_of new.log.part.own) ts
   pub done : jobs_of old.log.part.own ≡ messages_of_job job ∷ jobs_of new.log.part.own
-  pub heard : All (λ m. IsTrue (is_heard (known_of new.log.part.own).heard m)) (known_of new.log.part.own).sent
+  pub heard : All (IsHeardOrPut (known_of new.log.part.own).heard) (known_of new.log.part.own).sent

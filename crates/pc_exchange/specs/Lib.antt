@@ -9,3 +9,4 @@ pub mod Jobs
 pub mod Recovering
 pub mod Rounding
 pub mod Rounds
+pub mod Told

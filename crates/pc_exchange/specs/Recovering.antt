@@ -10,11 +10,13 @@ use Rattle.pc_desk.specs.Desk.{DeskMeaning}
 use Rattle.pc_exchange.specs.Aside.{IsLaterAside}
 use Rattle.pc_exchange.specs.Growing.{HasGoneBeside}
 use Rattle.pc_exchange.specs.Rounding.{IsRoundUnderWay}
+use Rattle.pc_exchange.specs.Told.{KeepsToldBut}
 use Rattle.pc_follows.specs.FinishingJobs.{jobs_of}
 use Rattle.pc_follows.specs.Resends.{RecoveredTo}
 use Rattle.pc_follows.specs.Rounds.{rounds_begun}
 use Rattle.pc_history.specs.declared.pair.Pair.{Pair}
 use Rattle.pc_proto.specs.declared.event.Event.{Event}
+use Rattle.pc_proto.specs.declared.fate.Finding.{Finding}
 use Rattle.pc_proto.specs.declared.meta.TxnMeta.{TxnMeta}
 use Rattle.pc_proto.specs.declared.reply.Reply.{Reply}
 use Rattle.pc_proto.specs.declared.reply.Reply.TheVariants as replies
@@ -27,7 +29,7 @@ use Rattle.pc_push.specs.declared.progress.Progress.TheVariants as pushes
 use Rattle.pc_push.specs.Pushing.{Pushing}
 use Rattle.pc_recover.specs.declared.progress.Progress.{Progress}
 use Rattle.pc_recover.specs.declared.progress.Progress.TheVariants as progresses
-use Rattle.pc_recover.specs.Recovering.{Recovering, query_of}
+use Rattle.pc_recover.specs.Recovering.{Recovering, query_of, recover_of}
 use Rattle.pc_recover.specs.RecoverKnows.{RecoverKnows}
 use Rattle.pc_world.specs.Exchange.{IsLater, IsPossibleReply, WasAnswered}
 use Rattle.pc_world.specs.Known.{Known, known_of}
@@ -71,7 +73,10 @@ pub record HasDecidedInRound (r : Recovering) (view : View) (heard : List Heard)
   pub whole : heard ≡ queries ++ decision ∷ []
   pub queried : HasQueriedInRound r queries
   pub shown : RecoveredTo r.holder.id view decision.request decision.reply
+  pub told : decision.reply ≡ replies.Status view
   pub recovers : Recovers r.holder.id decision.request
+  pub finding : Finding
+  pub asked : decision.request ≡ recover_of r finding
   pub before : Known
   pub since : IsLater start before
   pub answered : WasAnswered before now decision.request (replies.Status view)
@@ -95,6 +100,7 @@ pub record RecoversForRound {C : Type 0} (d : DeskMeaning C) (own : TxnId) (hold
   pub goes : HasGoneBeside d new part
   pub aside :
       IsLaterAside start.decides.under.start.session (known_of start.decides.old.log.part.own) (known_of new.log.part.own) (max start.decides.ts (last_recovered r.progress))
+  pub told : KeepsToldBut holder.id (known_of start.decides.old.log.part.own) (known_of new.log.part.own)
   pub jobs : jobs_of new.log.part.own ≡ jobs_of start.decides.old.log.part.own
   pub begun : rounds_begun (known_of new.log.part.own) ≡ rounds_begun (known_of d.log.part.own)
   pub epoch : ℕ

@@ -3,11 +3,12 @@ use Rattle.std.specs.Prelude.{◌≡◌, ℕ, ◌+◌, ◌≤◌, false, Option,
 use Rattle.pc_base.specs.declared.actor.ActorId.TheVariants as actors
 use Rattle.pc_base.specs.declared.transaction.TxnId.{TxnId}
 use Rattle.pc_coord.specs.declared.pusher.Pusher.{Pusher}
-use Rattle.pc_coord.specs.Rounds.{AreAskedOnce, IsBehindPush, IsRefusedRound, IsSettledRound}
+use Rattle.pc_coord.specs.Rounds.{AreAskedOnce, IsBehindPush, IsRefusedRound, IsSettledRound, LeavesRoundOn}
 use Rattle.pc_desk.specs.Desk.{DeskMeaning}
 use Rattle.pc_exchange.specs.Aside.{IsLaterAside}
 use Rattle.pc_exchange.specs.Growing.{HasGoneBeside}
 use Rattle.pc_exchange.specs.Rounds.{MayMakeRound}
+use Rattle.pc_exchange.specs.Told.{KeepsTold}
 use Rattle.pc_history.specs.declared.pair.Pair.{Pair}
 use Rattle.pc_proto.specs.declared.event.Event.{Event}
 use Rattle.pc_proto.specs.declared.fate.Fate.{Fate}
@@ -48,6 +49,7 @@ pub record LeavesFateSince (id : TxnId) (goal : Goal) (fate : Fate) (start k : K
   pub left : LeavesFate id goal reply later fate
   pub recovered : All (λ h. (shown : View) → RecoveredTo id shown h.request h.reply → final_fate shown ≡ Some fate) later
   pub unsettled : All (λ h. is_resolve_of id h.request ≡ false) later
+  pub on : All (λ h. LeavesRoundOn h.request h.reply) later
 
 -- The push was unsure of this record, and nothing was heard behind it yet.
 pub record IsUnsureSince (id : TxnId) (goal : Goal) (view : View) (start k : Known) : Type 0 where
@@ -73,6 +75,7 @@ pub record IsRoundUnderWay {C : Type 0} (old : DeskMeaning C) (pusher : Pusher) 
   pub part : List (Pair Event)
   pub goes : HasGoneBeside old new part
   pub aside : IsLaterAside start.session (known_of old.log.part.own) (known_of new.log.part.own) ts
+  pub told : KeepsTold (known_of old.log.part.own) (known_of new.log.part.own)
   pub jobs : jobs_of new.log.part.own ≡ jobs_of old.log.part.own
   pub knows : PushKnows (actors.Session start.session) (known_of old.log.part.own) (known_of new.log.part.own) m
   pub come : HasComeTo m.progress m (known_of old.log.part.own) (known_of new.log.part.own)

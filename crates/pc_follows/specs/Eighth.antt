@@ -1,6 +1,6 @@
 -- After the eighth: a request that met eight intents in its call goes out no more, the eighth of them has no round, and a call other than a
 -- commit is told that it is blocked; a commit that was moved eight times sends no further refresh, stage or commit, and is told so. Own profile.
-use Rattle.std.specs.Prelude.{◌≡◌, ◌≢◌, ℕ, ◌+◌, Some, slice_get, take, ⊤}
+use Rattle.std.specs.Prelude.{◌≡◌, ◌≢◌, ℕ, ◌+◌, Bool, true, false, ◌⊎◌, Some, slice_get, take, ⊤}
 use Rattle.pc_base.specs.declared.limits.TheConstants.{MOST_CONFLICTS, MOST_REFUSALS}
 use Rattle.pc_base.specs.declared.transaction.TxnId.{TxnId}
 use Rattle.pc_proto.specs.declared.answer.Answer.{Answer}
@@ -32,13 +32,19 @@ IsBelowEighth k =
     (conflict : Heard) → slice_get (conflicts_now k) (rounds_begun k) ≡ Some conflict
     → AtLeast (IsConflictOf conflict.request) MOST_CONFLICTS (take (rounds_begun k + 1) (conflicts_now k)) → ⊥
 
--- What the request itself asks for: a push begins no round of an eighth conflict, and a refresh, stage or commit follows no eighth move.
-abbrev pub IsBeforeEighth : Known → Request → Type 0
-IsBeforeEighth k (requests.Push holder by level now goal) = IsBelowEighth k
-IsBeforeEighth k (requests.Refresh id from to span) = WasMovedEighth k → ⊥
-IsBeforeEighth k (requests.Stage meta ts now writes locks) = WasMovedEighth k → ⊥
-IsBeforeEighth k (requests.Commit meta ts locks) = WasMovedEighth k → ⊥
-IsBeforeEighth k _ = ⊤
+-- What a push asks for: it begins no round of an eighth conflict; with pipelining its rule of rounds says so.
+abbrev pub IsPushBelow : Bool → Known → Type 0
+IsPushBelow false k = IsBelowEighth k
+IsPushBelow true k = ⊤
+
+-- What the request itself asks for: a push begins no round of an eighth conflict, and a refresh, stage or commit follows no eighth move, and no put either.
+abbrev pub IsBeforeEighth : Bool → Known → Request → Type 0
+IsBeforeEighth pipelining k (requests.Push holder by level now goal) = IsPushBelow pipelining k
+IsBeforeEighth pipelining k (requests.Refresh id from to span) = WasMovedEighth k → ⊥
+IsBeforeEighth pipelining k (requests.Stage meta ts now writes locks) = WasMovedEighth k → ⊥
+IsBeforeEighth pipelining k (requests.Commit meta ts locks) = WasMovedEighth k → ⊥
+IsBeforeEighth pipelining k (requests.Put meta seq ts key value) = WasMovedEighth k → ⊥
+IsBeforeEighth pipelining k _ = ⊤
 
 -- The answer says that the call is blocked.
 abbrev pub IsBlockedAnswer : Answer → Type 0
@@ -48,14 +54,21 @@ IsBlockedAnswer answer = (holder : TxnId) × (answer ≡ answers.Blocked holder)
 abbrev pub IsMovedAnswer : Answer → Type 0
 IsMovedAnswer answer = (ts : ℕ) × (answer ≡ answers.Moved ts)
 
+-- The answer says how the transaction ended, as its last heartbeat may have found it.
+abbrev pub IsEndAnswer : Answer → Type 0
+IsEndAnswer (answers.Committed id ts) = ⊤
+IsEndAnswer (answers.Aborted why) = ⊤
+IsEndAnswer _ = ⊥
+
 -- What is told after an eighth: of a call other than a commit that it is blocked, of a commit that it was moved.
 pub record TellsTheEighth (k : Known) (s : Statement) (answer : Answer) : Type 0 where
   pub blocked : s.call ≢ calls.Commit → (request : Request) → MetEighth k request → IsBlockedAnswer answer
-  pub moved : s.call ≡ calls.Commit → WasMovedEighth k → IsMovedAnswer answer
+  pub moved : s.call ≡ calls.Commit → WasMovedEighth k → IsMovedAnswer answer ⊎ IsEndAnswer answer
 
 -- In an open call nothing goes on past the eighth, and a call is told blocked in the order of its conflicts.
-abbrev pub StopsAtEighth : Known → Event → Type 0
-StopsAtEighth k (events.Send number range request) =
-    (s : Statement) → k.statement ≡ Some s → (MetEighth k request → ⊥) × IsBeforeEighth k request
-StopsAtEighth k (events.Tell answer) = (s : Statement) → k.statement ≡ Some s → TellsTheEighth k s answer × TellsFirstBlock k answer
-StopsAtEighth k _ = ⊤
+abbrev pub StopsAtEighth : Bool → Known → Event → Type 0
+StopsAtEighth pipelining k (events.Send number range request) =
+    (s : Statement) → k.statement ≡ Some s → (MetEighth k request → ⊥) × IsBeforeEighth pipelining k request
+StopsAtEighth pipelining k (events.Tell answer) =
+    (s : Statement) → k.statement ≡ Some s → TellsTheEighth k s answer × TellsFirstBlock pipelining k answer
+StopsAtEighth pipelining k _ = ⊤

@@ -1,10 +1,11 @@
 -- Finishing jobs: what a transaction leaves behind when it is over is settled by its own session, between calls: each of its locks in
 -- key order, and then its record is removed. SIGMOD 2020 paper, section 3.2, "asynchronous intent resolution"; the order and the
 -- removal are this project's own profile.
-use Rattle.std.specs.Prelude.{◌≡◌, ℕ, Bool, ◌&&◌, Option, None, Some, List, [], ◌∷◌, ◌++◌, All, IsTrue, map, fold, is_some, if◌then◌else◌, slice_get, ⊤}
+use Rattle.std.specs.Prelude.{◌≡◌, ℕ, Bool, ◌&&◌, Option, None, Some, List, [], ◌∷◌, ◌++◌, All, map, fold, is_some, if◌then◌else◌, slice_get, ⊤}
 use Rattle.std.specs.List.{list_any}
 use Rattle.std.specs.Option.{option_or}
 use Rattle.pc_base.specs.declared.transaction.TxnId.{TxnId}
+use Rattle.pc_follows.specs.WaveOrder.{IsHeardOrPut}
 use Rattle.pc_history.specs.declared.pair.Pair.{Pair}
 use Rattle.pc_proto.specs.declared.answer.Answer.{Answer}
 use Rattle.pc_proto.specs.declared.answer.Answer.TheVariants as answers
@@ -18,7 +19,6 @@ use Rattle.pc_proto.specs.Requests.{is_commit}
 use Rattle.pc_world.specs.Known.{Known, learn, nothing_known, open_txn}
 use Rattle.pc_world.specs.Known.Transactions.{Txn, meta_of}
 use Rattle.pc_world.specs.Known.Traffic.{Heard}
-use Rattle.pc_world.specs.Tell.Refusal.{is_heard}
 use Rattle.pc_world.specs.Views.{fate_heard, shows_committed}
 
 -- The messages that finish a transaction of this fate and anchor: each of these locks is settled, and then its record is removed.
@@ -35,6 +35,7 @@ settling t (Some fate) (Some anchor) = finishing_messages t.id fate anchor t.loc
 abbrev pub left_of : Known → Txn → List Request
 left_of k t = settling t (fate_heard t.id k.heard) t.anchor
 
+-- The same of the open transaction; where none is open, nothing is left.
 abbrev pub left_if : Known → Option Txn → List Request
 left_if k None = []
 left_if k (Some t) = left_of k t
@@ -90,6 +91,7 @@ pub record Duty : Type 0 where
   pub known : Known
   pub jobs : List (List Request)
 
+-- What it knows and which jobs wait after one more of its entries.
 abbrev pub duty_after : Duty → Pair Event → Duty
 duty_after d p = record { known = learn p d.known; jobs = jobs_after p.entry.event d.known d.jobs }
 
@@ -102,10 +104,10 @@ abbrev pub first_message : List (List Request) → Option Request
 first_message [] = None
 first_message (job ∷ jobs) = slice_get job 0
 
--- A message that is sent between calls is the next one of the oldest job, and each message before it was heard.
+-- A message that is sent between calls is the next one of the oldest job, and each message before it was heard, or is a put in flight.
 pub record IsDue (k : Known) (jobs : List (List Request)) (request : Request) : Type 0 where
   pub next : first_message jobs ≡ Some request
-  pub heard : All (λ m. IsTrue (is_heard k.heard m)) k.sent
+  pub heard : All (IsHeardOrPut k.heard) k.sent
 
 -- A message that is sent between calls is due.
 abbrev pub DoesJobs : Known → List (List Request) → Event → Type 0

@@ -1,8 +1,9 @@
 -- Which conflict blocks a call: the first, in the order in which they were heard, whose round is not over: it is the eighth of its request,
 -- and has none, or its holder's push was refused. Own profile.
-use Rattle.std.specs.Prelude.{◌≡◌, ℕ, ◌+◌, ◌<◌, ◌⊎◌, List, Any, IsTrue, take, ⊤}
+use Rattle.std.specs.Prelude.{◌≡◌, ℕ, ◌+◌, ◌<◌, Bool, true, false, ◌⊎◌, List, Any, IsTrue, take, ⊤}
 use Rattle.pc_base.specs.declared.limits.TheConstants.{MOST_CONFLICTS}
 use Rattle.pc_base.specs.declared.transaction.TxnId.{TxnId}
+use Rattle.pc_follows.specs.NextBlock.{IsBlockedNow}
 use Rattle.pc_follows.specs.Rounds.{IsConflictAt, IsRoundOver, conflicts_now, rounds_begun}
 use Rattle.pc_proto.specs.declared.answer.Answer.{Answer}
 use Rattle.pc_proto.specs.declared.answer.Answer.TheVariants as answers
@@ -30,6 +31,8 @@ pub record IsBlockedBy (k : Known) (holder : TxnId) : Type 0 where
   pub why : IsBlockAt k place holder of.conflict
 
 -- A call that is told that it is blocked is so by the first conflict that is not settled.
-abbrev pub TellsFirstBlock : Known → Answer → Type 0
-TellsFirstBlock k (answers.Blocked holder) = IsBlockedBy k holder
-TellsFirstBlock k _ = ⊤
+abbrev pub TellsFirstBlock : Bool → Known → Answer → Type 0
+TellsFirstBlock false k (answers.Blocked holder) = IsBlockedBy k holder
+TellsFirstBlock true k (answers.Blocked holder) = IsBlockedNow k holder
+TellsFirstBlock false k _ = ⊤
+TellsFirstBlock true k _ = ⊤

@@ -58,7 +58,7 @@ pub record IsBeatNow (k : Known) (t : Txn) (request : Request) : Type 0 where
   pub is : request ≡ requests.Beat meta t.write_ts now
 
 -- One of the transaction's stages is late and not dead, so that a recovery may have committed it: the one other reason for a heartbeat, before a call is
--- told to restart or that it is blocked. No stage is sent so far. RFC 20180324.
+-- told to restart or that it is blocked. RFC 20180324.
 abbrev pub IsStageInDoubt : Known → Txn → Type 0
 IsStageInDoubt k t = SomeStage t.id k.sent (λ s. IsLate k.heard s × (IsDead k.heard s → ⊥))
 

@@ -2,10 +2,8 @@
 -- loses none; and then only after it met an intent there, whose holder was pushed since, and as the push said. A commit that was refused
 -- goes out at the timestamp of its record, which is higher, so it is another request. A message of a conflict's round is sent once for each
 -- conflict. Equal requests go to one range, but for the listings of records, which no session asks for. Own profile.
-use Rattle.std.specs.Prelude.{◌≡◌, ℕ, ◌+◌, Option, None, Some, List, ◌∷◌, ◌++◌, All, Any, IsTrue, ⊤}
+use Rattle.std.specs.Prelude.{◌≡◌, ℕ, ◌+◌, Option, None, Some, List, ◌∷◌, ◌++◌, All, Any, IsTrue}
 use Rattle.pc_base.specs.declared.transaction.TxnId.{TxnId}
-use Rattle.pc_proto.specs.declared.event.Event.{Event}
-use Rattle.pc_proto.specs.declared.event.Event.TheVariants as events
 use Rattle.pc_proto.specs.declared.fate.Fate.{Fate}
 use Rattle.pc_proto.specs.declared.fate.Goal.{Goal}
 use Rattle.pc_proto.specs.declared.meta.TxnMeta.{TxnMeta}
@@ -19,7 +17,6 @@ use Rattle.pc_proto.specs.Requests.{goal_in, is_push_of, round_of}
 use Rattle.pc_proto.specs.Views.{fate_after, final_fate}
 use Rattle.pc_world.specs.Counting.{AtLeast}
 use Rattle.pc_world.specs.Known.{Known}
-use Rattle.pc_world.specs.Known.Statements.{Statement}
 use Rattle.pc_world.specs.Known.Traffic.{Heard}
 use Rattle.pc_world.specs.SameRequest.{IsSameRequest}
 use Rattle.pc_world.specs.Send.Settling.{ResolvedTo}
@@ -94,10 +91,6 @@ abbrev pub MayGoAgain : Known → Request → Option TxnId → Type 0
 MayGoAgain k request None = MetConflictNow k request
 MayGoAgain k request (Some id) = HasMoreConflicts k request id
 
--- In an open call, where a message of the same request as one that goes out went out in it before, all such were answered, and there is
--- a reason to send it again.
-abbrev pub ResendsOnlyAnswered : Known → Event → Type 0
-ResendsOnlyAnswered k (events.Send number range request) =
-    (s : Statement) → k.statement ≡ Some s → Any (λ m. IsSameRequest request m.request) k.sent_now
-    → AreAnsweredNow k request × MayGoAgain k request (round_of request)
-ResendsOnlyAnswered k _ = ⊤
+-- Where a message of the same request went out in the call before, all such were answered, and there is a reason to send it again.
+abbrev pub GoesAgainAnswered : Known → Request → Type 0
+GoesAgainAnswered k request = Any (λ m. IsSameRequest request m.request) k.sent_now → AreAnsweredNow k request × MayGoAgain k request (round_of request)

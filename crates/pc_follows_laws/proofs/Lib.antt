@@ -1,1 +1,2 @@
 pub mod CallRounds
+pub mod PipelinedRounds

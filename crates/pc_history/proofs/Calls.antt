@@ -51,20 +51,20 @@ module _ {X W E : Type 0} (sense : W → Sense E) (laws : (w : W) → IsWorld (s
       let fits = fits-table table seat me seated in
       (fits.0, fits.1, look_allows sense key (laws key) table.slots number me.0 me.1 role world)
 
-  pub close_call : (whole : Bool) (entries : List (Entry E)) → OpenerIsTied name named key table seat me whole entries
+  pub close_call : (whole : Bool) (lists : List (List (Entry E))) → OpenerIsTied name named key table seat me whole lists
       → (opener : OpenerMeaning W E) → record { world = key; seated = me.0.seated; parts = me.0.parts; whole = whole } ≡ opener → AllHandedIn opener.seated opener.parts
       → (seat ≡ table) × (0 < table.words) × Allows (Rules sense key) table.slots number me 0 (λ n. n) (Closes sense me)
-  close_call whole entries tied opener is handed =
+  close_call whole lists tied opener is handed =
       let fits = fits-table table seat me tied.seated in
       let handed' : AllHandedIn me.0.seated me.0.parts = subst (λ (o : OpenerMeaning W E). AllHandedIn o.seated o.parts) (sym is) handed in
       (fits.0, fits.1, close_allows sense key (laws key) table.slots number me.0 me.1 tied.role_is tied.world_is handed')
 
 module _ {X W E : Type 0} (sense : W → Sense E) (name : TableId) (named : Option W) (key : W) (table : TableId) (seat : TableId) (number : ℕ) (me : Me X (View W E)) where
-  pub seat_call : (whole : Bool) (entries : List (Entry E)) → OpenerIsTied name named key table seat me whole entries
+  pub seat_call : (whole : Bool) (lists : List (List (Entry E))) → OpenerIsTied name named key table seat me whole lists
       → (opener : OpenerMeaning W E) → record { world = key; seated = me.0.seated; parts = me.0.parts; whole = whole } ≡ opener
       → (asked : Option ActorId) (id : ActorId) → asked ≡ Some id → (Contains opener.seated id → ⊥) → length opener.seated < 65536
       → (seat ≡ table) × (0 < table.words) × Splits {S = X} (Rules sense key) number me.0 (after_seating asked me.0) (seated_view asked me.0)
-  seat_call whole entries tied opener is asked id asks free few =
+  seat_call whole lists tied opener is asked id asks free few =
       let fits = fits-table table seat me tied.seated in
       let free' : Contains me.0.seated id → ⊥ = subst (λ (o : OpenerMeaning W E). Contains o.seated id → ⊥) (sym is) free in
       let few' : length me.0.seated < 65536 = subst (λ (o : OpenerMeaning W E). length o.seated < 65536) (sym is) few in (
@@ -104,9 +104,9 @@ module _ {X W E : Type 0} (sense : W → Sense E) (name : TableId) (named : Opti
       let fits = fits-table table seat me tied.seated in
       (fits.0, fields.seated.same ∙ sym tied.is_named.table_is, fields.seated.bare, fits.1, take_joins sense key number number' me.0 me'.0 tied.role_is fields.role_is)
 
-  pub hand_in_call : (whole : Bool) (entries : List (Entry E)) → OpenerIsTied name named key table seat me whole entries
+  pub hand_in_call : (whole : Bool) (lists : List (List (Entry E))) → OpenerIsTied name named key table seat me whole lists
       → (actor : ActorMeaning W E) (seat' : TableId) (number' : ℕ) (me' : Me X (View W E)) (entries' : List (Entry E)) → ActorFields name named actor seat' me' entries'
       → (seat ≡ table) × (seat' ≡ table) × (me'.1 ≡ []) × (0 < table.words) × Joins {S = X} (Rules sense key) number me.0 number' me'.0 (after_handing_in me.0 me'.0) spent
-  hand_in_call whole entries tied actor seat' number' me' entries' fields =
+  hand_in_call whole lists tied actor seat' number' me' entries' fields =
       let fits = fits-table table seat me tied.seated in
       (fits.0, fields.seated.same ∙ sym tied.is_named.table_is, fields.seated.bare, fits.1, hand_in_joins sense key number number' me.0 me'.0 tied.role_is fields.role_is)

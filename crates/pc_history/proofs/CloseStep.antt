@@ -1,11 +1,10 @@
 -- The opener closes the history.
-use Rattle.std.proofs.Common.{◌≡◌, ◌≢◌, ℕ, suc, ◌+◌, ◌*◌, ◌≤◌, ◌<◌, inl, inr, cond, eqb, List, [], ◌∷◌, ◌++◌, length, refl, ap, sym, ◌∙◌, subst, arith, length-append, Contains, Some, Option, slice_get, slice_index, slice_set, slice_index_or, sum_by, IsPermutation}
-use Rattle.std.proofs.lemmas.Bool.{eq-eqb, ne_eqb}
-use Rattle.std.proofs.lemmas.List.Sums.{sum_by-cons, sum_by-append}
-use Rattle.std.proofs.lemmas.List.Elements.{All-contains, Contains-append_cases}
-use Rattle.std.proofs.lemmas.List.Sorted.{sum_by-IsPermutation, IsPermutation-sym, Contains-permutation}
-use Rattle.std.proofs.lemmas.Option.{get_or_from_slice_get}
-use Rattle.std.specs.List.Sorted.{IsNonDecreasingBy}
+use Rattle.std.proofs.Common.{◌≡◌, ℕ, zero, suc, ◌+◌, ◌≤◌, ◌<◌, inl, inr, Bool, true, false, cond, eqb, List, [], ◌∷◌, length, get_or, filter, refl, ap, sym, ◌∙◌, subst, arith, Contains, Some, Option, slice_get, slice_index, slice_set, sum_by}
+use Rattle.std.proofs.lemmas.Bool.{cases_eq, eq-eqb, ne_eqb}
+use Rattle.std.proofs.lemmas.List.{get_or-map, get_or_default, length-map}
+use Rattle.std.proofs.lemmas.List.Sums.{sum_by-cons}
+use Rattle.std.proofs.lemmas.List.Elements.{All-contains, Contains-get_or, filter_agree}
+use Rattle.std.proofs.lemmas.Option.{get_or_from_slice_get, slice_get-get_or}
 use mathlib.Core.Option as found
 use lib.ListN.{get_elem?}
 use Rattle.atomic_table.specs.Table.{Allows, keeps}
@@ -16,20 +15,22 @@ use Rattle.pc_history.specs.declared.view.Role.TheVariants.{Opening}
 use Rattle.pc_history.specs.declared.view.Part.{Part}
 use Rattle.pc_history.specs.declared.view.View.{View}
 use Rattle.pc_history.specs.Sense.{Sense}
-use Rattle.pc_history.specs.Own.{own, pairs_of, entries_of}
-use Rattle.pc_history.specs.History.{IsFineAfter}
+use Rattle.pc_history.specs.Own.{same_id, pairs_of, entries_of}
 use Rattle.pc_history.specs.World.{IsWorld}
 use Rattle.pc_history.specs.Closed.{Stands, ids_of, IsClosedPart, IsHistoryOf, AllHandedIn}
 use Rattle.pc_history.specs.Parts.{uses_of}
 use Rattle.pc_history.specs.Table.{IsHandedIn, Rules, IsStepTable, count_of, uses_in, view_uses}
 use Rattle.pc_history.specs.Steps.{TellsClose, Closes, spent}
-use Rattle.pc_history.specs.Ties.{entries_in}
-use Rattle.pc_history.proofs.Histories.{own-contains, fine-kept, pairs_of-entries}
-use Rattle.pc_history.proofs.Counts.{count-some, sum_same, sum-own}
+use Rattle.pc_history.specs.Ties.{lists_in}
+use Rattle.pc_history.specs.Dealt.{HaveDealt, IsDealt, AreDealt, IsDealtBack}
+use Rattle.pc_history.proofs.Histories.{fine-kept, fine-step, pairs_of-entries}
+use Rattle.pc_history.proofs.Ids.{same_id-refl, same_id-true, same_id-equal, same_id-differ}
+use Rattle.pc_history.proofs.Counts.{count_step, count-some}
+use Rattle.pc_history.proofs.Merging.{any_of}
 use Rattle.pc_history.proofs.NoteStep.{get-map}
 use Rattle.pc_history.proofs.LookStep.{loaded}
 use Rattle.pc_history.proofs.Fitting.{fits-opener, word-is}
-use Rattle.pc_lists.proofs.Lists.{all_from_contains, contains_cons, contains_head, contains_in_map, contains_map, contains_nil, contains_tail, nothing_contained, sum_set}
+use Rattle.pc_lists.proofs.Lists.{all_from_contains, contains_cons, contains_nil, sum_set}
 
 -- one of those that are summed is at most the sum
 one_within : {A : Type 0} (f : A → ℕ) (xs : List A) (x : A) → Contains xs x → f x ≤ sum_by f xs
@@ -95,157 +96,101 @@ module _ {X W E : Type 0} (sense : W → Sense E) (w : W) where
     ),
   )
 
-module _ {E : Type 0} where
-  abbrev at_step : ℕ → Entry E → ℕ
-  at_step m e = cond (eqb e.step m) 1 0
+-- the place of an id among these
+abbrev place_in : List ActorId → ActorId → ℕ
+place_in [] a = 0
+place_in (id ∷ ids) a = cond (same_id id a) 0 (suc (place_in ids a))
 
-  -- the entries have the numbers from k upwards
-  abbrev Numbered : ℕ → List (Entry E) → Type 0
-  Numbered k [] = Unit {0}
-  Numbered k (e ∷ es) = (e.step ≡ k) × Numbered (k + 1) es
-
-  -- no entry has a smaller number than one before it
-  abbrev InOrder : List (Entry E) → Type 0
-  InOrder [] = Unit {0}
-  InOrder (e ∷ es) = ((a : Entry E) → Contains es a → e.step ≤ a.step) × InOrder es
-
-  numbered-least : (k : ℕ) (es : List (Entry E)) (a : Entry E) → Numbered k es → Contains es a → k ≤ a.step
-  numbered-least k [] a n c = absurd (contains_nil a c)
-  numbered-least k (e ∷ es) a n c =
-      let first : e.step ≡ k = n.0 in
-      elim (contains_cons e es a c) [
-        | inl same ↦ let s : e.step ≡ a.step = ap (λ (z : Entry E). z.step) same in omega arith
-        | inr later ↦ let r : k + 1 ≤ a.step = numbered-least (k + 1) es a n.1 later in omega arith
+place-within : (ids : List ActorId) (a : ActorId) → Contains ids a → place_in ids a < length ids
+place-within [] a c = absurd (contains_nil a c)
+place-within (id ∷ ids) a c =
+    let by : (b : Bool) → same_id id a ≡ b → cond b 0 (suc (place_in ids a)) < length (id ∷ ids) = elim [
+      | true ↦ λ e. omega arith
+      | false ↦ λ e. elim (contains_cons id ids a c) [
+        | inl same ↦ absurd (let yes' : same_id id a ≡ true = same_id-equal id a same in cc (yes', e))
+        | inr later ↦ let r : place_in ids a < length ids = place-within ids a later in omega arith
       ]
+    ] in
+    by (same_id id a) refl
 
-  none-at : (m : ℕ) (es : List (Entry E)) → ((a : Entry E) → Contains es a → a.step ≢ m) → sum_by (at_step m) es ≡ 0
-  none-at m [] h = refl
-  none-at m (e ∷ es) h =
-      let rest : sum_by (at_step m) es ≡ 0 = none-at m es (λ a c. h a (contains_tail e es a c)) in
-      let here : at_step m e ≡ 0 = ap (λ b. cond b 1 0) (ne_eqb e.step m (h e (contains_head e es))) in
-      let all : sum_by (at_step m) (e ∷ es) ≡ at_step m e + sum_by (at_step m) es = sum_by-cons (at_step m) e es in
-      omega arith
+eqb-next : (m n : ℕ) → eqb (suc m) (suc n) ≡ eqb m n
+eqb-next m n = elim (cases_eq m n) [
+  | inl same ↦ eq-eqb (suc m) (suc n) (ap suc same) ∙ sym (eq-eqb m n same)
+  | inr differ ↦ ne_eqb (suc m) (suc n) (λ e. differ (omega arith)) ∙ sym (ne_eqb m n differ)
+]
 
-  some-at : (m : ℕ) (es : List (Entry E)) (a : Entry E) → Contains es a → a.step ≡ m → 1 ≤ sum_by (at_step m) es
-  some-at m [] a c is = absurd (contains_nil a c)
-  some-at m (e ∷ es) a c is =
-      let all : sum_by (at_step m) (e ∷ es) ≡ at_step m e + sum_by (at_step m) es = sum_by-cons (at_step m) e es in
-      elim (contains_cons e es a c) [
-        | inl same ↦
-            let s : e.step ≡ m = ap (λ (z : Entry E). z.step) same ∙ is in
-            let here : at_step m e ≡ 1 = ap (λ b. cond b 1 0) (eq-eqb e.step m s) in
-            omega arith
-        | inr later ↦ let r : 1 ≤ sum_by (at_step m) es = some-at m es a later is in omega arith
-      ]
+-- where no id stands twice, an id is the one at a place just where that is its place
+place-test : (ids : List ActorId) (a : ActorId) (at : ℕ) (d : ActorId) → ((id : ActorId) → count_of id ids ≤ 1) → at < length ids → same_id (get_or ids at d) a ≡ eqb (place_in ids a) at
+place-test [] a at d once lt = absurd (omega arith)
+place-test (id ∷ ids) a zero d once lt =
+    let by : (b : Bool) → b ≡ eqb (cond b 0 (suc (place_in ids a))) 0 = elim [
+      | true ↦ refl
+      | false ↦ sym (ne_eqb (suc (place_in ids a)) 0 (λ e. let no : ⊥ = omega arith in no))
+    ] in
+    by (same_id id a)
+place-test (id ∷ ids) a (suc at) d once lt =
+    let below : at < length ids = omega arith in
+    let rest : same_id (get_or ids at d) a ≡ eqb (place_in ids a) at = place-test ids a at d (λ x. let few : count_of x (id ∷ ids) ≤ 1 = once x in let step = count_step x id ids in omega arith) below in
+    let twice : get_or ids at d ≡ id → ⊥ = λ same.
+    let some' : 1 ≤ count_of id ids = count-some id ids (subst (λ x. Contains ids x) same (Contains-get_or ids at d below)) in
+    let few : count_of id (id ∷ ids) ≤ 1 = once id in
+    let step : count_of id (id ∷ ids) ≡ 1 + count_of id ids = subst (λ b. count_of id (id ∷ ids) ≡ cond b 1 0 + count_of id ids) (same_id-refl id) (count_step id id ids) in
+    let no : ⊥ = omega arith in no in
+    let by : (b : Bool) → same_id id a ≡ b → same_id (get_or ids at d) a ≡ eqb (cond b 0 (suc (place_in ids a))) (suc at) = elim [
+      | true ↦ λ e. same_id-differ (get_or ids at d) a (λ same. twice (same ∙ sym (same_id-true id a e))) ∙ sym (ne_eqb 0 (suc at) (λ z. let no : ⊥ = omega arith in no))
+      | false ↦ λ e. rest ∙ sym (eqb-next (place_in ids a) at)
+    ] in
+    by (same_id id a) refl
 
-  -- a list in order, whose entries are those of a numbered list, with each number as often, is that list
-  same-in_order : (k : ℕ) (hs vs : List (Entry E)) → Numbered k hs → InOrder vs → ((a : Entry E) → Contains vs a → Contains hs a) → ((m : ℕ) → sum_by (at_step m) vs ≡ sum_by (at_step m) hs) → vs ≡ hs
-  same-in_order k [] vs n o in' counts = nothing_contained vs (λ a c. contains_nil a (in' a c))
-  same-in_order k (h ∷ hs) [] n o in' counts = absurd (
-      let one : 1 ≤ sum_by (at_step k) (h ∷ hs) = some-at k (h ∷ hs) h (contains_head h hs) n.0 in
-      let eq : sum_by (at_step k) [] ≡ sum_by (at_step k) (h ∷ hs) = counts k in
-      let z : sum_by (at_step k) [] ≡ 0 = refl in
-      omega arith)
-  same-in_order k (h ∷ hs) (x ∷ xs) n o in' counts =
-      let h_at : h.step ≡ k = n.0 in
-      let one : 1 ≤ sum_by (at_step k) (h ∷ hs) = some-at k (h ∷ hs) h (contains_head h hs) h_at in
-      let eq : sum_by (at_step k) (x ∷ xs) ≡ sum_by (at_step k) (h ∷ hs) = counts k in
-      let first : h ≡ x = elim (contains_cons h hs x (in' x (contains_head x xs))) [
-        | inl same ↦ same
-        | inr later ↦ absurd (
-            let least : k + 1 ≤ x.step = numbered-least (k + 1) hs x n.1 later in
-            let none' : sum_by (at_step k) (x ∷ xs) ≡ 0 = none-at k (x ∷ xs) (λ a c is. elim (contains_cons x xs a c) [
-              | inl s ↦ let e : x.step ≡ a.step = ap (λ (z : Entry E). z.step) s in omega arith
-              | inr l ↦ let le : x.step ≤ a.step = o.0 a l in omega arith
-            ]) in
-            omega arith)
-      ] in
-      let same_step : h.step ≡ x.step = ap (λ (z : Entry E). z.step) first in
-      let none-later : sum_by (at_step k) hs ≡ 0 = none-at k hs (λ a c is. let l : k + 1 ≤ a.step = numbered-least (k + 1) hs a n.1 c in omega arith) in
-      let split_h : (m : ℕ) → sum_by (at_step m) (h ∷ hs) ≡ at_step m h + sum_by (at_step m) hs = λ m. sum_by-cons (at_step m) h hs in
-      let split_x : (m : ℕ) → sum_by (at_step m) (x ∷ xs) ≡ at_step m x + sum_by (at_step m) xs = λ m. sum_by-cons (at_step m) x xs in
-      let same_at : (m : ℕ) → at_step m h ≡ at_step m x = λ m. ap (λ s. cond (eqb s m) 1 0) same_step in
-      let rest_counts : (m : ℕ) → sum_by (at_step m) xs ≡ sum_by (at_step m) hs = λ m. (let a = split_h m in let b = split_x m in let c = same_at m in let d = counts m in omega arith) in
-      let rest_in : (a : Entry E) → Contains xs a → Contains hs a = λ a c. elim (contains_cons h hs a (in' a (contains_tail x xs a c))) [
-        | inl same ↦ absurd (
-            let s : a.step ≡ k = sym (ap (λ (z : Entry E). z.step) same) ∙ h_at in
-            let some' : 1 ≤ sum_by (at_step k) xs = some-at k xs a c s in
-            let e = rest_counts k in
-            omega arith)
-        | inr later ↦ later
-      ] in
-      let rest : xs ≡ hs = same-in_order (k + 1) hs xs n.1 o.1 rest_in rest_counts in
-      ap (λ z. z ∷ xs) (sym first) ∙ ap (λ zs. h ∷ zs) rest
+kept-entries : {E : Type 0} (id : ActorId) (ps : List (Pair E)) → entries_of (filter (λ p. same_id id p.entry.actor) ps) ≡ filter (λ e. same_id id e.actor) (entries_of ps)
+kept-entries id [] = refl
+kept-entries id (p ∷ ps) =
+    let kept = filter (λ q. same_id id q.entry.actor) ps in
+    let entries = filter (λ e. same_id id e.actor) (entries_of ps) in
+    let r : entries_of kept ≡ entries = kept-entries id ps in
+    let by : (b : Bool) → entries_of (cond b (p ∷ kept) kept) ≡ cond b (p.entry ∷ entries) entries = elim [ true ↦ ap (λ es. p.entry ∷ es) r | false ↦ r ] in
+    by (same_id id p.entry.actor)
 
-  in_order-sorted : (vs : List (Entry E)) → IsNonDecreasingBy (λ (e : Entry E). e.step) vs → InOrder vs
-  in_order-sorted [] sorted = tt
-  in_order-sorted (v ∷ vs) sorted = (
-    (λ a c.
-        let lt : c.0 < length vs = c.1 in
-        let le : v.step ≤ (slice_index_or vs c.0 a).step = sorted 0 (suc c.0) a (omega arith) (omega arith) in
-        subst (λ (z : Entry E). v.step ≤ z.step) c.2 le),
-    in_order-sorted vs (λ i j d le lt. sorted (suc i) (suc j) d (omega arith) (omega arith)),
-  )
+module _ {E : Type 0} (S : Sense E) (parts : List (Part E)) (steps : ℕ) (lists : List (List (Entry E))) (tells : TellsClose S parts steps) (are : lists ≡ lists_in parts) where
+  abbrev place_of : Entry E → ℕ
+  place_of e = place_in (ids_of parts) e.actor
 
-  sum-entries : (f : Entry E → ℕ) (ps : List (Pair E)) → sum_by f (entries_of ps) ≡ sum_by (λ p. f p.entry) ps
-  sum-entries f [] = refl
-  sum-entries f (p ∷ ps) = sum_by-cons f p.entry (entries_of ps) ∙ (ap (λ n. f p.entry + n) (sum-entries f ps) ∙ sym (sum_by-cons (λ (q : Pair E). f q.entry) p ps))
+  lists-many : length lists ≡ length parts
+  lists-many = ap length are ∙ length-map parts (λ (p : Part E). entries_of p.own)
 
-  sum-ids : (g : ActorId → ℕ) (parts : List (Part E)) → sum_by g (ids_of parts) ≡ sum_by (λ p. g p.id) parts
-  sum-ids g [] = refl
-  sum-ids g (p ∷ ps) = sum_by-cons g p.id (ids_of ps) ∙ (ap (λ n. g p.id + n) (sum-ids g ps) ∙ sym (sum_by-cons (λ (q : Part E). g q.id) p ps))
-
-  sum-parts : (f : Entry E → ℕ) (parts : List (Part E)) → sum_by f (entries_in parts) ≡ sum_by (λ p. sum_by f (entries_of p.own)) parts
-  sum-parts f [] = refl
-  sum-parts f (p ∷ ps) = sum_by-append f (entries_of p.own) (entries_in ps) ∙ (ap (λ n. sum_by f (entries_of p.own) + n) (sum-parts f ps) ∙ sym (sum_by-cons (λ (q : Part E). sum_by f (entries_of q.own)) p ps))
-
-  contains-parts : (parts : List (Part E)) (a : Entry E) → Contains (entries_in parts) a → (p : Part E) × Contains parts p × Contains (entries_of p.own) a
-  contains-parts [] a c = absurd (contains_nil a c)
-  contains-parts (p ∷ ps) a c =
-      elim (Contains-append_cases (entries_of p.own) (entries_in ps) a c) [
-        | inl here ↦ (p, contains_head p ps, here)
-        | inr later ↦ let r = contains-parts ps a later in (r.0, contains_tail p ps r.0 r.1, r.2)
-      ]
-
-module _ {E : Type 0} (S : Sense E) where
-  numbered-fine : (before es : List (Entry E)) → IsFineAfter S before es → Numbered (length before) es
-  numbered-fine before [] fine = tt
-  numbered-fine before (e ∷ es) fine =
-      (fine.0.step, subst (λ n. Numbered n es) (length-append before (e ∷ []) ∙ omega arith) (numbered-fine (before ++ e ∷ []) es fine.1))
-
-  parts-counts : (history : List (Entry E)) (parts : List (Part E)) → IsHistoryOf S history parts → ((id : ActorId) → count_of id (ids_of parts) ≤ 1) → (f : Entry E → ℕ) → sum_by f (entries_in parts) ≡ sum_by f history
-  parts-counts history parts is once f =
-      let ids = ids_of parts in
-      let ps = pairs_of S history in
-      let g : Pair E → ℕ = λ p. f p.entry in
-      let each : (p : Part E) → Contains parts p → sum_by f (entries_of p.own) ≡ sum_by g (own S p.id history) = λ p c.
-      sum-entries f p.own ∙ ap (λ qs. sum_by g qs) (sym (All-contains (IsClosedPart S history) parts p is.parts_are c).list) in
-      let single : (p : Pair E) → Contains ps p → g p * count_of p.entry.actor ids ≡ g p = λ p c.
-      let there : Contains history p.entry = subst (λ z. Contains z p.entry) (pairs_of-entries S history) (contains_map (λ (q : Pair E). q.entry) ps p c) in
-      let low = count-some p.entry.actor ids (All-contains (λ e. Contains ids e.actor) history p.entry is.only there) in
-      let high = once p.entry.actor in
-      let one : count_of p.entry.actor ids ≡ 1 = omega arith in
-      ap (λ n. g p * n) one ∙ omega arith in
-      sum-parts f parts
-      ∙ (sum_same (λ p. sum_by f (entries_of p.own)) (λ p. sum_by g (own S p.id history)) parts each
-      ∙ (sym (sum-ids (λ id. sum_by g (own S id history)) parts)
-      ∙ (sum-own g ids ps
-      ∙ (sum_same (λ p. g p * count_of p.entry.actor ids) g ps single
-      ∙ (sym (sum-entries f ps) ∙ ap (λ es. sum_by f es) (pairs_of-entries S history))))))
-
-  -- the entries of all parts, in the order of their numbers, are the history
-  pub closed-history : (parts : List (Part E)) (steps : ℕ) (entries sorted : List (Entry E)) → TellsClose S parts steps → entries ≡ entries_in parts → IsPermutation entries sorted → IsNonDecreasingBy (λ (e : Entry E). e.step) sorted
-      → IsHistoryOf S sorted parts
-  closed-history parts steps entries sorted tells are moved order =
+  -- each list has what the history has of its actor
+  have_dealt : HaveDealt tells.0 place_of lists
+  have_dealt at lt =
       let history = tells.0 in
-      let is = tells.2 in
-      let counts : (m : ℕ) → sum_by (at_step m) sorted ≡ sum_by (at_step m) history = λ m.
-      sum_by-IsPermutation (at_step m) entries sorted moved ∙ (ap (λ es. sum_by (at_step m) es) are ∙ parts-counts history parts is tells.3 (at_step m)) in
-      let in' : (a : Entry E) → Contains sorted a → Contains history a = λ a c.
-      let there : Contains (entries_in parts) a = subst (λ es. Contains es a) are (Contains-permutation sorted entries a (IsPermutation-sym entries sorted moved) c) in
-      let r = contains-parts parts a there in
-      let q = contains_in_map (λ (p : Pair E). p.entry) r.0.own a r.2 in
-      let list = (All-contains (IsClosedPart S history) parts r.0 is.parts_are r.1).list in
-      subst (λ z. Contains history z) q.2 (own-contains S r.0.id history q.0 (subst (λ ps. Contains ps q.0) (sym list) q.1)).0 in
-      let same : sorted ≡ history = same-in_order 0 history sorted (numbered-fine [] history is.fine) (in_order-sorted sorted order) in' counts in
-      subst (λ es. IsHistoryOf S es parts) (sym same) is
+      let ids = ids_of parts in
+      let within : at < length parts = let many = lists-many in omega arith in
+      let below : at < length ids = let many = length-map parts (λ (p : Part E). p.id) in omega arith in
+      let p = get_or parts at (any_of parts at within) in
+      let mine : get_or ids at p.id ≡ p.id = get_or-map (λ (q : Part E). q.id) parts at p p.id within ∙ ap (λ (q : Part E). q.id) (get_or_default parts at p (any_of parts at within) within) in
+      ap (λ ls. get_or ls at []) are
+      ∙ (get_or-map (λ (q : Part E). entries_of q.own) parts at (any_of parts at within) [] within
+      ∙ (ap entries_of (sym (tells.2.parts_are at (any_of parts at within) within).list)
+      ∙ (kept-entries p.id (pairs_of S history)
+      ∙ (ap (λ es. filter (λ e. same_id p.id e.actor) es) (pairs_of-entries S history)
+      ∙ filter_agree (λ (e : Entry E). same_id p.id e.actor) (λ (e : Entry E). eqb (place_of e) at)
+      (λ e. ap (λ id. same_id id e.actor) (sym mine) ∙ place-test ids e.actor at p.id tells.3 below) history))))
+
+  -- the history is dealt out to the lists of the parts
+  dealt : IsDealt tells.0 place_of lists steps
+  dealt = record {
+    whole = tells.1;
+    numbered = (λ k d lt. fine-step S tells.0 k (get_or tells.0 k d) tells.2.fine (slice_get-get_or tells.0 k d lt));
+    placed = (λ k d lt.
+        let low = place-within (ids_of parts) (get_or tells.0 k d).actor (tells.2.only k d lt) in
+        let many = length-map parts (λ (p : Part E). p.id) in
+        let same = lists-many in
+        omega arith);
+    have = have_dealt;
+  }
+
+  pub closed-lists : AreDealt lists steps
+  closed-lists = (tells.0, place_of, dealt)
+
+  -- what is dealt back of them is the history
+  pub closed-history : (entries : List (Entry E)) → IsDealtBack entries lists steps → IsHistoryOf S entries parts
+  closed-history entries back = subst (λ es. IsHistoryOf S es parts) (sym (back tells.0 place_of dealt)) tells.2

@@ -11,7 +11,8 @@ use Rattle.pc_history.proofs.Ids.{same_id-refl, same_id-true}
 use Rattle.pc_history.proofs.Histories.{pairs_of-entries}
 use Rattle.pc_lists.proofs.Lists.{contains_cons, contains_head, contains_map, contains_nil, contains_tail}
 
-count_step : (a x : ActorId) (ids : List ActorId) → count_of a (x ∷ ids) ≡ cond (same_id x a) 1 0 + count_of a ids
+-- how often an id stands in a list with one more first
+pub count_step : (a x : ActorId) (ids : List ActorId) → count_of a (x ∷ ids) ≡ cond (same_id x a) 1 0 + count_of a ids
 count_step a x ids = sum_by-cons (λ y. cond (same_id y a) 1 0) x ids
 
 -- an id that stands in the list is counted
@@ -71,7 +72,7 @@ module _ {X : Type 0} where
       let c : sum_by g (x ∷ xs) ≡ g x + sum_by g xs = sum_by-cons g x xs in
       omega arith
 
-  pub sum_same : (f g : X → ℕ) (xs : List X) → ((x : X) → Contains xs x → f x ≡ g x) → sum_by f xs ≡ sum_by g xs
+  sum_same : (f g : X → ℕ) (xs : List X) → ((x : X) → Contains xs x → f x ≡ g x) → sum_by f xs ≡ sum_by g xs
   sum_same f g [] h = refl
   sum_same f g (x ∷ xs) h =
       let r : sum_by f xs ≡ sum_by g xs = sum_same f g xs (λ y c. h y (contains_tail x xs y c)) in
@@ -80,7 +81,7 @@ module _ {X : Type 0} where
       let c : sum_by g (x ∷ xs) ≡ g x + sum_by g xs = sum_by-cons g x xs in
       omega arith
 
-  pub sum_ones : (xs : List X) → sum_by (λ x. 1) xs ≡ length xs
+  sum_ones : (xs : List X) → sum_by (λ x. 1) xs ≡ length xs
   sum_ones [] = refl
   sum_ones (x ∷ xs) =
       let r : sum_by (λ x. 1) xs ≡ length xs = sum_ones xs in
@@ -111,7 +112,7 @@ module _ {E : Type 0} where
       ] in by (same_id id p.entry.actor)
 
   -- the own entries of these ids, added up, are all entries, each as often as its actor stands among the ids
-  pub sum-own : (f : Pair E → ℕ) (ids : List ActorId) (ps : List (Pair E)) → sum_by (λ id. sum_by f (of_id id ps)) ids ≡ sum_by (λ p. f p * count_of p.entry.actor ids) ps
+  sum-own : (f : Pair E → ℕ) (ids : List ActorId) (ps : List (Pair E)) → sum_by (λ id. sum_by f (of_id id ps)) ids ≡ sum_by (λ p. f p * count_of p.entry.actor ids) ps
   sum-own f ids [] = sum_zero ids
   sum-own f ids (p ∷ ps) =
       let r : sum_by (λ id. sum_by f (of_id id ps)) ids ≡ sum_by (λ q. f q * count_of q.entry.actor ids) ps = sum-own f ids ps in

@@ -11,6 +11,7 @@ pub mod SeatStep
 pub mod NoteStep
 pub mod CopyStep
 pub mod ActStep
+pub mod Merging
 pub mod CloseStep
 pub mod Calls
 pub mod Callers

@@ -1,4 +1,4 @@
--- Which histories are fine.
+-- Which histories are fine. Own profile: whatever world of events is given.
 use Rattle.std.specs.Prelude.{◌≡◌, List, [], ◌∷◌, ◌++◌, length, All}
 use Rattle.pc_base.specs.declared.Entry.{Entry}
 use Rattle.pc_history.specs.Sense.{Sense}

@@ -9,3 +9,4 @@ pub mod Closed
 pub mod Table
 pub mod Steps
 pub mod Ties
+pub mod Dealt

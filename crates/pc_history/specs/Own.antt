@@ -1,4 +1,4 @@
--- An actor's own entries in a history, each with the entry that it names.
+-- An actor's own entries in a history, each with the entry that it names. Own profile.
 use Rattle.std.specs.Prelude.{Bool, false, eqb, List, [], ◌∷◌, ◌++◌, map, Option, filter, find}
 use Rattle.pc_base.specs.declared.ActorId.{ActorId}
 use Rattle.pc_base.specs.declared.ActorId.TheVariants.{Range, Session, Recoverer}

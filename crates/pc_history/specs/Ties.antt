@@ -1,5 +1,5 @@
 -- What ties the fields of a table's values to what their seats know.
-use Rattle.std.specs.Prelude.{◌≡◌, Bool, true, List, [], Option, Some, flat_map}
+use Rattle.std.specs.Prelude.{◌≡◌, Bool, true, List, [], map, Option, Some}
 use Rattle.atomic_table.specs.Table.{Me}
 use Rattle.atomic_table.specs.Seated.{TableId}
 use Rattle.pc_base.specs.declared.ActorId.{ActorId}
@@ -11,9 +11,9 @@ use Rattle.pc_history.specs.Own.{entries_of}
 use Rattle.pc_history.specs.Table.{opening_view}
 use Rattle.pc_history.specs.Meanings.{ActorMeaning, NoteMeaning}
 
--- The entries of these parts, one part after another.
-abbrev pub entries_in : {E : Type 0} → List (Part E) → List (Entry E)
-entries_in parts = flat_map (λ p. entries_of p.own) parts
+-- The entries of these parts, a list for each.
+abbrev pub lists_in : {E : Type 0} → List (Part E) → List (List (Entry E))
+lists_in parts = map (λ p. entries_of p.own) parts
 
 -- A seat at this table, which has one word, and holds no slot.
 pub record IsSeated {X V : Type 0} (table seat : TableId) (me : Me X V) : Type 0 where
@@ -32,12 +32,12 @@ pub record IsNamed {W : Type 0} (name : TableId) (named : Option W) (world : W) 
   pub world_is : named ≡ Some world
 
 -- An opener's fields agree with what its seat knows.
-pub record OpenerIsTied {X W E : Type 0} (name : TableId) (named : Option W) (world : W) (table seat : TableId) (me : Me X (View W E)) (whole : Bool) (entries : List (Entry E)) : Type 0 where
+pub record OpenerIsTied {X W E : Type 0} (name : TableId) (named : Option W) (world : W) (table seat : TableId) (me : Me X (View W E)) (whole : Bool) (lists : List (List (Entry E))) : Type 0 where
   pub is_named : IsNamed name named world table
   pub seated : IsSeated table seat me
   pub role_is : me.0.role ≡ Opening
   pub world_is : me.0.world ≡ Some world
-  pub entries_are : whole ≡ true → entries ≡ entries_in me.0.parts
+  pub lists_are : whole ≡ true → lists ≡ lists_in me.0.parts
 
 -- An actor's fields agree with what its seat knows.
 pub record ActorIsTied {X W E : Type 0} (name : TableId) (named : Option W) (world : W) (table seat : TableId) (me : Me X (View W E)) (id : ActorId) (entries : List (Entry E)) : Type 0 where

@@ -4,6 +4,7 @@
 mod actor;
 mod asked;
 mod blank;
+mod merge;
 mod named;
 mod note;
 mod opener;

@@ -5,6 +5,7 @@ ghost use Rattle.pc_history.specs.Closed.{AllHandedIn, IsHistoryOf};
 use crate::actor::Actor;
 use crate::asked::Asked;
 use crate::blank::{Blank, StepSeat, StepTable};
+use crate::merge::merge;
 use crate::named::Named;
 use crate::steps::{Closing, HandingIn, Seating};
 use crate::world::World;
@@ -19,20 +20,21 @@ pub struct Opener<W: World, N: Named<W>> {
     alloc: Global,
     table: Arc<StepTable<W>, Global>,
     seat: StepSeat<W>,
-    entries: Vec<Entry<W::Event>>,
+    lists: Vec<Vec<Entry<W::Event>>>,
     whole: bool,
     name: PhantomData<N>,
 }
 
 impl<W: World, N: Named<W>> Model for Opener<W, N> {
     ghost use Rattle.pc_history.specs.Meanings.{OpenerMeaning};
+    ghost use Rattle.std.specs.Prelude.{map, vec_items};
     ghost use Rattle.pc_history.specs.Ties.{OpenerIsTied};
 
     ghost Value = { OpenerMeaning W W.Event };
 
     ghost view = { λ o. record { world = o.table.value.shared.key; seated = o.seat.me.0.seated; parts = o.seat.me.0.parts; whole = o.whole } };
 
-    ghost invariant = { λ o. OpenerIsTied N.table N.world o.table.value.shared.key o.table.value.shared.table_id o.seat.table_id o.seat.me o.whole o.entries.items };
+    ghost invariant = { λ o. OpenerIsTied N.table N.world o.table.value.shared.key o.table.value.shared.table_id o.seat.table_id o.seat.me o.whole (map vec_items o.lists.items) };
 }
 
 impl<W: World, N: Named<W>> Opener<W, N> {
@@ -46,7 +48,7 @@ impl<W: World, N: Named<W>> Opener<W, N> {
             alloc,
             table,
             seat,
-            entries: Vec::new(alloc),
+            lists: Vec::new(alloc),
             whole: true,
             name: PhantomData,
         }
@@ -89,11 +91,11 @@ impl<W: World, N: Named<W>> Opener<W, N> {
         } }
         ensures world { actor.world ≡ self.old.world }
     {
-        let (seat, mut entries) = actor.into_fields();
+        let (seat, entries) = actor.into_fields();
         self.table
             .shared
             .join_seat::<HandingIn>(&mut self.seat, seat);
-        if let Err(error) = self.entries.append(&mut entries) {
+        if let Err(error) = self.lists.push(entries) {
             self.whole = false;
             return Err(NoMemory::from(error));
         }
@@ -107,19 +109,18 @@ impl<W: World, N: Named<W>> Opener<W, N> {
             IsHistoryOf (W.sense self.world) entries.items self.parts) }
         ensures refused { self.whole ≡ false → IsErr result }
     {
-        self.table.shared.load::<Closing>(&mut self.seat, 0);
+        let steps = self.table.shared.load::<Closing>(&mut self.seat, 0);
         let Opener {
-            alloc: _,
+            alloc,
             table: _,
             seat: _,
-            mut entries,
+            lists,
             whole,
             name: _,
         } = self;
         if !whole {
             return Err(NoMemory);
         }
-        entries.sort_by_cached_key(|entry| entry.step)?;
-        Ok(entries)
+        merge(alloc, lists, steps as usize)
     }
 }

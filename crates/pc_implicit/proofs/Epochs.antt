@@ -1,6 +1,6 @@
 -- In every run no epoch that a range, a request or a reply has of a transaction is later than the one that its session has reached.
-use Rattle.std.proofs.Common.{◌≡◌, ℕ, ◌+◌, ◌<◌, ◌≤◌, nat_le, Bool, true, false, ◌&&◌, inl, inr, List, [], ◌∷◌, ◌++◌, Option, None, Some, IfSome, Contains, refl, sym, ap, subst, ◌∙◌, arith, if◌then◌else◌}
-use Rattle.std.proofs.lemmas.Bool.{leb-false, le-leb}
+use Rattle.std.proofs.Common.{◌≡◌, ℕ, ◌+◌, ◌<◌, ◌≤◌, nat_le, Bool, true, false, not, ◌&&◌, ◌==◌, inl, inr, List, [], ◌∷◌, ◌++◌, Option, None, Some, IfSome, Contains, refl, sym, ap, subst, ◌∙◌, arith, if◌then◌else◌}
+use Rattle.std.proofs.lemmas.Bool.{and_parts, eqb-true, leb-false, le-leb}
 use Rattle.std.proofs.lemmas.List.Elements.{Contains-push, Contains-push_cases}
 use Rattle.std.specs.Prelude.{⊤}
 use Rattle.pc_base.specs.declared.actor.ActorId.{ActorId}
@@ -23,7 +23,7 @@ use Rattle.pc_implicit.proofs.MetaRows.{MetaHas, RequestHas, brings}
 use Rattle.pc_implicit.proofs.Metas.{HasAnchor, metas_agree}
 use Rattle.pc_implicit.proofs.Runs.{reply_is}
 use Rattle.pc_implicit.proofs.Turns.{Restarted, Turn, WentOn, Wrote, comes_from}
-use Rattle.pc_implicit.specs.Epochs.{IsPastWhereOpen, OpenRecordsArePast}
+use Rattle.pc_implicit.specs.Epochs.{IsPastWhereElsewhere, IsPastWhereOpen, OpenRecordsArePast, OtherRecordsArePast}
 use Rattle.pc_implicit.specs.Writes.{txns_of}
 use Rattle.pc_lists.proofs.Each.{each-contains, each-weaker}
 use Rattle.pc_lists.proofs.Lists.{contains_nil}
@@ -42,7 +42,8 @@ use Rattle.pc_proto.specs.declared.request.Request.TheVariants as requests
 use Rattle.pc_proto.specs.Place.{Place, Nothing, Kept, Marked, Stay, Become, after, is_final, status_view, view_of}
 use Rattle.pc_proto.specs.RecordRows.{unless_decided}
 use Rattle.pc_proto.specs.RecordRows.Commit.{commit}
-use Rattle.pc_proto.specs.RecordRows.Reached.{activity_of, status_of}
+use Rattle.pc_proto.specs.RecordRows.Reached.{activity_of, alive_at, is_staging, status_of}
+use Rattle.pc_proto.specs.RecordRows.Stage.{stage}
 use Rattle.pc_proto.specs.Replies.{ConflictsWith}
 use Rattle.pc_proto.specs.Table.{place_of}
 use Rattle.pc_world.proofs.Knowing.{run_push, state_other}
@@ -281,5 +282,60 @@ pub open_records_are_past : OpenRecordsArePast
 open_records_are_past head history range meta ts locks t run mine whose low =
     let table = (state_at head range history).table in
     past-at meta ts locks (place_of meta.id table)
+    (low-at head history meta t (place_of meta.id table) mine whose low (place_reached (HasReached head history) meta.id table ((epochs_are_reached head history run).states range).records))
+    (λ s is. marks_final head range meta.id history s is)
+
+-- ---- a stage that leaves the record undecided, and not staging so
+
+elsewhere-over : (epoch ts : ℕ) (standing : Standing) (other at : ℕ) (writes : List (List ℕ × ℕ)) (locks : List (List ℕ)) → other ≤ epoch → (nat_le other epoch && nat_le at ts) ≡ false
+    → IsPastWhereElsewhere epoch ts (replies.Status (status_view standing other at writes locks))
+elsewhere-over epoch ts standing other at writes locks low over = by standing (leb-false at ts (sym (ap (λ b. b && nat_le at ts) (le-leb other epoch low)) ∙ over))
+  where
+    by : (standing : Standing) → ts < at → IsPastWhereElsewhere epoch ts (replies.Status (status_view standing other at writes locks))
+    by standings.Pending past = past
+    by standings.Staging past = inr past
+    by standings.Committed past = tt
+    by (standings.Aborted why) past = tt
+
+elsewhere-final : (epoch ts : ℕ) (standing : Standing) (other at : ℕ) (writes : List (List ℕ × ℕ)) (locks : List (List ℕ)) → is_final standing ≡ true
+    → IsPastWhereElsewhere epoch ts (replies.Status (status_view standing other at writes locks))
+elsewhere-final epoch ts standings.Pending other at writes locks final = absurd cc
+elsewhere-final epoch ts standings.Staging other at writes locks final = absurd cc
+elsewhere-final epoch ts standings.Committed other at writes locks final = tt
+elsewhere-final epoch ts (standings.Aborted why) other at writes locks final = tt
+
+staged-so : (epoch ts : ℕ) (standing : Standing) (other at : ℕ) (writes : List (List ℕ × ℕ)) (locks : List (List ℕ)) → (is_staging standing && (other == epoch && at == ts)) ≡ true
+    → IsPastWhereElsewhere epoch ts (replies.Status (status_view standing other at writes locks))
+staged-so epoch ts standings.Staging other at writes locks so = let both = and_parts (other == epoch) (at == ts) so in inl (eqb-true other epoch both.0, eqb-true at ts both.1)
+staged-so epoch ts standings.Pending other at writes locks so = absurd cc
+staged-so epoch ts standings.Committed other at writes locks so = absurd cc
+staged-so epoch ts (standings.Aborted why) other at writes locks so = absurd cc
+
+marked-elsewhere : (epoch ts : ℕ) (s : Status) → is_final s.standing ≡ true → IsPastWhereElsewhere epoch ts (replies.Status (view_of (Marked s)))
+marked-elsewhere epoch ts s final = elsewhere-final epoch ts s.standing s.epoch s.ts [] [] final
+
+elsewhere-at : (meta : TxnMeta) (ts now : ℕ) (writes : List (List ℕ × ℕ)) (locks : List (List ℕ)) (p : Place) → IsLowPlace meta.epoch p → ((s : Status) → p ≡ Marked s → is_final s.standing ≡ true)
+    → IsPastWhereElsewhere meta.epoch ts (replies.Status (view_of (after p (unless_decided p (stage meta ts now writes locks p)))))
+elsewhere-at meta ts now writes locks Nothing low marks = inl (refl, refl)
+elsewhere-at meta ts now writes locks (Kept r) low marks =
+    by (is_final r.status.standing) refl (nat_le r.status.epoch meta.epoch && nat_le r.status.ts ts) refl (is_staging r.status.standing && (r.status.epoch == meta.epoch && r.status.ts == ts)) refl
+  where
+    made : Record
+    made = record { meta = meta; status = status_of standings.Staging meta.epoch ts; activity = alive_at (Kept r) now; writes = writes; locks = locks }
+
+    by : (b : Bool) → is_final r.status.standing ≡ b → (c : Bool) → (nat_le r.status.epoch meta.epoch && nat_le r.status.ts ts) ≡ c
+        → (d : Bool) → (is_staging r.status.standing && (r.status.epoch == meta.epoch && r.status.ts == ts)) ≡ d
+        → IsPastWhereElsewhere meta.epoch ts (replies.Status (view_of (after (Kept r) (if b then Stay else (if c && not d then Become made else Stay)))))
+    by true final c is d so = elsewhere-final meta.epoch ts r.status.standing r.status.epoch r.status.ts r.writes r.locks final
+    by false more true reached false other = inl (refl, refl)
+    by false more true reached true so = staged-so meta.epoch ts r.status.standing r.status.epoch r.status.ts r.writes r.locks so
+    by false more false over d so = elsewhere-over meta.epoch ts r.status.standing r.status.epoch r.status.ts r.writes r.locks low over
+elsewhere-at meta ts now writes locks (Marked s) low marks = marked-elsewhere meta.epoch ts s (marks s refl)
+
+-- a stage of the epoch that its session has reached, which leaves the record undecided and not staging so, finds it past its timestamp
+pub other_records_are_past : OtherRecordsArePast
+other_records_are_past head history range meta ts now writes locks t run mine whose low =
+    let table = (state_at head range history).table in
+    elsewhere-at meta ts now writes locks (place_of meta.id table)
     (low-at head history meta t (place_of meta.id table) mine whose low (place_reached (HasReached head history) meta.id table ((epochs_are_reached head history run).states range).records))
     (λ s is. marks_final head range meta.id history s is)

@@ -64,8 +64,8 @@ module _ (head : Head) where
   fate-more history e event h = tt
 
   -- what an actor may resolve is so
-  shown-fate : (history : List (Entry Event)) → IsRun head history → (actor : ActorId) (id : TxnId) (fate : Fate) → MaySendResolve (known_at head actor history) id fate → FateIsSo fate (home_of head id history)
-  shown-fate history run actor id fate (n, h, inside, at, shows) =
+  pub shown_fate : (history : List (Entry Event)) → IsRun head history → (actor : ActorId) (id : TxnId) (fate : Fate) → MaySendResolve (known_at head actor history) id fate → FateIsSo fate (home_of head id history)
+  shown_fate history run actor id fate (n, h, inside, at, shows) =
       let w = each-contains (IsSo head history actor) (known_at head actor history).heard h (heard_is_so head history run actor) (n, inside, at) in
       let about : subject h.request ≡ Some id = subject-is id (subject h.request) shows.about in
       let anchored = subject_anchored head history run w.send w.listed h.number w.range h.request id w.sends about in
@@ -75,7 +75,7 @@ module _ (head : Head) where
       view-fate shows.view fate (home_of head id history) shows.fits (subst (StaysTrue shows.view) there stays)
 
   says-fate : (history : List (Entry Event)) → IsRun head history → (actor : ActorId) (event : Event) → Does head actor (known_at head actor history) event → SaysFate head history event
-  says-fate history run actor (events.Send number range (requests.Resolve id key fate)) may = shown-fate history run actor id fate may.row
+  says-fate history run actor (events.Send number range (requests.Resolve id key fate)) may = shown_fate history run actor id fate may.row
   says-fate history run actor event may = tt
 
   all-so : (history : List (Entry Event)) → IsRun head history → (a : Entry Event) → Contains history a → SaysFate head history a.event

@@ -1,3 +1,4 @@
+pub mod AboveMissed
 pub mod AbortCauses
 pub mod AbortedFrom
 pub mod AbortsSent
@@ -106,6 +107,7 @@ pub mod StagesOpen
 pub mod StagesRefuted
 pub mod StagesSent
 pub mod StaysOrRefuted
+pub mod ToldCommits
 pub mod Turns
 pub mod VersionSearches
 pub mod VersionSteps

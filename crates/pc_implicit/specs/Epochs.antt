@@ -1,6 +1,6 @@
--- Commits and epochs: a transaction's record is in no later epoch than its session has reached, so a commit of that epoch which leaves the
--- record undecided finds it past the commit's timestamp. SIGMOD 2020 paper, section 3.4; RFC 20180324.
-use Rattle.std.specs.Prelude.{◌≡◌, ℕ, ◌<◌, ◌≤◌, List, Contains, ⊤}
+-- Commits, stages and epochs: a transaction's record is in no later epoch than its session has reached, so a commit of that epoch which leaves the
+-- record undecided finds it past the commit's timestamp; so does a stage, or the record stages so. SIGMOD 2020 paper, section 3.4; RFC 20180324.
+use Rattle.std.specs.Prelude.{◌≡◌, ℕ, ◌<◌, ◌≤◌, ◌⊎◌, List, Contains, ⊤}
 use Rattle.pc_base.specs.declared.entry.Entry.{Entry}
 use Rattle.pc_implicit.specs.Writes.{txns_of}
 use Rattle.pc_proto.specs.declared.event.Event.{Event}
@@ -27,3 +27,16 @@ OpenRecordsArePast =
     (head : Head) (history : List (Entry Event)) (range : ℕ) (meta : TxnMeta) (ts : ℕ) (locks : List (List ℕ)) (t : Txn)
     → IsRun head history → Contains (txns_of head meta.id history) t → t.id ≡ meta.id → t.epoch ≤ meta.epoch
     → IsPastWhereOpen ts (reply (requests.Commit meta ts locks) (state_at head range history))
+
+-- If the reply shows a record that is not decided, it stages in this epoch at this timestamp, or its timestamp is past this one.
+abbrev pub IsPastWhereElsewhere : ℕ → ℕ → Reply → Type 0
+IsPastWhereElsewhere epoch ts (replies.Status (views.Pending other at)) = ts < at
+IsPastWhereElsewhere epoch ts (replies.Status (views.Staging other at writes)) = ((other ≡ epoch) × (at ≡ ts)) ⊎ (ts < at)
+IsPastWhereElsewhere epoch ts _ = ⊤
+
+-- A stage in the epoch that its session has reached finds its record decided, staging so, or past its timestamp.
+abbrev pub OtherRecordsArePast : Type 0
+OtherRecordsArePast =
+    (head : Head) (history : List (Entry Event)) (range : ℕ) (meta : TxnMeta) (ts now : ℕ) (writes : List (List ℕ × ℕ)) (locks : List (List ℕ)) (t : Txn)
+    → IsRun head history → Contains (txns_of head meta.id history) t → t.id ≡ meta.id → t.epoch ≤ meta.epoch
+    → IsPastWhereElsewhere meta.epoch ts (reply (requests.Stage meta ts now writes locks) (state_at head range history))

@@ -1,7 +1,7 @@
 -- Laws of every run, staging included: what a query missed stays missing, what was written stands while its transaction is not
 -- decided, a stage's writes stay present while its record is not past it, and what is committed stays so. RFC 20180324; ParallelCommits
 -- TLA+, ImplicitCommitLeadsToExplicitCommit.
-use Rattle.std.specs.Prelude.{◌≡◌, ℕ, ◌<◌, ◌≤◌, false, None, Some, List, ◌∷◌, ◌++◌, Contains}
+use Rattle.std.specs.Prelude.{◌≡◌, ℕ, ◌<◌, ◌≤◌, ◌⊎◌, true, false, None, Some, List, ◌∷◌, ◌++◌, Contains}
 use Rattle.pc_base.specs.Bound.{free_from}
 use Rattle.pc_base.specs.declared.entry.Entry.{Entry}
 use Rattle.pc_base.specs.declared.transaction.TxnId.{TxnId}
@@ -9,19 +9,22 @@ use Rattle.pc_implicit.specs.Decided.{decision}
 use Rattle.pc_implicit.specs.Reads.{RangeEvaluated}
 use Rattle.pc_implicit.specs.Replied.{WasWritten}
 use Rattle.pc_implicit.specs.Stages.{IsOpenTo, IsThere, WasThere}
-use Rattle.pc_implicit.specs.Writes.{home_of, own_intent}
+use Rattle.pc_implicit.specs.Writes.{home_of, own_intent, txns_of}
 use Rattle.pc_proto.specs.declared.event.Event.{Event}
 use Rattle.pc_proto.specs.declared.record.Intent.{Intent}
+use Rattle.pc_proto.specs.declared.record.Standing.TheVariants as standings
 use Rattle.pc_proto.specs.declared.reply.Reply.{Reply}
 use Rattle.pc_proto.specs.declared.reply.Reply.TheVariants as replies
 use Rattle.pc_proto.specs.declared.request.Request.{Request}
 use Rattle.pc_proto.specs.declared.request.Request.TheVariants as requests
 use Rattle.pc_proto.specs.Intents.{last_seq}
+use Rattle.pc_proto.specs.RecordRows.Reached.{is_staged_at, status_of}
 use Rattle.pc_proto.specs.Requests.{Recovers}
 use Rattle.pc_world.specs.After.{state_at}
 use Rattle.pc_world.specs.Committed.{IsCommitted}
 use Rattle.pc_world.specs.Decisions.{AnswersCommitted}
 use Rattle.pc_world.specs.Evaluation.Query.{write_stands}
+use Rattle.pc_world.specs.Known.Transactions.{Txn}
 use Rattle.pc_world.specs.Local.{Head}
 use Rattle.pc_world.specs.RangeState.{RangeState}
 use Rattle.pc_world.specs.Run.{IsRun}
@@ -78,3 +81,11 @@ abbrev pub RecoveriesAgree : Type 0
 RecoveriesAgree =
     (head : Head) (before : List (Entry Event)) (e : Entry Event) (later : List (Entry Event)) (id : TxnId) (ts : ℕ)
     → IsRun head (before ++ e ∷ later) → AnswersCommitted head before ts (Recovers id) e → IsCommitted head before id ts
+
+-- Told commits stand: of a transaction that put something and that its session was told committed, the record or mark says so in the epoch
+-- that its session has reached, or the record stages there.
+abbrev pub ToldCommitsStand : Type 0
+ToldCommitsStand =
+    (head : Head) (history : List (Entry Event)) (id : TxnId) (t : Txn) (anchor : List ℕ) (ts : ℕ)
+    → IsRun head history → Contains (txns_of head id history) t → t.id ≡ id → t.anchor ≡ Some anchor → t.committed ≡ Some ts
+    → (decision (home_of head id history) ≡ Some (status_of standings.Committed t.epoch ts)) ⊎ (is_staged_at (home_of head id history) t.epoch ts ≡ true)

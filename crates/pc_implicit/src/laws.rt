@@ -1,5 +1,5 @@
 ghost use Rattle.pc_implicit.specs.ReplyKinds.{RepliesHaveKinds};
-ghost use Rattle.pc_implicit.specs.Epochs.{OpenRecordsArePast};
+ghost use Rattle.pc_implicit.specs.Epochs.{OpenRecordsArePast, OtherRecordsArePast};
 ghost use Rattle.pc_implicit.specs.Laws.{DecisionsStand, NothingFalls, LeftStagingsStayAway, BoundsStand, ViewsStayTrue, FinalViewsStay, DecisionsDoNotDiffer, CommitPointsDiffer, HoldersWereBegun, HeadsHaveHolders};
 
 /// A law: a final record or mark keeps its status for good.
@@ -60,4 +60,9 @@ pub fn heads_have_holders()
 /// A law: a commit of the epoch that its session has reached, which leaves the record undecided, finds it past the commit's timestamp.
 pub fn open_records_are_past()
     ensures { OpenRecordsArePast }
+{}
+
+/// A law: a stage of the epoch that its session has reached, which leaves the record undecided and not staging so, finds it past the stage's timestamp.
+pub fn other_records_are_past()
+    ensures { OtherRecordsArePast }
 {}

@@ -17,11 +17,12 @@ pub use ends::{
 pub use laws::{
     bounds_stand, commit_points_differ, decisions_do_not_differ, decisions_stand, final_views_stay,
     heads_have_holders, holders_were_begun, left_stagings_stay_away, nothing_falls,
-    open_records_are_past, replies_have_kinds, views_stay_true,
+    open_records_are_past, other_records_are_past, replies_have_kinds, views_stay_true,
 };
 pub use reads::{reads_stand, refreshes_stand, versions_rise};
 pub use staging::{
-    commits_stay, missing_stays, recoveries_agree, staged_writes_stay, written_stays,
+    commits_stay, missing_stays, recoveries_agree, staged_writes_stay, told_commits_stand,
+    written_stays,
 };
 pub use writes::{
     own_intents_stand, proofs_were_written, versions_are_committed, writes_of_committed,

@@ -1,4 +1,4 @@
-ghost use Rattle.pc_implicit.specs.Staging.{CommitsStay, MissingStays, RecoveriesAgree, StagedWritesStay, WrittenStays};
+ghost use Rattle.pc_implicit.specs.Staging.{CommitsStay, MissingStays, RecoveriesAgree, StagedWritesStay, ToldCommitsStand, WrittenStays};
 
 /// A law: a write that a query missed is never present there again, and nobody may write there any more.
 pub fn missing_stays()
@@ -23,4 +23,9 @@ pub fn commits_stay()
 /// A law: what a recovery answers committed was committed before it.
 pub fn recoveries_agree()
     ensures { RecoveriesAgree }
+{}
+
+/// A law: a transaction that its session was told committed is decided so by its record, or stages so, in the epoch that the session has reached.
+pub fn told_commits_stand()
+    ensures { ToldCommitsStand }
 {}

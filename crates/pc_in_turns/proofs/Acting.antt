@@ -9,7 +9,7 @@ use Rattle.pc_in_turns.proofs.Places.{get_read, get_set_same, get_some, same_som
 use Rattle.pc_in_turns.proofs.Runners.{in_turns_set, runner_moved}
 use Rattle.pc_in_turns.specs.declared.task.Task.{Task}
 use Rattle.pc_in_turns.specs.Learning.{OwnerWasUntold, LearnsBehind}
-use Rattle.pc_in_turns.specs.Moving.{AreInTurns, HasActed, IsAt, TurnsMeaning}
+use Rattle.pc_in_turns.specs.Moving.{AreClientsInTurns, HasActed, IsAt, TurnsMeaning}
 use Rattle.pc_in_turns.specs.Task.{DoesTask, EndsWithTask}
 use Rattle.pc_proto.specs.declared.event.Event.{Event}
 use Rattle.pc_scripted.proofs.Going.{HasGoneSoFar, gone_all, gone_nothing, gone_on, told_of_old}
@@ -33,10 +33,10 @@ module _ {C : Type 0} where
   pub at_one : (Is : ScriptedMeaning C → Type 0) (t : TurnsMeaning C) (index : ℕ) (s : ScriptedMeaning C) → slice_get t.sessions index ≡ Some s → Is s → IsAt Is index t
   at_one Is t index s at is x got = same_at t index s x Is at got is
 
-  pub scripted_at : (t : TurnsMeaning C) (index : ℕ) (s : ScriptedMeaning C) → AreInTurns t → slice_get t.sessions index ≡ Some s → IsScripted s
+  pub scripted_at : (t : TurnsMeaning C) (index : ℕ) (s : ScriptedMeaning C) → AreClientsInTurns t → slice_get t.sessions index ≡ Some s → IsScripted s
   scripted_at t index s in_turns at = (in_turns.runners.each index s at).scripted
 
-  pub number_at : (t : TurnsMeaning C) (index : ℕ) (s : ScriptedMeaning C) → AreInTurns t → slice_get t.sessions index ≡ Some s → own_number s ≡ index + 1
+  pub number_at : (t : TurnsMeaning C) (index : ℕ) (s : ScriptedMeaning C) → AreClientsInTurns t → slice_get t.sessions index ≡ Some s → own_number s ≡ index + 1
   number_at t index s in_turns at = (in_turns.runners.each index s at).number
 
 module _ {C : Type 0} (rule : C → ℕ → ℕ → Bool) (index : ℕ) where
@@ -50,7 +50,7 @@ module _ {C : Type 0} (rule : C → ℕ → ℕ → Bool) (index : ℕ) where
       subst (λ (t : TurnsMeaning C). slice_get t.sessions index ≡ Some a.now) (sym a.whole) (get_set_same old.sessions index a.now (slice_get_within old.sessions index a.session a.at))
 
   -- of the state as its code has it
-  module _ (t old : TurnsMeaning C) (is : t ≡ old) (in_turns : AreInTurns old) (there : index < length old.sessions) (s now : ScriptedMeaning C) (value : s ≡ get_or t.sessions index s) (kept : rule now.session.desk.log.clock ≡ rule s.session.desk.log.clock) where
+  module _ (t old : TurnsMeaning C) (is : t ≡ old) (in_turns : AreClientsInTurns old) (there : index < length old.sessions) (s now : ScriptedMeaning C) (value : s ≡ get_or t.sessions index s) (kept : rule now.session.desk.log.clock ≡ rule s.session.desk.log.clock) where
     at : slice_get old.sessions index ≡ Some s
     at = at_read t old index s is there value
 
@@ -116,7 +116,7 @@ pub record HasGoneAt {C : Type 0} (rule : C → ℕ → ℕ → Bool) (test : �
   pub kept : rule now.session.desk.log.clock ≡ rule session.session.desk.log.clock
   pub learns : LearnsBehind old.sessions session now
 
-module _ {C : Type 0} (rule : C → ℕ → ℕ → Bool) (test : ℕ → List Item → List (Pair Event) → Bool) (index : ℕ) (old : TurnsMeaning C) (in_turns : AreInTurns old) where
+module _ {C : Type 0} (rule : C → ℕ → ℕ → Bool) (test : ℕ → List Item → List (Pair Event) → Bool) (index : ℕ) (old : TurnsMeaning C) (in_turns : AreClientsInTurns old) where
   pub gone_at_first : index < length old.sessions → HasGoneAt rule test index old old
   gone_at_first there =
       let s = get_some old.sessions index there in record {
@@ -137,9 +137,9 @@ module _ {C : Type 0} (rule : C → ℕ → ℕ → Bool) (test : ℕ → List I
     now_there = subst (λ (t : TurnsMeaning C). slice_get t.sessions index ≡ Some g.now) (sym g.whole) (get_set_same old.sessions index g.now within)
 
     -- all go in turns still
-    pub gone_in_turns : AreInTurns mid
+    pub gone_in_turns : AreClientsInTurns mid
     gone_in_turns =
-        subst (λ (t : TurnsMeaning C). AreInTurns t) (sym g.whole)
+        subst (λ (t : TurnsMeaning C). AreClientsInTurns t) (sym g.whole)
         (in_turns_set index old in_turns g.now within (runner_moved old.work index g.session g.now (in_turns.runners.each index g.session g.at) g.gone.part g.gone.by))
 
     pub gone_there : index < length mid.sessions

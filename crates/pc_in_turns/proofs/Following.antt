@@ -11,7 +11,7 @@ use Rattle.pc_in_turns.proofs.Moving.{moved_at, moved_on}
 use Rattle.pc_in_turns.proofs.Places.{get_behind, get_map, get_read, get_set_same, get_some, no_end, same_some, set_again, set_as_was}
 use Rattle.pc_in_turns.specs.declared.task.Task.{Task}
 use Rattle.pc_in_turns.specs.Learning.{LearnsBehind}
-use Rattle.pc_in_turns.specs.Moving.{AreInTurns, HasActed, HasFollowed, HasNoLast, HaveGoneOn, HaveMovedAt, IsAt, IsTask, TellsLast, TurnsMeaning, lists_in, told_of}
+use Rattle.pc_in_turns.specs.Moving.{AreClientsInTurns, HasActed, HasFollowed, HasNoLast, HaveGoneOn, HaveMovedAt, IsAt, IsTask, TellsLast, TurnsMeaning, lists_in_turns, told_of}
 use Rattle.pc_in_turns.specs.Task.{DoesTask, EndsWithTask}
 use Rattle.pc_lists.proofs.Lists.{contains_head, get_append, get_push, length_set}
 use Rattle.pc_proto.specs.declared.event.Event.{Event}
@@ -27,9 +27,9 @@ last_noted part mine p is =
     let at : slice_get part.own (length part.own - 1) ≡ Some p = ap (λ own. slice_get own (length own - 1)) is ∙ (ap (slice_get (mine ++ p ∷ [])) place ∙ get_push mine p) in
     subst (λ o. Contains (told_entries (known_entry_at (length part.own - 1) 0 o)) p.entry) (sym at) (contains_head p.entry [])
 
-module _ {C : Type 0} (t old : TurnsMeaning C) (is : t ≡ old) (in_old : AreInTurns old) (index : ℕ) (there_old : index < length old.sessions) where
-  in_turns : AreInTurns t
-  in_turns = subst AreInTurns (sym is) in_old
+module _ {C : Type 0} (t old : TurnsMeaning C) (is : t ≡ old) (in_old : AreClientsInTurns old) (index : ℕ) (there_old : index < length old.sessions) where
+  in_turns : AreClientsInTurns t
+  in_turns = subst AreClientsInTurns (sym is) in_old
 
   there : index < length t.sessions
   there = subst (λ (x : TurnsMeaning C). index < length x.sessions) (sym is) there_old
@@ -90,8 +90,8 @@ module _ {C : Type 0} (t old : TurnsMeaning C) (is : t ≡ old) where
     at-session : slice_get t.sessions t.last ≡ Some s
     at-session = get_read t.sessions t.last s lt value
 
-    last-is : (list : List (Pair Event)) → slice_get (lists_in t) t.last ≡ Some list → own_list s ≡ list
-    last-is list at = same_some (slice_get (lists_in t) t.last) (own_list s) list (get_append (map own_list t.sessions) (map entries_made t.recoverers) t.last (own_list s) (get_map own_list t.sessions t.last s at-session)) at
+    last-is : (list : List (Pair Event)) → slice_get (lists_in_turns t) t.last ≡ Some list → own_list s ≡ list
+    last-is list at = same_some (slice_get (lists_in_turns t) t.last) (own_list s) list (get_append (map own_list t.sessions) (map entries_made t.recoverers) t.last (own_list s) (get_map own_list t.sessions t.last s at-session)) at
 
     pub session_tells : (note : List (KnownEntry Event)) → note ≡ noted (length (own_list s) - 1) 0 s.session.desk.log.part → TellsLast old note
     session_tells note marks = subst (λ (x : TurnsMeaning C). TellsLast x note) is
@@ -108,9 +108,9 @@ module _ {C : Type 0} (t old : TurnsMeaning C) (is : t ≡ old) where
     at-recoverer : slice_get t.recoverers place ≡ Some r
     at-recoverer = get_read t.recoverers place r lt value
 
-    behind-is : (list : List (Pair Event)) → slice_get (lists_in t) t.last ≡ Some list → entries_made r ≡ list
+    behind-is : (list : List (Pair Event)) → slice_get (lists_in_turns t) t.last ≡ Some list → entries_made r ≡ list
     behind-is list at =
-        same_some (slice_get (lists_in t) t.last) (entries_made r) list
+        same_some (slice_get (lists_in_turns t) t.last) (entries_made r) list
         (get_behind (map own_list t.sessions) (map entries_made t.recoverers) t.last place (here ∙ ap (λ n. n + place) (sym (length-map t.sessions own_list))) ∙ get_map entries_made t.recoverers place r at-recoverer) at
 
     pub recoverer_tells : (note : List (KnownEntry Event)) → note ≡ noted (length (entries_made r) - 1) 0 r.recoverer.desk.log.part → TellsLast old note
@@ -123,7 +123,7 @@ module _ {C : Type 0} (t old : TurnsMeaning C) (is : t ≡ old) where
     pub recoverer_as_was : record t { recoverers = slice_set t.recoverers place same } ≡ old
     recoverer_as_was = ap (λ (l : List (CountedMeaning C)). record t { recoverers = l }) (ap (slice_set t.recoverers place) is_same ∙ set_as_was t.recoverers place r at-recoverer) ∙ is
 
-module _ {C : Type 0} (rule : C → ℕ → ℕ → Bool) (task : Task) (index : ℕ) (old mid : TurnsMeaning C) (in_turns : AreInTurns old) (followed : HasFollowed index old mid) (s now : ScriptedMeaning C) (at : slice_get mid.sessions index ≡ Some s)
+module _ {C : Type 0} (rule : C → ℕ → ℕ → Bool) (task : Task) (index : ℕ) (old mid : TurnsMeaning C) (in_turns : AreClientsInTurns old) (followed : HasFollowed index old mid) (s now : ScriptedMeaning C) (at : slice_get mid.sessions index ≡ Some s)
     (moved : HasMoved (DoesTask task s) s now) (kept : rule now.session.desk.log.clock ≡ rule s.session.desk.log.clock) (learns : LearnsBehind mid.sessions s now) where
   is-told : told_of followed.note followed.session ≡ s
   is-told =
@@ -182,7 +182,7 @@ module _ {C : Type 0} (rule : C → ℕ → ℕ → Bool) (task : Task) (index :
       (moved_at rule task index old in_turns followed.session now followed.note followed.at followed.scripted followed.tells moved-told kept-told learns-told 0 ends)
 
 -- the same, of a session that acted
-module _ {C : Type 0} (rule : C → ℕ → ℕ → Bool) (task : Task) (index : ℕ) (old mid new : TurnsMeaning C) (in_turns : AreInTurns old) (followed : HasFollowed index old mid) (acted : HasActed rule (DoesTask task) index mid new) where
+module _ {C : Type 0} (rule : C → ℕ → ℕ → Bool) (task : Task) (index : ℕ) (old mid new : TurnsMeaning C) (in_turns : AreClientsInTurns old) (followed : HasFollowed index old mid) (acted : HasActed rule (DoesTask task) index mid new) where
   -- how long its list was, and is
   pub long_before : (t : TurnsMeaning C) (x : ScriptedMeaning C) (n : ℕ) → t ≡ mid → index < length mid.sessions → x ≡ get_or t.sessions index x → n ≡ length (own_list x) → n ≡ length (own_list acted.session)
   long_before t x n is there read long = long ∙ ap (λ (y : ScriptedMeaning C). length (own_list y)) (same_some (slice_get mid.sessions index) x acted.session (at_read t mid index x is there read) acted.at)

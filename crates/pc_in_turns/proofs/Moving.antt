@@ -17,7 +17,7 @@ use Rattle.pc_in_turns.proofs.Stepping.{last_on, mark_on, shares_on}
 use Rattle.pc_in_turns.proofs.Runners.{runner_moved, runner_told, runners_set}
 use Rattle.pc_in_turns.specs.declared.task.Task.{Task}
 use Rattle.pc_in_turns.specs.Learning.{AreEntriesOf, IsNoOtherSession, LearnsBehind}
-use Rattle.pc_in_turns.specs.Moving.{AreInTurns, HaveGoneOn, HaveMade, HaveMovedAt, IsTask, MadeLast, TellsLast, TurnsMeaning, lists_in, told_of}
+use Rattle.pc_in_turns.specs.Moving.{AreClientsInTurns, HaveGoneOn, HaveMade, HaveMovedAt, IsTask, MadeLast, TellsLast, TurnsMeaning, lists_in_turns, told_of}
 use Rattle.pc_in_turns.specs.Task.{DoesTask, EndsWithTask}
 use Rattle.pc_lists.proofs.Lists.{get_append, length_set}
 use Rattle.pc_proto.specs.declared.event.Event.{Event}
@@ -44,9 +44,9 @@ no-other head (actors.Session number) client = client.0
 no-other head (actors.Range range) client = tt
 no-other head (actors.Recoverer number) client = tt
 
-module _ {C : Type 0} (t : TurnsMeaning C) (in_turns : AreInTurns t) where
+module _ {C : Type 0} (t : TurnsMeaning C) (in_turns : AreClientsInTurns t) where
   -- a session's own list among all
-  pub session_list : (index : ℕ) (s : ScriptedMeaning C) → slice_get t.sessions index ≡ Some s → slice_get (lists_in t) index ≡ Some (own_list s)
+  pub session_list : (index : ℕ) (s : ScriptedMeaning C) → slice_get t.sessions index ≡ Some s → slice_get (lists_in_turns t) index ≡ Some (own_list s)
   session_list index s at = get_append (map own_list t.sessions) (map entries_made t.recoverers) index (own_list s) (get_map own_list t.sessions index s at)
 
   pub session_place : (index : ℕ) → index < length t.sessions → client_at (head_in_work t.work) index ≡ actors.Session (index + 1)
@@ -60,16 +60,16 @@ module _ {C : Type 0} (t : TurnsMeaning C) (in_turns : AreInTurns t) where
         (All-weaker (λ (p : Pair Event). IsClientOf (head_in_work t.work) p.entry.actor) (λ (p : Pair Event). IsNoOtherSession (length t.work.sessions) p.entry.actor) (λ p is. no-other (head_in_work t.work) p.entry.actor is) order made.shares.only);
   }
 
-  pub last_there : t.last < length (lists_in t)
+  pub last_there : t.last < length (lists_in_turns t)
   last_there =
-      let long : length (lists_in t) ≡ length t.sessions + length t.recoverers =
+      let long : length (lists_in_turns t) ≡ length t.sessions + length t.recoverers =
       length-append (map own_list t.sessions) (map entries_made t.recoverers) ∙ (ap (λ n. n + length (map entries_made t.recoverers)) (length-map t.sessions own_list) ∙ ap (λ n. length t.sessions + n) (length-map t.recoverers entries_made)) in
       let lt = in_turns.there in
       omega arith
 
 -- The session that is to move was told of the last entry, made its part of the task, and is put back; `last` is the one that made the last
 -- entry then.
-module _ {C : Type 0} (rule : C → ℕ → ℕ → Bool) (task : Task) (index : ℕ) (old : TurnsMeaning C) (in_turns : AreInTurns old) (s now : ScriptedMeaning C) (note : List (KnownEntry Event)) (at : slice_get old.sessions index ≡ Some s)
+module _ {C : Type 0} (rule : C → ℕ → ℕ → Bool) (task : Task) (index : ℕ) (old : TurnsMeaning C) (in_turns : AreClientsInTurns old) (s now : ScriptedMeaning C) (note : List (KnownEntry Event)) (at : slice_get old.sessions index ≡ Some s)
     (scripted : IsScripted (told_of note s))
     (tells : TellsLast old note)
     (moved : HasMoved (DoesTask task (told_of note s)) (told_of note s) now) (kept : rule now.session.desk.log.clock ≡ rule s.session.desk.log.clock)
@@ -125,27 +125,27 @@ module _ {C : Type 0} (rule : C → ℕ → ℕ → Bool) (task : Task) (index :
     place : client_at (head_in_work old.work) index ≡ actors.Session (index + 1)
     place = session_place old in_turns index within
 
-    lists-now : slice_set (lists_in old) index (own_list now) ≡ lists_in new
+    lists-now : slice_set (lists_in_turns old) index (own_list now) ≡ lists_in_turns new
     lists-now =
         set_front (map own_list old.sessions) (map entries_made old.recoverers) index (own_list now) (subst (λ n. index < n) (sym (length-map old.sessions own_list)) within)
         ∙ ap (λ l. l ++ map entries_made old.recoverers) (sym (map-set own_list old.sessions index now))
 
-    still_shares : AreShares (head_in_work old.work) (lists_in new) (order ++ moved.part)
+    still_shares : AreShares (head_in_work old.work) (lists_in_turns new) (order ++ moved.part)
     still_shares =
         subst (λ (lists : List (List (Pair Event))). AreShares (head_in_work old.work) lists (order ++ moved.part)) lists-now
-        (shares_on (lists_in old) order moved.part index old.last last (own_list s) (own_list now) (session_list old in_turns index s at) moved.by.own (head_in_work old.work) (knowledge (told_of note s).session.desk.log.part) made.shares
+        (shares_on (lists_in_turns old) order moved.part index old.last last (own_list s) (own_list now) (session_list old in_turns index s at) moved.by.own (head_in_work old.work) (knowledge (told_of note s).session.desk.log.part) made.shares
         (subst (λ (id : ActorId). All (λ (p : Pair Event). p.entry.actor ≡ id) moved.part) (ap actors.Session runner.number ∙ sym place) moved.by.whose) moved.by.rises
-        (mark_on (lists_in old) old.last order note s.session.desk.log.part made.made (last_there old in_turns) tells) moved.by.above)
+        (mark_on (lists_in_turns old) old.last order note s.session.desk.log.part made.made (last_there old in_turns) tells) moved.by.above)
 
     still_learns : LearnInOrder (order ++ moved.part)
     still_learns =
         let are = entries_same old.sessions index s (told_of note s) at runner.number within order (entries_are old in_turns order made) refl in
         each_join LearnsNext [] order moved.part made.learns (learns order moved.part are moved.by.own)
 
-    still_last : (length (own_list s) < length (own_list now) → last ≡ index) → (length (own_list now) ≤ length (own_list s) → last ≡ old.last) → MadeLast (lists_in new) last (order ++ moved.part)
+    still_last : (length (own_list s) < length (own_list now) → last ≡ index) → (length (own_list now) ≤ length (own_list s) → last ≡ old.last) → MadeLast (lists_in_turns new) last (order ++ moved.part)
     still_last grew rested =
         subst (λ (lists : List (List (Pair Event))). MadeLast lists last (order ++ moved.part)) lists-now
-        (last_on (lists_in old) order moved.part index old.last last (own_list s) (own_list now) (session_list old in_turns index s at) moved.by.own made.made grew rested)
+        (last_on (lists_in_turns old) order moved.part index old.last last (own_list s) (own_list now) (session_list old in_turns index s at) moved.by.own made.made grew rested)
 
   pub moved_on : last < length old.sessions + length old.recoverers → (length (own_list s) < length (own_list now) → last ≡ index) → (length (own_list now) ≤ length (own_list s) → last ≡ old.last) → HaveGoneOn rule (IsTask old.work task index) old new
   moved_on inside grew rested = record {

@@ -3,7 +3,7 @@ use Rattle.std.proofs.Common.{◌≡◌, ℕ, Bool, List, [], ◌++◌, refl, sy
 use Rattle.std.proofs.lemmas.List.{append-nil, append_assoc}
 use Rattle.pc_base.specs.declared.actor.ActorId.{ActorId}
 use Rattle.pc_history.specs.declared.pair.Pair.{Pair}
-use Rattle.pc_in_turns.specs.Moving.{AreInTurns, HaveGoneOn, HaveMade, Stretch, TurnsMeaning, clients_in}
+use Rattle.pc_in_turns.specs.Moving.{AreClientsInTurns, HaveGoneOn, HaveMade, Stretch, TurnsMeaning, clients_in}
 use Rattle.pc_proto.specs.declared.event.Event.{Event}
 use Rattle.pc_runs.specs.Together.{HaveClientClocks}
 use Rattle.pc_work.specs.declared.workload.Workload.{Workload}
@@ -11,7 +11,7 @@ use Rattle.pc_world.specs.Known.Traffic.{Sent}
 
 module _ {C : Type 0} (rule : C → ℕ → ℕ → Bool) where
   -- no further yet
-  pub gone_nowhere : (Is : Stretch) (t : TurnsMeaning C) → AreInTurns t → ((held : ActorId → Sent → Bool) (before : List (Pair Event)) → Is held before []) → HaveGoneOn rule Is t t
+  pub gone_nowhere : (Is : Stretch) (t : TurnsMeaning C) → AreClientsInTurns t → ((held : ActorId → Sent → Bool) (before : List (Pair Event)) → Is held before []) → HaveGoneOn rule Is t t
   gone_nowhere Is t in_turns none = record {
     in_turns = in_turns;
     work = refl;

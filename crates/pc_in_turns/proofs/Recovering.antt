@@ -12,7 +12,7 @@ use Rattle.pc_history.specs.Parts.{knowledge}
 use Rattle.pc_in_turns.proofs.Moving.{last_there}
 use Rattle.pc_in_turns.proofs.Places.{get_behind, get_map, get_read, get_set_other, get_set_same, get_some, no_end, same_some, set_again, set_as_was, set_behind}
 use Rattle.pc_in_turns.proofs.Stepping.{last_on, mark_on, shares_on}
-use Rattle.pc_in_turns.specs.Moving.{AreInTurns, HasFollowedInRounds, HasMadeRoundAt, HasNoLast, HaveGoneOn, HaveMade, HaveRoundedAt, MadeLast, TakesTurn, TellsLast, TurnsMeaning, lists_in, taught_of}
+use Rattle.pc_in_turns.specs.Moving.{AreClientsInTurns, HasFollowedInRounds, HasMadeRoundAt, HasNoLast, HaveGoneOn, HaveMade, HaveRoundedAt, MadeLast, TakesTurn, TellsLast, TurnsMeaning, lists_in_turns, taught_of}
 use Rattle.pc_lists.proofs.Lists.{length_set}
 use Rattle.pc_proto.specs.declared.event.Event.{Event}
 use Rattle.pc_rounds.specs.Counted.{AsksOnlyRounds, CountedMeaning, GoesInRounds, HasGoneInRounds, HasMadeNext, entries_made}
@@ -90,9 +90,9 @@ stop_is work index r runner =
     let there : slice_get work.recoverers ((index + 1) - 1) ≡ Some runner.recoverer = ap (slice_get work.recoverers) at ∙ runner.listed in
     runner.stop ∙ ap (λ (o : Option RecovererWork). recoverer_stop o) (sym there)
 
-module _ {C : Type 0} (t : TurnsMeaning C) (in_turns : AreInTurns t) where
+module _ {C : Type 0} (t : TurnsMeaning C) (in_turns : AreClientsInTurns t) where
   -- a recoverer's own list among all
-  pub recoverer_list : (index : ℕ) (r : CountedMeaning C) → slice_get t.recoverers index ≡ Some r → slice_get (lists_in t) (length t.sessions + index) ≡ Some (entries_made r)
+  pub recoverer_list : (index : ℕ) (r : CountedMeaning C) → slice_get t.recoverers index ≡ Some r → slice_get (lists_in_turns t) (length t.sessions + index) ≡ Some (entries_made r)
   recoverer_list index r at =
       get_behind (map own_list t.sessions) (map entries_made t.recoverers) (length t.sessions + index) index (ap (λ n. n + index) (sym (length-map t.sessions own_list)))
       ∙ get_map entries_made t.recoverers index r at
@@ -101,7 +101,7 @@ module _ {C : Type 0} (t : TurnsMeaning C) (in_turns : AreInTurns t) where
   recoverer_place index = ap (λ n. client_at (head_in_work t.work) (n + index)) in_turns.runners.many ∙ recoverer_at (head_in_work t.work) index
 
 -- The recoverer that is to make a round was told of the last entry, made it, and is put back; `last` is the one that made the last entry then.
-module _ {C : Type 0} (rule : C → ℕ → ℕ → Bool) (index : ℕ) (old : TurnsMeaning C) (in_turns : AreInTurns old) (r now : CountedMeaning C) (note : List (KnownEntry Event)) (at : slice_get old.recoverers index ≡ Some r)
+module _ {C : Type 0} (rule : C → ℕ → ℕ → Bool) (index : ℕ) (old : TurnsMeaning C) (in_turns : AreClientsInTurns old) (r now : CountedMeaning C) (note : List (KnownEntry Event)) (at : slice_get old.recoverers index ≡ Some r)
     (counted : GoesInRounds (taught_of note r)) (tells : TellsLast old note) (made : HasMadeNext (taught_of note r) now) (kept : rule now.recoverer.desk.log.clock ≡ rule r.recoverer.desk.log.clock) (last : ℕ) where
   abbrev after : List (CountedMeaning C)
   after = slice_set old.recoverers index now
@@ -157,27 +157,27 @@ module _ {C : Type 0} (rule : C → ℕ → ℕ → Bool) (index : ℕ) (old : T
     whose : All (λ (p : Pair Event). p.entry.actor ≡ actors.Recoverer (index + 1)) made.part
     whose = subst (λ n. All (λ (p : Pair Event). p.entry.actor ≡ actors.Recoverer n) made.part) runner.number made.by.whose
 
-    lists-now : slice_set (lists_in old) place (entries_made now) ≡ lists_in new
+    lists-now : slice_set (lists_in_turns old) place (entries_made now) ≡ lists_in_turns new
     lists-now =
         set_behind (map own_list old.sessions) (map entries_made old.recoverers) place index (entries_made now) (ap (λ n. n + index) (sym (length-map old.sessions own_list)))
         ∙ ap (λ l. map own_list old.sessions ++ l) (sym (map-set entries_made old.recoverers index now))
 
-    still_shares : AreShares (head_in_work old.work) (lists_in new) (order ++ made.part)
+    still_shares : AreShares (head_in_work old.work) (lists_in_turns new) (order ++ made.part)
     still_shares =
         subst (λ (lists : List (List (Pair Event))). AreShares (head_in_work old.work) lists (order ++ made.part)) lists-now
-        (shares_on (lists_in old) order made.part place old.last last (entries_made r) (entries_made now) (recoverer_list old in_turns index r at) made.by.own (head_in_work old.work) (knowledge (taught_of note r).recoverer.desk.log.part) before.shares
+        (shares_on (lists_in_turns old) order made.part place old.last last (entries_made r) (entries_made now) (recoverer_list old in_turns index r at) made.by.own (head_in_work old.work) (knowledge (taught_of note r).recoverer.desk.log.part) before.shares
         (subst (λ (id : ActorId). All (λ (p : Pair Event). p.entry.actor ≡ id) made.part) (sym (recoverer_place old in_turns index)) whose) made.by.rises
-        (mark_on (lists_in old) old.last order note r.recoverer.desk.log.part before.made (last_there old in_turns) tells) made.by.above)
+        (mark_on (lists_in_turns old) old.last order note r.recoverer.desk.log.part before.made (last_there old in_turns) tells) made.by.above)
 
     still_learns : LearnInOrder (order ++ made.part)
     still_learns =
         each_join LearnsNext [] order made.part before.learns
         (rounds_learn_nothing (actors.Recoverer (index + 1)) order (entries_made r) made.part mine whose (subst (λ own. All (λ p. AsksOnlyRounds p.entry.event) own) made.by.own made.by.counted.asks))
 
-    still_last : (length (entries_made r) < length (entries_made now) → last ≡ place) → (length (entries_made now) ≤ length (entries_made r) → last ≡ old.last) → MadeLast (lists_in new) last (order ++ made.part)
+    still_last : (length (entries_made r) < length (entries_made now) → last ≡ place) → (length (entries_made now) ≤ length (entries_made r) → last ≡ old.last) → MadeLast (lists_in_turns new) last (order ++ made.part)
     still_last grew rested =
         subst (λ (lists : List (List (Pair Event))). MadeLast lists last (order ++ made.part)) lists-now
-        (last_on (lists_in old) order made.part place old.last last (entries_made r) (entries_made now) (recoverer_list old in_turns index r at) made.by.own before.made grew rested)
+        (last_on (lists_in_turns old) order made.part place old.last last (entries_made r) (entries_made now) (recoverer_list old in_turns index r at) made.by.own before.made grew rested)
 
     taken : (held : ActorId → Sent → Bool) → SaysHeldUp (held (actors.Recoverer (index + 1))) now.recoverer.desk → TakesTurn old.work (turns.Recoverer (index + 1)) held order made.part
     taken held says =
@@ -213,9 +213,9 @@ module _ {C : Type 0} (rule : C → ℕ → ℕ → Bool) (index : ℕ) (old : T
 
 -- ---- the steps of its code
 
-module _ {C : Type 0} (t old : TurnsMeaning C) (is : t ≡ old) (in_old : AreInTurns old) (index : ℕ) (there_old : index < length old.recoverers) where
-  in_turns_t : AreInTurns t
-  in_turns_t = subst AreInTurns (sym is) in_old
+module _ {C : Type 0} (t old : TurnsMeaning C) (is : t ≡ old) (in_old : AreClientsInTurns old) (index : ℕ) (there_old : index < length old.recoverers) where
+  in_turns_t : AreClientsInTurns t
+  in_turns_t = subst AreClientsInTurns (sym is) in_old
 
   there : index < length t.recoverers
   there = subst (λ (x : TurnsMeaning C). index < length x.recoverers) (sym is) there_old
@@ -267,7 +267,7 @@ module _ {C : Type 0} (t old : TurnsMeaning C) (is : t ≡ old) (in_old : AreInT
         subst (λ (x : TurnsMeaning C). HasMadeRoundAt rule index x (record t { recoverers = slice_set t.recoverers index now })) is
         (record { recoverer = r; now = now; at = at_round; whole = refl; made = made; kept = kept })
 
-module _ {C : Type 0} (index : ℕ) (old mid : TurnsMeaning C) (in_turns : AreInTurns old) (f : HasFollowedInRounds index old mid) where
+module _ {C : Type 0} (index : ℕ) (old mid : TurnsMeaning C) (in_turns : AreClientsInTurns old) (f : HasFollowedInRounds index old mid) where
   abbrev told_one : CountedMeaning C
   told_one = taught_of f.note f.recoverer
 
@@ -280,8 +280,8 @@ module _ {C : Type 0} (index : ℕ) (old mid : TurnsMeaning C) (in_turns : AreIn
   pub followed_round_there : index < length mid.recoverers
   followed_round_there = slice_get_within mid.recoverers index told_one followed_recoverer
 
-  pub followed_rounds_in_turns : AreInTurns mid
-  followed_rounds_in_turns = subst (λ (t : TurnsMeaning C). AreInTurns t) (sym f.whole) (record {
+  pub followed_rounds_in_turns : AreClientsInTurns mid
+  followed_rounds_in_turns = subst (λ (t : TurnsMeaning C). AreClientsInTurns t) (sym f.whole) (record {
     some = in_turns.some;
     runners = in_turns.runners;
     recoverers = recoverers_set old.work old.recoverers index told_one in_turns.recoverers within_old (recoverer_taught old.work index f.recoverer f.note (in_turns.recoverers.each index f.recoverer f.at) f.counted);

@@ -6,7 +6,7 @@ use Rattle.pc_history.specs.declared.pair.Pair.{Pair}
 use Rattle.pc_history.specs.declared.view.Known.{Known as KnownEntry}
 use Rattle.pc_in_turns.proofs.Places.{get_set_other, get_set_same, same_some}
 use Rattle.pc_in_turns.specs.Learning.{LearnsBehind}
-use Rattle.pc_in_turns.specs.Moving.{AreInTurns, HasActed, HasFollowed, TurnsMeaning, told_of}
+use Rattle.pc_in_turns.specs.Moving.{AreClientsInTurns, HasActed, HasFollowed, TurnsMeaning, told_of}
 use Rattle.pc_lists.proofs.Lists.{length_set}
 use Rattle.pc_proto.specs.declared.event.Event.{Event}
 use Rattle.pc_runs.specs.Runners.{AreRunners, IsRunnerIn}
@@ -26,6 +26,7 @@ module _ {C : Type 0} (work : Workload) (index : ℕ) (s now : ScriptedMeaning C
         script = runner.script ∙ sym same.script;
         reruns = runner.reruns ∙ sym same.reruns;
         head = same.head ∙ runner.head;
+        piped = same.piped ∙ runner.piped;
         beside = same.beside ∙ runner.beside;
         limit = same.limit ∙ runner.limit;
         stop = same.stop ∙ runner.stop;
@@ -42,6 +43,7 @@ runner_told work index s note runner scripted = record {
   script = runner.script;
   reruns = runner.reruns;
   head = runner.head;
+  piped = runner.piped;
   beside = runner.beside;
   limit = runner.limit;
   stop = runner.stop;
@@ -58,9 +60,9 @@ runners_set {C} work sessions index now runners within runner = record { many = 
         subst (λ n. IsRunnerIn work n x) (sym same) (subst (λ (y : ScriptedMeaning C). IsRunnerIn work index y) is runner)
     each-so other x got (inr differ) = runners.each other x (sym (get_set_other sessions index other now differ) ∙ got)
 
-module _ {C : Type 0} (index : ℕ) (old : TurnsMeaning C) (in_turns : AreInTurns old) where
+module _ {C : Type 0} (index : ℕ) (old : TurnsMeaning C) (in_turns : AreClientsInTurns old) where
   -- one of them is as this one now
-  pub in_turns_set : (now : ScriptedMeaning C) → index < length old.sessions → IsRunnerIn old.work index now → AreInTurns (record old { sessions = slice_set old.sessions index now })
+  pub in_turns_set : (now : ScriptedMeaning C) → index < length old.sessions → IsRunnerIn old.work index now → AreClientsInTurns (record old { sessions = slice_set old.sessions index now })
   in_turns_set now within runner = record {
     some = in_turns.some;
     runners = runners_set old.work old.sessions index now in_turns.runners within runner;
@@ -69,12 +71,12 @@ module _ {C : Type 0} (index : ℕ) (old : TurnsMeaning C) (in_turns : AreInTurn
   }
 
   -- they go in turns still
-  pub followed_in_turns : (new : TurnsMeaning C) → HasFollowed index old new → AreInTurns new
+  pub followed_in_turns : (new : TurnsMeaning C) → HasFollowed index old new → AreClientsInTurns new
   followed_in_turns new f =
-      subst (λ (t : TurnsMeaning C). AreInTurns t) (sym f.whole)
+      subst (λ (t : TurnsMeaning C). AreClientsInTurns t) (sym f.whole)
       (in_turns_set (told_of f.note f.session) (slice_get_within old.sessions index f.session f.at) (runner_told old.work index f.session f.note (in_turns.runners.each index f.session f.at) f.scripted))
 
-  pub acted_in_turns : (rule : C → ℕ → ℕ → Bool) (Is : ScriptedMeaning C → Move) (new : TurnsMeaning C) → HasActed rule Is index old new → AreInTurns new
+  pub acted_in_turns : (rule : C → ℕ → ℕ → Bool) (Is : ScriptedMeaning C → Move) (new : TurnsMeaning C) → HasActed rule Is index old new → AreClientsInTurns new
   acted_in_turns rule Is new a =
-      subst (λ (t : TurnsMeaning C). AreInTurns t) (sym a.whole)
+      subst (λ (t : TurnsMeaning C). AreClientsInTurns t) (sym a.whole)
       (in_turns_set a.now (slice_get_within old.sessions index a.session a.at) (runner_moved old.work index a.session a.now (in_turns.runners.each index a.session a.at) a.moved.part a.moved.by))

@@ -12,7 +12,7 @@ use Rattle.pc_in_turns.proofs.Parts.{gone_out_next, one_more_turn, recovered_nex
 use Rattle.pc_in_turns.proofs.Places.{get_behind, get_front, get_of_map, get_some, no_end, same_some, take-all}
 use Rattle.pc_in_turns.specs.declared.task.Task.TheVariants as tasks
 use Rattle.pc_in_turns.specs.InTurns.{HaveGoneInTurns}
-use Rattle.pc_in_turns.specs.Moving.{AreInTurns, AreRunOutBelow, GoOut, HasNoneLeftAt, HaveGoneOn, HaveMade, HaveMovedAt, HaveRoundedAt, IsOpening, IsTask, RecoverOut, TakeTurns, TakesTurn, TurnsMeaning, clients_in, lists_in}
+use Rattle.pc_in_turns.specs.Moving.{AreClientsInTurns, AreRunOutBelow, GoOut, HasNoneLeftAt, HaveGoneOn, HaveMade, HaveMovedAt, HaveRoundedAt, IsOpening, IsTask, RecoverOut, TakeTurns, TakesTurn, TurnsMeaning, clients_in, lists_in_turns}
 use Rattle.pc_lists.proofs.Lists.{get_contains}
 use Rattle.pc_proto.specs.declared.event.Event.{Event}
 use Rattle.pc_rounds.specs.Counted.{CountedMeaning, entries_made}
@@ -25,7 +25,7 @@ use Rattle.pc_scripted.specs.Scripted.{ScriptedMeaning, own_list}
 use Rattle.pc_scripted.specs.Taking.{IsRunOut}
 use Rattle.pc_turns.specs.Order.{GoesByItself, MakeRoundsLeft, is_at_end, recoverer_turns}
 use Rattle.pc_turns.specs.Shares.{AreShares, IsClientOf}
-use Rattle.pc_work.specs.Built.{IsTurnOf}
+use Rattle.pc_work.specs.Named.{IsTurnOf}
 use Rattle.pc_work.specs.declared.session.SessionWork.{SessionWork}
 use Rattle.pc_work.specs.declared.turn.Turn.{Turn}
 use Rattle.pc_work.specs.declared.turn.Turn.TheVariants as turns
@@ -33,10 +33,10 @@ use Rattle.pc_work.specs.declared.workload.Workload.{Workload}
 use Rattle.pc_world.specs.Known.Traffic.{Sent}
 
 -- the workload has a session of each index that a runner has
-session-of : {C : Type 0} (t : TurnsMeaning C) → AreInTurns t → (index : ℕ) → index < length t.sessions → (session : SessionWork) × (slice_get t.work.sessions index ≡ Some session)
+session-of : {C : Type 0} (t : TurnsMeaning C) → AreClientsInTurns t → (index : ℕ) → index < length t.sessions → (session : SessionWork) × (slice_get t.work.sessions index ≡ Some session)
 session-of t in_turns index lt = let s = get_some t.sessions index lt in let r = in_turns.runners.each index s.0 s.1 in (r.session, r.listed)
 
-module _ {C : Type 0} (rule : C → ℕ → ℕ → Bool) (old : TurnsMeaning C) (in_turns : AreInTurns old) where
+module _ {C : Type 0} (rule : C → ℕ → ℕ → Bool) (old : TurnsMeaning C) (in_turns : AreClientsInTurns old) where
   first : 0 < length old.sessions
   first = let some = in_turns.some in let many = in_turns.runners.many in omega arith
 
@@ -146,7 +146,7 @@ module _ {C : Type 0} (work : Workload) (sessions : List (ScriptedMeaning C)) (r
   abbrev begun : TurnsMeaning C
   begun = record { work = work; sessions = sessions; recoverers = recoverers; last = 0 }
 
-  pub begins : 1 ≤ length work.sessions → AreInTurns begun
+  pub begins : 1 ≤ length work.sessions → AreClientsInTurns begun
   begins some = record { some = some; runners = clients.runners; recoverers = clients.recoverers; there = let many = clients.runners.many in omega arith }
 
   made_nothing : All (λ (s : ScriptedMeaning C). own_list s ≡ []) sessions → All (λ (r : CountedMeaning C). entries_made r ≡ []) recoverers → HaveMade begun []
@@ -200,7 +200,7 @@ module _ {C : Type 0} (work : Workload) (sessions : List (ScriptedMeaning C)) (r
         let v = recovered.goes ((x.0 ++ y.0) ++ z.0) z.1 in
         record {
           order = ((x.0 ++ y.0) ++ z.0) ++ v.0;
-          shares = subst (λ (w : Workload). AreShares (head_in_work w) (lists_in four) (((x.0 ++ y.0) ++ z.0) ++ v.0)) (d.work ∙ work_three) v.1.shares;
+          shares = subst (λ (w : Workload). AreShares (head_in_work w) (lists_in_turns four) (((x.0 ++ y.0) ++ z.0) ++ v.0)) (d.work ∙ work_three) v.1.shares;
           learns = v.1.learns;
           goes = λ held says.
               let says_three = recovered.knows held says in

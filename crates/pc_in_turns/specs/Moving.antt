@@ -71,11 +71,11 @@ abbrev pub clients_in : {C : Type 0} → TurnsMeaning C → ClientsMeaning C
 clients_in t = record { sessions = t.sessions; recoverers = t.recoverers }
 
 -- Their own lists, in order.
-abbrev pub lists_in : {C : Type 0} → TurnsMeaning C → List (List (Pair Event))
-lists_in t = client_lists (clients_in t)
+abbrev pub lists_in_turns : {C : Type 0} → TurnsMeaning C → List (List (Pair Event))
+lists_in_turns t = client_lists (clients_in t)
 
 -- These are the workload's sessions, of which there is one, and its recoverers; and the one that made the last entry is there.
-pub record AreInTurns {C : Type 0} (t : TurnsMeaning C) : Type 0 where
+pub record AreClientsInTurns {C : Type 0} (t : TurnsMeaning C) : Type 0 where
   pub some : 1 ≤ length t.work.sessions
   pub runners : AreRunners t.work t.sessions
   pub recoverers : AreRecoverers t.work t.recoverers
@@ -89,14 +89,14 @@ MadeLast lists last order =
 
 -- The clients have made these entries, in this order: their own lists are their shares of them, and they learn of commits in order.
 pub record HaveMade {C : Type 0} (t : TurnsMeaning C) (order : List (Pair Event)) : Type 0 where
-  pub shares : AreShares (head_in_work t.work) (lists_in t) order
+  pub shares : AreShares (head_in_work t.work) (lists_in_turns t) order
   pub learns : LearnInOrder order
-  pub made : MadeLast (lists_in t) t.last order
+  pub made : MadeLast (lists_in_turns t) t.last order
 
 -- The clients went on, and forgot nothing: behind the entries that they had made they made a part of which this is so, whichever messages
 -- are held up beside those that they know to be refused.
 pub record HaveGoneOn {C : Type 0} (rule : C → ℕ → ℕ → Bool) (Is : Stretch) (old new : TurnsMeaning C) : Type 0 where
-  pub in_turns : AreInTurns new
+  pub in_turns : AreClientsInTurns new
   pub work : new.work ≡ old.work
   pub knows : (held : ActorId → Sent → Bool) → ClientsSayHeldUp held (clients_in new) → ClientsSayHeldUp held (clients_in old)
   pub clocks : (rules : ActorId → ℕ → ℕ → Bool) → HaveClientClocks rule rules old.work (clients_in old) → HaveClientClocks rule rules old.work (clients_in new)
@@ -116,12 +116,12 @@ AreRunOutBelow {C} index sessions = (other : ℕ) (s : ScriptedMeaning C) → ot
 -- A note of these entries tells of the last one of the client that made an entry last.
 abbrev pub TellsLast : {C : Type 0} → TurnsMeaning C → List (KnownEntry Event) → Type 0
 TellsLast t note =
-    (list mine : List (Pair Event)) (p : Pair Event) → slice_get (lists_in t) t.last ≡ Some list → list ≡ mine ++ p ∷ []
+    (list mine : List (Pair Event)) (p : Pair Event) → slice_get (lists_in_turns t) t.last ≡ Some list → list ≡ mine ++ p ∷ []
     → Contains (told_entries note) p.entry
 
 -- The client that made an entry last has made none.
 abbrev pub HasNoLast : {C : Type 0} → TurnsMeaning C → Type 0
-HasNoLast t = (list : List (Pair Event)) → slice_get (lists_in t) t.last ≡ Some list → list ≡ []
+HasNoLast t = (list : List (Pair Event)) → slice_get (lists_in_turns t) t.last ≡ Some list → list ≡ []
 
 -- The session, once it was told of these entries.
 abbrev pub told_of : {C : Type 0} → List (KnownEntry Event) → ScriptedMeaning C → ScriptedMeaning C

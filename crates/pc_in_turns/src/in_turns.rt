@@ -2,7 +2,7 @@ ghost use Rattle.std.specs.Prelude.{◌≡◌, ◌≢◌, ◌+◌, ◌<◌, ◌�
 ghost use Rattle.pc_base.specs.declared.actor.ActorId.{ActorId as Whose};
 ghost use Rattle.pc_in_turns.specs.InTurns.{HaveGoneInTurns};
 ghost use Rattle.pc_in_turns.specs.Learning.{OwnerWasUntold};
-ghost use Rattle.pc_in_turns.specs.Moving.{AreInTurns, GoOut, HasActed, HasFollowed, HasFollowedInRounds, HasMadeRoundAt, HasNoLast, HaveGoneOn, HaveMovedAt, HasNoneLeftAt, HaveRoundedAt, IsAt, IsOpening, IsTask, RecoverOut, TakeTurns, TakesTurn, TellsLast};
+ghost use Rattle.pc_in_turns.specs.Moving.{AreClientsInTurns, GoOut, HasActed, HasFollowed, HasFollowedInRounds, HasMadeRoundAt, HasNoLast, HaveGoneOn, HaveMovedAt, HasNoneLeftAt, HaveRoundedAt, IsAt, IsOpening, IsTask, RecoverOut, TakeTurns, TakesTurn, TellsLast};
 ghost use Rattle.pc_in_turns.specs.Task.{DoesTask, EndsWithTask};
 ghost use Rattle.pc_rounds.specs.Counted.{entries_made};
 ghost use Rattle.pc_runs.specs.Order.{rounds_in_work};
@@ -13,7 +13,7 @@ ghost use Rattle.pc_scripted.specs.Learning.{learnt_ahead};
 ghost use Rattle.pc_scripted.specs.Scripted.{own_list};
 ghost use Rattle.pc_scripted.specs.Taking.{AsksInTurn, FinishesInTurn, GoesUntil, IsRunOut, TakesNextAlone, are_items_over, is_script_over};
 ghost use Rattle.pc_turns.specs.Order.{recoverer_turns};
-ghost use Rattle.pc_work.specs.Built.{IsTurnOf};
+ghost use Rattle.pc_work.specs.Named.{IsTurnOf};
 ghost use Rattle.pc_work.specs.declared.turn.Turn.TheVariants as turns;
 
 use crate::task::Task;
@@ -91,7 +91,7 @@ impl<'a, N: Named<CommitWorld>, C: Clock, V: Wire, G> Model for InTurns<'a, N, C
 impl<'a, N: Named<CommitWorld>, C: Clock + Drop, V: Wire + Drop, G: Gate> InTurns<'a, N, C, V, G> {
     /// Each recoverer, in order, makes the rounds that are left to it.
     fn recover_out<R: Wait>(&mut self, rt: &R) -> Result<(), NoMemory>
-        requires { AreInTurns self.old }
+        requires { AreClientsInTurns self.old }
         ensures gone { OnOk result (HaveGoneOn C.rule (RecoverOut self.old.work (length self.old.work.recoverers)) self.old self.new) }
         ensures sessions { OnOk result (self.new.sessions ≡ self.old.sessions) }
         ensures over { OnOk result (HaveNoRoundLeft self.new.recoverers) }
@@ -104,7 +104,7 @@ impl<'a, N: Named<CommitWorld>, C: Clock + Drop, V: Wire + Drop, G: Gate> InTurn
 
     /// The recoverer of this index takes as many turns as it makes rounds.
     fn recover_all<R: Wait>(&mut self, rt: &R, index: usize) -> Result<(), NoMemory>
-        requires in_turns { AreInTurns self.old }
+        requires in_turns { AreClientsInTurns self.old }
         requires there { index < length self.old.recoverers }
         ensures gone { OnOk result (HaveGoneOn C.rule (TakeTurns self.old.work (recoverer_turns (index + 1) (rounds_in_work self.old.work (index + 1)))) self.old self.new) }
         ensures sessions { OnOk result (self.new.sessions ≡ self.old.sessions) }
@@ -122,7 +122,7 @@ impl<'a, N: Named<CommitWorld>, C: Clock + Drop, V: Wire + Drop, G: Gate> InTurn
 
     /// The recoverer of this index makes its next round, behind all that was done before.
     fn recover<R: Wait>(&mut self, rt: &R, index: usize) -> Result<(), NoMemory>
-        requires in_turns { AreInTurns self.old }
+        requires in_turns { AreClientsInTurns self.old }
         requires there { index < length self.old.recoverers }
         ensures gone { OnOk result (HaveGoneOn C.rule (TakesTurn self.old.work (turns.Recoverer (index + 1))) self.old self.new) }
         ensures others { OnOk result (HaveRoundedAt index self.old self.new) }
@@ -138,7 +138,7 @@ impl<'a, N: Named<CommitWorld>, C: Clock + Drop, V: Wire + Drop, G: Gate> InTurn
 
     /// The recoverer of this index makes its next round.
     fn round<R: Wait>(&mut self, rt: &R, index: usize) -> Result<(), NoMemory>
-        requires in_turns { AreInTurns self.old }
+        requires in_turns { AreClientsInTurns self.old }
         requires there { index < length self.old.recoverers }
         ensures { OnOk result (HasMadeRoundAt C.rule index self.old self.new) }
     {
@@ -147,7 +147,7 @@ impl<'a, N: Named<CommitWorld>, C: Clock + Drop, V: Wire + Drop, G: Gate> InTurn
 
     /// The recoverer of this index knows from now on the last entry that was made.
     fn follow_in_rounds(&mut self, index: usize) -> Result<(), NoMemory>
-        requires in_turns { AreInTurns self.old }
+        requires in_turns { AreClientsInTurns self.old }
         requires there { index < length self.old.recoverers }
         ensures { OnOk result (HasFollowedInRounds index self.old self.new) }
     {
@@ -159,7 +159,7 @@ impl<'a, N: Named<CommitWorld>, C: Clock + Drop, V: Wire + Drop, G: Gate> InTurn
 
     /// A note of the last entry that was made. None where none was.
     fn last_mark(&mut self) -> Result<Option<Note<CommitWorld, N>>, NoMemory>
-        requires { AreInTurns self.old }
+        requires { AreClientsInTurns self.old }
         ensures note { IfOk result (λ mark. IfSome mark (λ n. TellsLast self.old n.known)) }
         ensures none { IfOk result (λ mark. IfNone mark (HasNoLast self.old)) }
         ensures same { self.new ≡ self.old }
@@ -174,7 +174,7 @@ impl<'a, N: Named<CommitWorld>, C: Clock + Drop, V: Wire + Drop, G: Gate> InTurn
 
     /// The session of this index knows from now on the last entry that was made.
     fn follow_last(&mut self, index: usize) -> Result<(), NoMemory>
-        requires in_turns { AreInTurns self.old }
+        requires in_turns { AreClientsInTurns self.old }
         requires there { index < length self.old.sessions }
         ensures { OnOk result (HasFollowed index self.old self.new) }
     {
@@ -186,7 +186,7 @@ impl<'a, N: Named<CommitWorld>, C: Clock + Drop, V: Wire + Drop, G: Gate> InTurn
 
     /// The session of this index does its oldest job.
     fn finish_job<R: Wait>(&mut self, rt: &R, index: usize) -> Result<(), NoMemory>
-        requires in_turns { AreInTurns self.old }
+        requires in_turns { AreClientsInTurns self.old }
         requires there { index < length self.old.sessions }
         ensures { OnOk result (HasActed C.rule FinishesInTurn index self.old self.new) }
     {
@@ -196,7 +196,7 @@ impl<'a, N: Named<CommitWorld>, C: Clock + Drop, V: Wire + Drop, G: Gate> InTurn
     /// The session of this index asks its script's next call, which learns of this transaction: by a token of the session that began it, where
     /// that was told of its commit.
     fn learn(&mut self, index: usize, id: TxnId) -> Result<(), NoMemory>
-        requires in_turns { AreInTurns self.old }
+        requires in_turns { AreClientsInTurns self.old }
         requires there { index < length self.old.sessions }
         requires next { IsAt (λ s. learnt_ahead s ≡ Some id) index self.old }
         ensures { OnOk result (HasActed C.rule AsksInTurn index self.old self.new) }
@@ -227,7 +227,7 @@ impl<
 > InTurns<'a, N, C, V, G> {
     /// The first session goes on by itself until the opening is over.
     fn open<R: Wait + Threads + Sync>(&mut self, rt: &R) -> Result<(), NoMemory>
-        requires { AreInTurns self.old }
+        requires { AreClientsInTurns self.old }
         ensures { OnOk result (HaveGoneOn C.rule (IsOpening self.old.work) self.old self.new) }
     {
         let items = self.work.opening as usize;
@@ -240,7 +240,7 @@ impl<
         rt: &R,
         stated: &[Turn],
     ) -> Result<(), NoMemory>
-        requires in_turns { AreInTurns self.old }
+        requires in_turns { AreClientsInTurns self.old }
         requires there { All (IsTurnOf (length self.old.work.sessions) (length self.old.work.recoverers)) stated.now }
         ensures { OnOk result (HaveGoneOn C.rule (TakeTurns self.old.work stated.now) self.old self.new) }
     {
@@ -252,7 +252,7 @@ impl<
 
     /// Takes one turn: a session's next call, its oldest job, or a recoverer's next round.
     fn take<R: Wait + Threads + Sync>(&mut self, rt: &R, turn: Turn) -> Result<(), NoMemory>
-        requires in_turns { AreInTurns self.old }
+        requires in_turns { AreClientsInTurns self.old }
         requires there { IsTurnOf (length self.old.work.sessions) (length self.old.work.recoverers) turn }
         ensures { OnOk result (HaveGoneOn C.rule (TakesTurn self.old.work turn) self.old self.new) }
     {
@@ -265,7 +265,7 @@ impl<
 
     /// Each session, in order, goes on by itself to the end of its script.
     fn run_out<R: Wait + Threads + Sync>(&mut self, rt: &R) -> Result<(), NoMemory>
-        requires { AreInTurns self.old }
+        requires { AreClientsInTurns self.old }
         ensures gone { OnOk result (HaveGoneOn C.rule (GoOut self.old.work (length self.old.work.sessions)) self.old self.new) }
         ensures over { OnOk result (AreRunOut self.new.sessions) }
     {
@@ -282,7 +282,7 @@ impl<
         index: usize,
         task: Task,
     ) -> Result<(), NoMemory>
-        requires in_turns { AreInTurns self.old }
+        requires in_turns { AreClientsInTurns self.old }
         requires there { index < length self.old.sessions }
         ensures gone { OnOk result (HaveGoneOn C.rule (IsTask self.old.work task index) self.old self.new) }
         ensures others { OnOk result (HaveMovedAt index task self.old.sessions self.new.sessions) }
@@ -303,7 +303,7 @@ impl<
         index: usize,
         task: Task,
     ) -> Result<(), NoMemory>
-        requires in_turns { AreInTurns self.old }
+        requires in_turns { AreClientsInTurns self.old }
         requires there { index < length self.old.sessions }
         ensures acted { OnOk result (HasActed C.rule (DoesTask task) index self.old self.new) }
         ensures ends { OnOk result (IsAt (EndsWithTask task) index self.new) }
@@ -323,7 +323,7 @@ impl<
         index: usize,
         items: usize,
     ) -> Result<(), NoMemory>
-        requires in_turns { AreInTurns self.old }
+        requires in_turns { AreClientsInTurns self.old }
         requires there { index < length self.old.sessions }
         ensures { OnOk result (HasActed C.rule (λ s. GoesUntil s (are_items_over items s.at.reruns s.script)) index self.old self.new) }
     {
@@ -338,7 +338,7 @@ impl<
 
     /// The session of this index goes on by itself to the end of its script.
     fn go_to_end<R: Wait + Threads + Sync>(&mut self, rt: &R, index: usize) -> Result<(), NoMemory>
-        requires in_turns { AreInTurns self.old }
+        requires in_turns { AreClientsInTurns self.old }
         requires there { index < length self.old.sessions }
         ensures acted { OnOk result (HasActed C.rule (λ s. GoesUntil s (is_script_over s.at.reruns s.script)) index self.old self.new) }
         ensures over { OnOk result (IsAt IsRunOut index self.new) }
@@ -354,7 +354,7 @@ impl<
 
     /// What the session of this index does by itself: its oldest job where one waits, else its script's next call.
     fn go_on<R: Wait + Threads + Sync>(&mut self, rt: &R, index: usize) -> Result<(), NoMemory>
-        requires in_turns { AreInTurns self.old }
+        requires in_turns { AreClientsInTurns self.old }
         requires there { index < length self.old.sessions }
         requires going { IsAt (λ s. s.session.desk.log.stopped ≡ false) index self.old }
         ensures { OnOk result (HasActed C.rule TakesNextAlone index self.old self.new) }
@@ -368,7 +368,7 @@ impl<
 
     /// The session of this index asks its script's next call.
     fn call<R: Wait + Threads + Sync>(&mut self, rt: &R, index: usize) -> Result<(), NoMemory>
-        requires in_turns { AreInTurns self.old }
+        requires in_turns { AreClientsInTurns self.old }
         requires there { index < length self.old.sessions }
         ensures { OnOk result (HasActed C.rule AsksInTurn index self.old self.new) }
     {
@@ -380,7 +380,7 @@ impl<
 
     /// The session of this index asks its script's next call, which is no learn.
     fn turn<R: Wait + Threads + Sync>(&mut self, rt: &R, index: usize) -> Result<(), NoMemory>
-        requires in_turns { AreInTurns self.old }
+        requires in_turns { AreClientsInTurns self.old }
         requires there { index < length self.old.sessions }
         requires other { IsAt (λ s. learnt_ahead s ≡ None) index self.old }
         ensures { OnOk result (HasActed C.rule AsksInTurn index self.old self.new) }

@@ -88,7 +88,7 @@ where
     ensures refused { IfRefused result (λ number. (number ≡ 1) ⊎ (number ≡ 10)) }
     ensures kind { IsAfterReading result }
 {
-    match Workload::read_accepted(alloc, bytes) {
+    match Workload::read(alloc, bytes) {
         Ok(work) => write_output(rt, alloc, &work, sink, clocks, gate),
         Err(WorkFault::Refused { number }) => Status::Workload { number },
         Err(WorkFault::NoMemory) => Status::NoMemory,

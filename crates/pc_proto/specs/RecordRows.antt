@@ -1,4 +1,5 @@
 -- The rows of the evaluation table for requests to a transaction record: what each changes, and what it answers.
+-- RFC 20180324 and the ParallelCommits TLA+ specification; each row's own file says which part.
 use Rattle.std.specs.Prelude.{Option, None, Some, if◌then◌else◌}
 use Rattle.pc_base.specs.declared.transaction.TxnId.{TxnId}
 use Rattle.pc_proto.specs.declared.reply.Reply.{Reply}

@@ -155,6 +155,7 @@ module _ {C : Type 0} (old mid late : DeskMeaning C) (request : Request) (number
                   (All-cons IsInBetween (events.Hear next a.step) [] tt (All-nil IsInBetween));
               back = record { track = heard.track; posted = heard.posted ∙ none; replies = none-left };
               limit = heard.limit ∙ (delivered.limit ∙ sent.limit);
+              later = heard.later ∙ (delivered.later ∙ sent.later);
             };
             kind = heard_kind new.log heard.track.log h there;
             possible = heard_possible new.log heard.track.log h there;

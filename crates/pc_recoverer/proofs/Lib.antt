@@ -1,3 +1,4 @@
+pub mod Between
 pub mod Breaking
 pub mod Dealing
 pub mod Exchanging

@@ -4,7 +4,6 @@ use Rattle.std.proofs.lemmas.List.{append-nil, append_assoc}
 use Rattle.std.proofs.lemmas.List.Elements.{All-nil}
 use Rattle.pc_base.specs.declared.actor.ActorId.{ActorId}
 use Rattle.pc_base.specs.declared.actor.ActorId.TheVariants as actors
-use Rattle.pc_coord.specs.Beside.{is_of_round_or_job}
 use Rattle.pc_desk.specs.Desk.{DeskMeaning, MaySendNow}
 use Rattle.pc_desk.specs.Keeping.{KeepsAs}
 use Rattle.pc_exchange.proofs.Going.{answered_to_by}
@@ -39,6 +38,7 @@ use Rattle.pc_recoverer.specs.Settled.{settling_of, settling_with}
 use Rattle.pc_recoverer.specs.UnderWay.{HasFinishedListed, IsBeingSettled, MayFinishInRound}
 use Rattle.pc_resolve.specs.Resolving.{Resolving, finishing_after, finishing_next}
 use Rattle.pc_resolve.specs.ResolveKnows.{FinishingMayCome, ResolveKnows, WasAnsweredToIt}
+use Rattle.pc_wave.specs.Standing.{goes_beside}
 use Rattle.pc_world.specs.Exchange.{IsAllowed}
 use Rattle.pc_world.specs.Known.{Known, known_of}
 use Rattle.pc_world.specs.Known.Transactions.{Txn}
@@ -108,7 +108,7 @@ settling_begins old meta fate locks anchor m start same first knows =
       left = ap messages_due made;
     }
 
-for_one : (splits : List (List ℕ)) (request : Request) → is_of_round_or_job request ≡ true → IsForOne splits request
+for_one : (splits : List (List ℕ)) (request : Request) → goes_beside request ≡ true → IsForOne splits request
 for_one splits (requests.Push holder by level now goal) is = tt
 for_one splits (requests.Query id epoch seq ts key by) is = tt
 for_one splits (requests.Recover id epoch ts anchor finding) is = tt

@@ -1,5 +1,5 @@
 -- A recoverer in its round goes on by one message after another.
-use Rattle.std.proofs.Common.{◌≡◌, List, [], ◌∷◌, ◌++◌, map, IfErr, OnOk, Result, Ok, Err, refl, sym, ap, ◌∙◌, subst}
+use Rattle.std.proofs.Common.{◌≡◌, List, [], ◌∷◌, ◌++◌, map, is_some, IfErr, OnOk, Result, Ok, Err, refl, sym, ap, ◌∙◌, subst}
 use Rattle.std.proofs.lemmas.List.{map-append}
 use Rattle.pc_desk.specs.declared.halt.Halt.{Halt}
 use Rattle.pc_desk.specs.Desk.{DeskMeaning}
@@ -14,7 +14,7 @@ use Rattle.pc_proto.specs.declared.reply.Reply.{Reply}
 use Rattle.pc_proto.specs.declared.request.Request.{Request}
 use Rattle.pc_recoverer.specs.declared.maker.RoundMaker.{RoundMaker}
 use Rattle.pc_recoverer.specs.Exchanges.{AreExchangesIn, RoundMessage, requests_of}
-use Rattle.pc_recoverer.specs.InRound.{HasMadeTraffic, IsMakingRound, IsRecoverer}
+use Rattle.pc_recoverer.specs.InRound.{HasMadeTraffic, IsRecovererInRound, IsMakingRound}
 use Rattle.pc_world.proofs.Exchange.{answered, later-itself, later-later}
 use Rattle.pc_world.specs.Exchange.{IsLater, WasAnswered}
 use Rattle.pc_world.specs.Known.{Known, known_of, next_number}
@@ -96,9 +96,9 @@ made_both a b d xs ys one two = record {
   stays = λ maker making. two.stays maker (one.stays maker making);
 }
 
--- whose round it is is a recoverer
-pub is_recoverer : {C : Type 0} (maker : RoundMaker) (d : DeskMeaning C) → IsMakingRound maker d → IsRecoverer d.log.part.id
-is_recoverer maker d making = (maker.number, making.whose)
+-- it is a recoverer, in its round
+pub recoverer_in_round : {C : Type 0} (maker : RoundMaker) (d : DeskMeaning C) → IsMakingRound maker d → IsRecovererInRound d
+recoverer_in_round maker d making = record { whose = (maker.number, making.whose); opened = ap is_some making.opened }
 
 -- what is so of each good result
 pub on_ok : (r : Result (Unit {0}) Halt) (P Q : Type 0) → (P → Q) → OnOk r P → OnOk r Q

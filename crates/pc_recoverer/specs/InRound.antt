@@ -1,5 +1,5 @@
 -- A recoverer in its round, and what it does there.
-use Rattle.std.specs.Prelude.{◌≡◌, ℕ, ◌+◌, ◌≤◌, Some, List, [], All, Any, IsTrue}
+use Rattle.std.specs.Prelude.{◌≡◌, ℕ, ◌+◌, ◌≤◌, true, is_some, Some, List, [], All, Any, IsTrue}
 use Rattle.pc_base.specs.declared.actor.ActorId.{ActorId}
 use Rattle.pc_base.specs.declared.actor.ActorId.TheVariants as actors
 use Rattle.pc_base.specs.declared.transaction.TxnId.{TxnId}
@@ -34,7 +34,12 @@ use Rattle.pc_world.specs.Views.{anchor_heard}
 abbrev pub IsRecoverer : ActorId → Type 0
 IsRecoverer id = (number : ℕ) × (id ≡ actors.Recoverer number)
 
--- No message of the recoverer was on its way, and then it sent one.
+-- The actor is a recoverer, in a round.
+pub record IsRecovererInRound {C : Type 0} (d : DeskMeaning C) : Type 0 where
+  pub whose : IsRecoverer d.log.part.id
+  pub opened : is_some (known_of d.log.part.own).statement ≡ true
+
+-- No message of the recoverer was on its way, and then it sent one, in a round.
 pub record HasOneAway {C : Type 0} (d : DeskMeaning C) : Type 0 where
   pub before : DeskMeaning C
   pub back : HasAllBack before
@@ -42,6 +47,7 @@ pub record HasOneAway {C : Type 0} (d : DeskMeaning C) : Type 0 where
   pub request : Request
   pub number : ℕ
   pub sent : HasSentNext before d number request
+  pub opened : is_some (known_of d.log.part.own).statement ≡ true
 
 -- The recoverer sent this message to this range, and heard this reply.
 pub record WasExchangedWith {C : Type 0} (range : ℕ) (old new : DeskMeaning C) (request : Request) (reply : Reply) : Type 0 where

@@ -7,7 +7,7 @@ ghost use Rattle.pc_proto.specs.declared.reply.Reply.TheVariants as replies;
 ghost use Rattle.pc_proto.specs.declared.request.Request.{Request};
 ghost use Rattle.pc_proto.specs.declared.request.Request.TheVariants as requests;
 ghost use Rattle.pc_recoverer.specs.Broken.{AreFrontOf, AreFrontOfOne, AreFrontOfOneTo, BreaksOffIn, IsOneMessageTo};
-ghost use Rattle.pc_recoverer.specs.InRound.{HasOneAway, IsRecoverer, WasExchangedWith};
+ghost use Rattle.pc_recoverer.specs.InRound.{HasOneAway, IsRecovererInRound, WasExchangedWith};
 
 use pc_clock::Clock;
 use pc_desk::{Desk, Halt};
@@ -24,7 +24,7 @@ pub(crate) fn exchange<N: Named<CommitWorld>, C: Clock, V: Wire, G: Gate, R: Wai
     request: Request,
 ) -> Result<Reply, Halt>
     requires back { HasAllBack desk.old }
-    requires client { IsRecoverer desk.old.log.part.id }
+    requires client { IsRecovererInRound desk.old }
     requires may { MaySendNow desk.old.log request }
     ensures ok { IfOk result (λ reply. WasExchanged desk.old desk.new request reply) }
     ensures clock { desk.new.log.clock ≡ desk.old.log.clock }
@@ -42,7 +42,7 @@ pub(crate) fn list_records<N: Named<CommitWorld>, C: Clock, V: Wire, G: Gate, R:
     range: u32,
 ) -> Result<Metas, Halt>
     requires back { HasAllBack desk.old }
-    requires client { IsRecoverer desk.old.log.part.id }
+    requires client { IsRecovererInRound desk.old }
     requires may { MaySendTo desk.old.log range requests.Records }
     ensures ok { IfOk result (λ metas. WasExchangedWith range desk.old desk.new requests.Records (replies.Listed metas)) }
     ensures clock { desk.new.log.clock ≡ desk.old.log.clock }

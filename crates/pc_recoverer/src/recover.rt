@@ -8,7 +8,7 @@ ghost use Rattle.pc_proto.specs.declared.view.View.{View};
 ghost use Rattle.pc_recover.specs.Recovering.{recovering_next};
 ghost use Rattle.pc_recoverer.specs.declared.maker.RoundMaker.{RoundMaker};
 ghost use Rattle.pc_recoverer.specs.Broken.{AreFrontOf, AreFrontOfOne, BreaksOffIn};
-ghost use Rattle.pc_recoverer.specs.InRound.{HasRecovered, IsRecoverer, MayRecoverNow};
+ghost use Rattle.pc_recoverer.specs.InRound.{HasRecovered, IsRecovererInRound, MayRecoverNow};
 ghost use Rattle.pc_recoverer.specs.Round.{FollowsPush};
 ghost use Rattle.pc_recoverer.specs.UnderWay.{IsBeingRecovered};
 
@@ -66,7 +66,7 @@ fn recover_on<N: Named<CommitWorld>, C: Clock, V: Wire, G: Gate, R: Wait>(
     request: Request,
 ) -> Result<(), Halt>
     requires back { HasAllBack desk.old }
-    requires client { IsRecoverer desk.old.log.part.id }
+    requires client { IsRecovererInRound desk.old }
     requires may { MaySendNow desk.old.log request }
     ensures ok { (maker : RoundMaker) (old : DeskMeaning C) (meta : TxnMeta) (met : View) → IsBeingRecovered maker old meta met machine.old desk.old → recovering_next machine.old ≡ machines.Send request → OnOk result (IsBeingRecovered maker old meta met machine.new desk.new) }
     ensures clock { desk.new.log.clock ≡ desk.old.log.clock }

@@ -3,6 +3,7 @@ ghost use Rattle.pc_base.specs.declared.actor.ActorId.TheVariants as actors;
 ghost use Rattle.pc_base.specs.Rising.{AreRising};
 ghost use Rattle.pc_desk.specs.declared.halt.Halt.TheVariants as halts;
 ghost use Rattle.pc_desk.specs.Desk.{HasHalted, IsReadyToGo, new_desk};
+ghost use Rattle.pc_desk.specs.Ending.{all_waiting};
 ghost use Rattle.pc_desk.specs.Keeping.{ReadsEach};
 ghost use Rattle.pc_desk.specs.OwnLog.{IsOwnLog};
 ghost use Rattle.pc_history.specs.Parts.{newcomer, noted, told};
@@ -138,7 +139,7 @@ impl<'a, N: Named<CommitWorld>, C: Clock + Drop, V: Wire + Drop, G> Recoverer<'a
         ensures actor { (result.0.world ≡ self.entry.desk.log.head) × (result.0.part ≡ self.entry.desk.log.part) }
         ensures log { IsOwnLog self.entry.desk.log }
         ensures reads { ReadsEach (C.rule self.entry.desk.log.clock) self.entry.desk.log.part.own }
-        ensures rest { map (λ w. w.posted) result.1 ≡ self.entry.desk.posted }
+        ensures rest { map (λ w. w.posted) result.1 ≡ all_waiting self.entry.desk }
         ensures ready { All (IsReadyToGo self.entry.desk.log.part.id self.entry.desk.log.head.splits) result.1 }
         ensures between { IsBetweenOrStopped self.entry }
     {

@@ -6,7 +6,7 @@ ghost use Rattle.pc_proto.specs.declared.machine.MachineNext.TheVariants as mach
 ghost use Rattle.pc_proto.specs.declared.meta.TxnMeta.{TxnMeta};
 ghost use Rattle.pc_recoverer.specs.Broken.{AreFrontOf, AreFrontOfOne, BreaksOffIn};
 ghost use Rattle.pc_recoverer.specs.Exchanges.{requests_of};
-ghost use Rattle.pc_recoverer.specs.InRound.{HasSettled, IsRecoverer, MaySettleNow};
+ghost use Rattle.pc_recoverer.specs.InRound.{HasSettled, IsRecovererInRound, MaySettleNow};
 ghost use Rattle.pc_recoverer.specs.Settled.{settling_of, settling_with};
 ghost use Rattle.pc_recoverer.specs.UnderWay.{HasFinishedListed, IsBeingSettled, MayFinishInRound};
 ghost use Rattle.pc_resolve.specs.Resolving.{finishing_next};
@@ -89,7 +89,7 @@ fn settle_on<N: Named<CommitWorld>, C: Clock, V: Wire, G: Gate, R: Wait>(
     request: Request,
 ) -> Result<(), Halt>
     requires back { HasAllBack desk.old }
-    requires client { IsRecoverer desk.old.log.part.id }
+    requires client { IsRecovererInRound desk.old }
     requires may { MaySendNow desk.old.log request }
     ensures ok { (old : DeskMeaning C) (meta : TxnMeta) (fate : Fate) (locks : List (List ℕ)) → IsBeingSettled old meta fate locks machine.old desk.old → finishing_next machine.old ≡ machines.Send request → OnOk result (IsBeingSettled old meta fate locks machine.new desk.new) }
     ensures clock { desk.new.log.clock ≡ desk.old.log.clock }

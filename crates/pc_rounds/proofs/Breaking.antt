@@ -129,7 +129,7 @@ module _ {C : Type 0} (old : CountedMeaning C) (new : RecovererMeaning C) (count
   makes-so held says true is =
       let ended = list_has_ended old.recoverer.desk.log.limit old.recoverer.desk.log.stop held in
       let none : part ≡ [] = no_room old.recoverer.desk.log.limit (entries_made old) part
-      (only_at_limit old.recoverer.desk.log.limit old.recoverer.desk.log.stop held (entries_made old) (goes.between.back.track.log.before_stop going) (all_heard_ever old.recoverer.desk goes.between.back) is)
+      (only_at_limit old.recoverer.desk.log.limit old.recoverer.desk.log.stop held (entries_made old) (goes.between.back.track.log.before_stop going) goes.between.closed (all_heard_ever old.recoverer.desk goes.between.back) is)
       (subst (λ own. length own ≤ old.recoverer.desk.log.limit) broke.own (subst (λ n. length new.desk.log.part.own ≤ n) limit-then broke.within)) in
       subst (λ b. UnlessEnded b part (MakesRoundIfLeft ended old.recoverer.number (nat_lt (rounds_asked (entries_made old)) old.rounds) (entries_made old) part)) (sym is) none
   makes-so held says false is =

@@ -100,7 +100,7 @@ module _ {C : Type 0} (old : CountedMeaning C) (new : RecovererMeaning C) (made 
     is = λ held says.
         let before = goes.counted in
         made_left (list_has_ended old.recoverer.desk.log.limit old.recoverer.desk.log.stop held) old.rounds old.recoverer.number (entries_made old) h.part
-        (not_ended old.recoverer.desk.log.limit old.recoverer.desk.log.stop held (entries_made old) (goes.between.back.track.log.before_stop going) (all_heard_ever old.recoverer.desk goes.between.back) room) (omega arith)
+        (not_ended old.recoverer.desk.log.limit old.recoverer.desk.log.stop held (entries_made old) (goes.between.back.track.log.before_stop going) goes.between.closed (all_heard_ever old.recoverer.desk goes.between.back) room) (omega arith)
         (inl (whole_events old.recoverer.desk.log.head.splits old.recoverer.number old.recoverer.level h.part h.whole));
     onward = λ still more. (going, is);
   }

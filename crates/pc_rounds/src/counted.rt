@@ -2,6 +2,7 @@ ghost use Rattle.std.specs.Prelude.{◌≡◌, ◌-◌, ◌<◌, ◌||◌, [], f
 ghost use Rattle.pc_base.specs.declared.actor.ActorId.TheVariants as actors;
 ghost use Rattle.pc_desk.specs.declared.halt.Halt.TheVariants as halts;
 ghost use Rattle.pc_desk.specs.Desk.{IsReadyToGo};
+ghost use Rattle.pc_desk.specs.Ending.{all_waiting};
 ghost use Rattle.pc_desk.specs.Keeping.{ReadsEach};
 ghost use Rattle.pc_desk.specs.OwnLog.{IsOwnLog};
 ghost use Rattle.pc_history.specs.Parts.{noted, told};
@@ -159,7 +160,7 @@ impl<'a, N: Named<CommitWorld>, C: Clock + Drop, V: Wire + Drop, G: Gate> Counte
         ensures actor { (result.0.world ≡ self.entry.recoverer.desk.log.head) × (result.0.part ≡ self.entry.recoverer.desk.log.part) }
         ensures log { IsOwnLog self.entry.recoverer.desk.log }
         ensures reads { ReadsEach (C.rule self.entry.recoverer.desk.log.clock) (entries_made self.entry) }
-        ensures rest { map (λ w. w.posted) result.1 ≡ self.entry.recoverer.desk.posted }
+        ensures rest { map (λ w. w.posted) result.1 ≡ all_waiting self.entry.recoverer.desk }
         ensures ready { All (IsReadyToGo self.entry.recoverer.desk.log.part.id self.entry.recoverer.desk.log.head.splits) result.1 }
     {
         self.recoverer.finish()

@@ -24,7 +24,7 @@ use Rattle.pc_threads.proofs.OnThreads.{threads_are_as_stated}
 use Rattle.pc_threads.specs.OnThreads.{HaveGoneOnThreads}
 use Rattle.pc_turns.specs.Clients.{client_pairs}
 use Rattle.pc_work.specs.Accepted.{IsAccepted}
-use Rattle.pc_work.specs.Built.{AreTurnsOf}
+use Rattle.pc_work.specs.Named.{AreTurnsOf}
 use Rattle.pc_work.specs.declared.turn.Turn.{Turn}
 use Rattle.pc_work.specs.declared.workload.Workload.{Workload}
 
@@ -32,10 +32,10 @@ module _ {C : Type 0} (rule : C → ℕ → ℕ → Bool) (rules : ActorId → �
   module _ (Went : ClientsMeaning C → Type 0) (left : HaveLeft rule rules work Went leavers) where
     -- what may be closed
     pub leavers_are : AreLeavers work.limit (head_in_work work) leavers
-    leavers_are = (clients_leave rule work rules left.clients leavers left.are left.finished left.clocks accepted.pipelining).0
+    leavers_are = (clients_leave rule work rules left.clients leavers left.are left.finished left.clocks).0
 
     have_left : HaveAllLeft work rules left.clients leavers
-    have_left = (clients_leave rule work rules left.clients leavers left.are left.finished left.clocks accepted.pipelining).1
+    have_left = (clients_leave rule work rules left.clients leavers left.are left.finished left.clocks).1
 
     -- a history whose clients go and learn as they should
     follows_so : (history : List (Entry Event)) → IsClosedOver work.limit (head_in_work work) leavers history

@@ -6,7 +6,7 @@ ghost use Rattle.pc_runner.specs.Leaving.{HaveLeft};
 ghost use Rattle.pc_runs.specs.Runners.{head_in_work};
 ghost use Rattle.pc_threads.specs.OnThreads.{HaveGoneOnThreads};
 ghost use Rattle.pc_work.specs.Accepted.{IsAccepted};
-ghost use Rattle.pc_work.specs.Built.{AreTurnsOf};
+ghost use Rattle.pc_work.specs.Named.{AreTurnsOf};
 
 use pc_base::NoMemory;
 use pc_clock::Clocks;

@@ -1,17 +1,14 @@
 -- What the sessions and recoverers of a workload leave when they finish.
-use Rattle.std.proofs.Common.{◌≡◌, ℕ, zero, suc, ◌+◌, ◌-◌, ◌<◌, ◌≤◌, ◌⊎◌, inl, inr, Bool, true, false, All, List, [], ◌∷◌, ◌++◌, length, map, slice_get, Some, refl, sym, ap, subst, ◌∙◌, arith}
+use Rattle.std.proofs.Common.{◌≡◌, ℕ, zero, suc, ◌+◌, ◌-◌, ◌<◌, ◌≤◌, ◌⊎◌, inl, inr, Bool, true, false, All, List, [], ◌∷◌, length, map, slice_get, Some, refl, sym, ap, subst, ◌∙◌, arith}
 use Rattle.std.proofs.lemmas.Option.{slice_get_within}
-use Rattle.std.specs.Prelude.{is_none}
 use Rattle.pc_base.specs.declared.actor.ActorId.{ActorId}
 use Rattle.pc_base.specs.declared.actor.ActorId.TheVariants as actors
-use Rattle.pc_closing.proofs.Leaving.{full_range_may_leave, heard_may_leave, own_end_may_leave, stop_may_leave}
+use Rattle.pc_closing.proofs.Leaving.{full_range_may_leave, going_may_leave, own_end_may_leave, stop_may_leave}
 use Rattle.pc_closing.specs.Leaving.{AreLeavers, IsLeaver, Leaver, MayLeave}
 use Rattle.pc_desk.specs.Desk.{DeskMeaning, GivesOnce, IsReadyToGo, WaitingMessage}
-use Rattle.pc_desk.specs.Ending.{EndsEarly}
+use Rattle.pc_desk.specs.Ending.{EndsEarly, all_waiting}
 use Rattle.pc_desk.specs.Keeping.{KeepsEach, ReadsEach}
 use Rattle.pc_desk.specs.Waves.{KeepsWavesEach}
-use Rattle.pc_exchange.proofs.Called.{all_heard_ever}
-use Rattle.pc_history.specs.declared.pair.Pair.{Pair}
 use Rattle.pc_history.specs.declared.view.Part.{Part}
 use Rattle.pc_proto.specs.declared.event.Event.{Event}
 use Rattle.pc_rounds.specs.Counted.{CountedMeaning, GoesInRounds, entries_made}
@@ -39,7 +36,7 @@ below_or_not (suc i) (suc n) = elim (below_or_not i n) [
 ]
 
 -- where its list has ended
-ended-may-leave : {C : Type 0} (d : DeskMeaning C) (l : Leaver) → map (λ (w : WaitingMessage). w.posted) l.1 ≡ d.posted → GivesOnce d.log.part → EndsEarly d → MayLeave d.range_limit d.log.part l.1
+ended-may-leave : {C : Type 0} (d : DeskMeaning C) (l : Leaver) → map (λ (w : WaitingMessage). w.posted) l.1 ≡ all_waiting d → GivesOnce d.log.part → EndsEarly d → MayLeave d.range_limit d.log.part l.1
 ended-may-leave d l posted given (inl end) = own_end_may_leave d l.1 posted given end
 ended-may-leave d l posted given (inr (inl end)) = full_range_may_leave d l.1 posted given end
 ended-may-leave d l posted given (inr (inr end)) = stop_may_leave d l.1 posted given end
@@ -50,16 +47,14 @@ module _ {C : Type 0} (work : Workload) (rule : C → ℕ → ℕ → Bool) (c :
     where
       by : (b : Bool) → s.session.desk.log.stopped ≡ b → MayLeave s.session.desk.range_limit s.session.desk.log.part l.1
       by true stopped = ended-may-leave s.session.desk l f.posted scripted.given (scripted.ends stopped)
-      by false going = let rest = (scripted.goes going).rest in heard_may_leave s.session.desk l.1 f.posted scripted.given rest.posted rest.heard
+      by false going = going_may_leave s.session.desk l.1 f.posted scripted.given (scripted.goes going).rest.track
 
   may-leave-rounds : (r : CountedMeaning C) (l : Leaver) → GoesInRounds r → HasFinishedInRounds rule r l → MayLeave r.recoverer.desk.range_limit r.recoverer.desk.log.part l.1
   may-leave-rounds r l counted f = by r.recoverer.desk.log.stopped refl
     where
       by : (b : Bool) → r.recoverer.desk.log.stopped ≡ b → MayLeave r.recoverer.desk.range_limit r.recoverer.desk.log.part l.1
       by true stopped = ended-may-leave r.recoverer.desk l f.posted counted.given (counted.ends stopped).end
-      by false going =
-          let back = (counted.goes going).between.back in
-          heard_may_leave r.recoverer.desk l.1 f.posted counted.given back.posted (all_heard_ever r.recoverer.desk back)
+      by false going = going_may_leave r.recoverer.desk l.1 f.posted counted.given (counted.goes going).between.back.track
 
   -- a session leaves
   leaver : (index : ℕ) (l : Leaver) → slice_get leavers index ≡ Some l → (s : ScriptedMeaning C) → slice_get c.sessions index ≡ Some s → IsLeaver work.limit (head_in_work work) index l
@@ -101,8 +96,8 @@ module _ {C : Type 0} (work : Workload) (rule : C → ℕ → ℕ → Bool) (c :
           let r = there c.recoverers (index - length c.sessions) (omega arith) in
           subst (λ n. IsLeaver work.limit (head_in_work work) n l) same (leaver-rounds (index - length c.sessions) l (subst (λ n. slice_get leavers n ≡ Some l) (sym same) at) r.0 r.1)
 
-  pub all_left : (rules : ActorId → ℕ → ℕ → Bool) → work.pipelining ≡ false → HaveClientClocks rule rules work c → HaveAllLeft work rules c leavers
-  all_left rules unpiped clocks = record {
+  pub all_left : (rules : ActorId → ℕ → ℕ → Bool) → HaveClientClocks rule rules work c → HaveAllLeft work rules c leavers
+  all_left rules clocks = record {
     many = finished.many;
     sessions = λ index s l at here.
         let r = clients.runners.each index s at in
@@ -110,8 +105,8 @@ module _ {C : Type 0} (work : Workload) (rule : C → ℕ → ℕ → Bool) (c :
         record {
           part = f.part;
           steps = λ session listed. f.keeps work session (rules (actors.Session (index + 1)))
-              (record { unpiped = unpiped; script = ap (λ (w : SessionWork). w.script) (same_work session r.session (sym listed ∙ r.listed)) ∙ r.script; reruns = r.reruns }) (clocks.sessions index s session at listed);
-          keeps = subst (λ b. KeepsEach (actors.Session (index + 1)) work.splits b (own_list s)) (r.scripted.unpiped ∙ sym unpiped)
+              (record { script = ap (λ (w : SessionWork). w.script) (same_work session r.session (sym listed ∙ r.listed)) ∙ r.script; reruns = r.reruns }) (clocks.sessions index s session at listed);
+          keeps = subst (λ b. KeepsEach (actors.Session (index + 1)) work.splits b (own_list s)) r.piped
               (subst (λ (h : Head). KeepsEach (actors.Session (index + 1)) h.splits s.session.desk.log.pipelining (own_list s)) r.head
               (subst (λ (i : ActorId). KeepsEach i s.session.desk.log.head.splits s.session.desk.log.pipelining (own_list s)) (r.scripted.id ∙ ap actors.Session r.number) f.log.keeps));
           waves = subst (λ b. KeepsWavesEach b (own_list s)) r.beside f.log.waves;
@@ -133,4 +128,4 @@ module _ {C : Type 0} (work : Workload) (rule : C → ℕ → ℕ → Bool) (c :
       same_work x y e = cc
 
 pub clients_leave : {C : Type 0} (rule : C → ℕ → ℕ → Bool) → ClientsLeave rule
-clients_leave rule work rules c leavers clients finished clocks unpiped = (all_leavers work rule c leavers clients finished, all_left work rule c leavers clients finished rules unpiped clocks)
+clients_leave rule work rules c leavers clients finished clocks = (all_leavers work rule c leavers clients finished, all_left work rule c leavers clients finished rules clocks)

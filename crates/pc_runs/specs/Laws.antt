@@ -6,6 +6,7 @@ use Rattle.pc_closing.specs.Closing.{IsClosedOver}
 use Rattle.pc_closing.specs.HeldUp.{holds_up}
 use Rattle.pc_closing.specs.Leaving.{AreLeavers, Leaver}
 use Rattle.pc_desk.specs.Desk.{IsReadyToGo}
+use Rattle.pc_desk.specs.Ending.{all_waiting}
 use Rattle.pc_desk.specs.Keeping.{EachAfter, ReadsEach}
 use Rattle.pc_desk.specs.OwnLog.{IsOwnLog}
 use Rattle.pc_history.specs.declared.pair.Pair.{Pair}
@@ -31,7 +32,7 @@ use Rattle.pc_work.specs.declared.workload.Workload.{Workload}
 pub record HasFinished {C : Type 0} (rule : C → ℕ → ℕ → Bool) (s : ScriptedMeaning C) (l : Leaver) : Type 0 where
   pub part : l.0.part ≡ s.session.desk.log.part
   pub log : IsOwnLog s.session.desk.log
-  pub posted : map (λ w. w.posted) l.1 ≡ s.session.desk.posted
+  pub posted : map (λ w. w.posted) l.1 ≡ all_waiting s.session.desk
   pub ready : All (IsReadyToGo s.session.desk.log.part.id s.session.desk.log.head.splits) l.1
   pub keeps : (work : Workload) (session : SessionWork) (given : ℕ → ℕ → Bool) → DoesWork work session s → rule s.session.desk.log.clock ≡ clock_rule session.clock given → EachAfter (KeepsWork work session given) [] (own_list s)
 
@@ -39,7 +40,7 @@ pub record HasFinished {C : Type 0} (rule : C → ℕ → ℕ → Bool) (s : Scr
 pub record HasFinishedInRounds {C : Type 0} (rule : C → ℕ → ℕ → Bool) (r : CountedMeaning C) (l : Leaver) : Type 0 where
   pub part : l.0.part ≡ r.recoverer.desk.log.part
   pub log : IsOwnLog r.recoverer.desk.log
-  pub posted : map (λ w. w.posted) l.1 ≡ r.recoverer.desk.posted
+  pub posted : map (λ w. w.posted) l.1 ≡ all_waiting r.recoverer.desk
   pub ready : All (IsReadyToGo r.recoverer.desk.log.part.id r.recoverer.desk.log.head.splits) l.1
   pub reads : ReadsEach (rule r.recoverer.desk.log.clock) (entries_made r)
 
@@ -55,7 +56,7 @@ pub record HaveFinished {C : Type 0} (rule : C → ℕ → ℕ → Bool) (c : Cl
 abbrev pub ClientsLeave : {C : Type 0} → (C → ℕ → ℕ → Bool) → Type 0
 ClientsLeave {C} rule =
     (work : Workload) (rules : ActorId → ℕ → ℕ → Bool) (clients : ClientsMeaning C) (leavers : List Leaver)
-    → AreClients work clients → HaveFinished rule clients leavers → HaveClientClocks rule rules work clients → work.pipelining ≡ false
+    → AreClients work clients → HaveFinished rule clients leavers → HaveClientClocks rule rules work clients
     → AreLeavers work.limit (head_in_work work) leavers × HaveAllLeft work rules clients leavers
 
 -- Where the own lists are the clients' shares of entries that go in the stated turns, so does the history that they leave.

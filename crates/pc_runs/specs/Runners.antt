@@ -19,8 +19,8 @@ use Rattle.pc_world.specs.Local.{Head}
 abbrev pub head_in_work : Workload → Head
 head_in_work work = record { splits = work.splits; sessions = length work.sessions; recoverers = length work.recoverers }
 
--- The session goes by the script of this index of the workload, within its limits and up to its stop; the evaluations of a wave go beside each
--- other where no turns are stated.
+-- The session goes by the script of this index of the workload, within its limits and up to its stop; its writes are pipelined where the workload
+-- says so, and the evaluations of a wave go beside each other where no turns are stated.
 pub record IsRunnerIn {C : Type 0} (work : Workload) (index : ℕ) (s : ScriptedMeaning C) : Type 0 where
   pub scripted : IsScripted s
   pub number : own_number s ≡ index + 1
@@ -29,6 +29,7 @@ pub record IsRunnerIn {C : Type 0} (work : Workload) (index : ℕ) (s : Scripted
   pub script : session.script ≡ s.script
   pub reruns : work.reruns ≡ s.at.reruns
   pub head : s.session.desk.log.head ≡ head_in_work work
+  pub piped : s.session.desk.log.pipelining ≡ work.pipelining
   pub beside : s.session.desk.log.beside ≡ is_none work.turns
   pub limit : s.session.desk.log.limit ≡ work.limit
   pub stop : s.session.desk.log.stop ≡ session.stop

@@ -3,9 +3,10 @@ use Rattle.std.proofs.Common.{◌≡◌, ℕ, zero, suc, Bool, true, false, All,
 use Rattle.std.proofs.lemmas.List.Concat.{flat_map-cons}
 use Rattle.std.proofs.lemmas.List.Elements.{All-append, All-cons, All-head, All-nil, All-push, All-tail}
 use Rattle.std.specs.List.{flat_map}
+use Rattle.std.specs.Prelude.{⊤}
 use Rattle.pc_base.specs.declared.transaction.Priority.{Priority}
 use Rattle.pc_base.specs.declared.transaction.TxnId.{TxnId}
-use Rattle.pc_call.specs.Suiting.{SuitsFlight}
+use Rattle.pc_call.specs.Suiting.{SuitsFlight, SuitsFlightIn}
 use Rattle.pc_coord.specs.Knows.{IsHeld}
 use Rattle.pc_coord.specs.Suiting.{Suits}
 use Rattle.pc_proto.specs.declared.call.Call.{Call}
@@ -82,9 +83,9 @@ course_of (Learn id) = refl
 course_of (Txn priority statements commits) = planned_calls None (flat_map statement_calls statements ++ plans.Ask (end_call commits) ∷ []) (behind_begin (Txn priority statements commits))
 
 -- at the first call of the next item no transaction is open
-pub opened_fits : (items : List Item) (reruns : ℕ) → FitsCalls (opened items reruns) None
-opened_fits [] reruns = record { calls = All-nil IsPlannedIn; now = All-nil IsCallIn }
-opened_fits (item ∷ items) reruns = record { calls = behind_begin item; now = course_of item }
+pub opened_fits : (pipelining : Bool) (items : List Item) (reruns : ℕ) → FitsCalls pipelining (opened items reruns) None
+opened_fits pipelining [] reruns = record { calls = All-nil IsPlannedIn; now = All-nil IsCallIn }
+opened_fits pipelining (item ∷ items) reruns = record { calls = behind_begin item; now = course_of item }
 
 -- a call of a transaction that was begun
 not_round : (call : Call) → IsCallIn call → is_round call ≡ false
@@ -120,13 +121,13 @@ first_of (first ∷ later) call course next =
     record { round = sym (ap is_round same) ∙ not_round first (All-head IsCallIn first later course); inside = λ e. course }
 
 -- whatever is open, the calls ahead are a course
-pub fits_course : (ahead : List Call) (txn : Option OpenTxn) → FitsTxn ahead txn → IsCourse ahead
-fits_course ahead None fits = fits
-fits_course ahead (Some x) fits = no_begin ahead fits.inside
+pub fits_course : (pipelining : Bool) (ahead : List Call) (txn : Option OpenTxn) → FitsTxn pipelining ahead txn → IsCourse ahead
+fits_course pipelining ahead None fits = fits
+fits_course pipelining ahead (Some x) fits = no_begin ahead fits.inside
 
-pub fits_suits : (ahead : List Call) (txn : Option OpenTxn) (call : Call) → FitsTxn ahead txn → slice_get ahead 0 ≡ Some call → Suits call txn
-fits_suits ahead None call fits next = tt
-fits_suits ahead (Some x) call fits next = fits.first call next
+pub fits_suits : (pipelining : Bool) (ahead : List Call) (txn : Option OpenTxn) (call : Call) → FitsTxn pipelining ahead txn → slice_get ahead 0 ≡ Some call → Suits pipelining call txn
+fits_suits pipelining ahead None call fits next = tt
+fits_suits pipelining ahead (Some x) call fits next = fits.first call next
 
 one_outside : (ahead : List Call) (call : Call) → AreOfOne ahead → slice_get ahead 0 ≡ Some call → is_outside call ≡ false
 one_outside [] call one next = absurd cc
@@ -135,62 +136,67 @@ one_outside (first ∷ later) call one next =
     sym (ap is_outside same) ∙ not_outside first (All-head IsCallIn first later one)
 
 -- a begin or a learn is next only where no transaction is open
-pub fits_outside : (ahead : List Call) (txn : Option OpenTxn) (k : Known) (call : Call) → FitsTxn ahead txn → IsHeld txn k → slice_get ahead 0 ≡ Some call → is_outside call ≡ true → k.is_open ≡ false
-fits_outside ahead None k call fits held next out = held
-fits_outside ahead (Some x) k call fits held next out = let e : true ≡ false = sym out ∙ one_outside ahead call fits.inside next in absurd cc
+pub fits_outside : (pipelining : Bool) (ahead : List Call) (txn : Option OpenTxn) (k : Known) (call : Call) → FitsTxn pipelining ahead txn → IsHeld txn k → slice_get ahead 0 ≡ Some call → is_outside call ≡ true → k.is_open ≡ false
+fits_outside pipelining ahead None k call fits held next out = held
+fits_outside pipelining ahead (Some x) k call fits held next out = let e : true ≡ false = sym out ∙ one_outside ahead call fits.inside next in absurd cc
 
--- No write of the transaction is in flight.
-abbrev pub IsFree : OpenTxn → Type 0
-IsFree x = x.in_flight ≡ []
+-- Any call suits the transaction: writes are pipelined, or none of it is in flight.
+abbrev pub IsFree : Bool → OpenTxn → Type 0
+IsFree true x = ⊤
+IsFree false x = x.in_flight ≡ []
 
-free_suits : (call : Call) (ws : List WriteInFlight) → ws ≡ [] → SuitsFlight call ws
-free_suits call ws none = subst (SuitsFlight call) (sym none) tt
+free_suits : (pipelining : Bool) (call : Call) (x : OpenTxn) → IsFree pipelining x → SuitsFlightIn pipelining call x.in_flight
+free_suits true call x free = tt
+free_suits false call x free = subst (SuitsFlight call) (sym free) tt
 
--- a transaction with no write in flight goes on by any calls of one that was begun
-pub free_fits : (ahead : List Call) (txn : Option OpenTxn) → AreOfOne ahead → IfSome txn IsFree → FitsTxn ahead txn
-free_fits ahead None one free = no_begin ahead one
-free_fits ahead (Some x) one free = record { inside = one; first = λ call next. free_suits call x.in_flight free }
+-- a transaction that any call suits goes on by any calls of one that was begun
+pub free_fits : (pipelining : Bool) (ahead : List Call) (txn : Option OpenTxn) → AreOfOne ahead → IfSome txn (IsFree pipelining) → FitsTxn pipelining ahead txn
+free_fits pipelining ahead None one free = no_begin ahead one
+free_fits pipelining ahead (Some x) one free = record { inside = one; first = λ call next. free_suits pipelining call x free }
 
 -- a learn is next only where no transaction is open
-pub learns_outside : (ahead : List Call) (txn : Option OpenTxn) (id : TxnId) → FitsTxn ahead txn → slice_get ahead 0 ≡ Some (calls.Learn id) → txn ≡ None
-learns_outside ahead None id fits next = refl
-learns_outside ahead (Some x) id fits next = let e : true ≡ false = one_outside ahead (calls.Learn id) fits.inside next in absurd cc
+pub learns_outside : (pipelining : Bool) (ahead : List Call) (txn : Option OpenTxn) (id : TxnId) → FitsTxn pipelining ahead txn → slice_get ahead 0 ≡ Some (calls.Learn id) → txn ≡ None
+learns_outside pipelining ahead None id fits next = refl
+learns_outside pipelining ahead (Some x) id fits next = let e : true ≡ false = one_outside ahead (calls.Learn id) fits.inside next in absurd cc
 
 -- goes on behind the first call
-pub after_begin : (ahead : List Call) (call : Call) (priority : Priority) (txn : Option OpenTxn) → IsCourse ahead → slice_get ahead 0 ≡ Some call → call ≡ calls.Begin priority → IfSome txn IsFree → FitsTxn (drop 1 ahead) txn
-after_begin [] call priority txn course next begins free = absurd cc
-after_begin (calls.Begin own ∷ later) call priority txn course next begins free = free_fits later txn course free
-after_begin (first ∷ later) call priority txn course next begins free = absurd cc
+pub after_begin : (pipelining : Bool) (ahead : List Call) (call : Call) (priority : Priority) (txn : Option OpenTxn) → IsCourse ahead → slice_get ahead 0 ≡ Some call → call ≡ calls.Begin priority → IfSome txn (IsFree pipelining)
+    → FitsTxn pipelining (drop 1 ahead) txn
+after_begin pipelining [] call priority txn course next begins free = absurd cc
+after_begin pipelining (calls.Begin own ∷ later) call priority txn course next begins free = free_fits pipelining later txn course free
+after_begin pipelining (first ∷ later) call priority txn course next begins free = absurd cc
 
 -- behind the first of the calls
-pub behind : (ahead : List Call) (txn : Option OpenTxn) → AreOfOne ahead → IfSome txn IsFree → FitsTxn (drop 1 ahead) txn
-behind [] txn one free = free_fits [] txn one free
-behind (first ∷ later) txn one free = free_fits later txn (All-tail IsCallIn first later one) free
+pub behind : (pipelining : Bool) (ahead : List Call) (txn : Option OpenTxn) → AreOfOne ahead → IfSome txn (IsFree pipelining) → FitsTxn pipelining (drop 1 ahead) txn
+behind pipelining [] txn one free = free_fits pipelining [] txn one free
+behind pipelining (first ∷ later) txn one free = free_fits pipelining later txn (All-tail IsCallIn first later one) free
 
-rollback_suits : (ws : List WriteInFlight) → SuitsFlight calls.Rollback ws
-rollback_suits [] = tt
-rollback_suits (w ∷ ws) = tt
+rollback_suits : (pipelining : Bool) (ws : List WriteInFlight) → SuitsFlightIn pipelining calls.Rollback ws
+rollback_suits true ws = tt
+rollback_suits false [] = tt
+rollback_suits false (w ∷ ws) = tt
 
 -- the rollback alone
-rollback_fits : (txn : Option OpenTxn) → FitsTxn (calls.Rollback ∷ []) txn
-rollback_fits None = All-cons IsCallIn calls.Rollback [] tt (All-nil IsCallIn)
-rollback_fits (Some x) = record {
+rollback_fits : (pipelining : Bool) (txn : Option OpenTxn) → FitsTxn pipelining (calls.Rollback ∷ []) txn
+rollback_fits pipelining None = All-cons IsCallIn calls.Rollback [] tt (All-nil IsCallIn)
+rollback_fits pipelining (Some x) = record {
   inside = All-cons IsCallIn calls.Rollback [] tt (All-nil IsCallIn);
-  first = λ call next. let same : calls.Rollback ≡ call = cc in subst (λ c. SuitsFlight c x.in_flight) same (rollback_suits x.in_flight);
+  first = λ call next. let same : calls.Rollback ≡ call = cc in subst (λ c. SuitsFlightIn pipelining c x.in_flight) same (rollback_suits pipelining x.in_flight);
 }
 
 -- calls once more, where a rerun is left
-pub rerun_fits : (again : List Planned) (left : ℕ) (at : Position) (txn : Option OpenTxn) → All IsPlannedIn (drop 1 at.calls) → FitsTxn (map (planned_call at.read) again) txn → FitsCalls (rerun again left at) txn
-rerun_fits again zero at txn calls fits = record { calls = calls; now = rollback_fits txn }
-rerun_fits again (suc left) at txn calls fits = record { calls = calls; now = fits }
+pub rerun_fits : (pipelining : Bool) (again : List Planned) (left : ℕ) (at : Position) (txn : Option OpenTxn) → All IsPlannedIn (drop 1 at.calls) → FitsTxn pipelining (map (planned_call at.read) again) txn
+    → FitsCalls pipelining (rerun again left at) txn
+rerun_fits pipelining again zero at txn calls fits = record { calls = calls; now = rollback_fits pipelining txn }
+rerun_fits pipelining again (suc left) at txn calls fits = record { calls = calls; now = fits }
 
 -- the call once more
-pub again_fits : (ahead : List Call) (call : Call) (txn : Option OpenTxn) → IsCourse ahead → slice_get ahead 0 ≡ Some call → Suits call txn → (is_outside call ≡ true → txn ≡ None) → FitsTxn ahead txn
-again_fits ahead call None course next suits outside = course
-again_fits ahead call (Some x) course next suits outside =
+pub again_fits : (pipelining : Bool) (ahead : List Call) (call : Call) (txn : Option OpenTxn) → IsCourse ahead → slice_get ahead 0 ≡ Some call → Suits pipelining call txn → (is_outside call ≡ true → txn ≡ None) → FitsTxn pipelining ahead txn
+again_fits pipelining ahead call None course next suits outside = course
+again_fits pipelining ahead call (Some x) course next suits outside =
     let first = first_of ahead call course next in
     by (is_outside call) refl first
   where
-    by : (b : Bool) → is_outside call ≡ b → IsFirstOf ahead call → FitsTxn ahead (Some x)
+    by : (b : Bool) → is_outside call ≡ b → IsFirstOf ahead call → FitsTxn pipelining ahead (Some x)
     by true e first = let n : Some x ≡ None = outside e in absurd cc
-    by false e first = record { inside = first.inside e; first = λ other comes. let same : call ≡ other = let s : Some call ≡ Some other = sym next ∙ comes in cc in subst (λ c. SuitsFlight c x.in_flight) same suits }
+    by false e first = record { inside = first.inside e; first = λ other comes. let same : call ≡ other = let s : Some call ≡ Some other = sym next ∙ comes in cc in subst (λ c. SuitsFlightIn pipelining c x.in_flight) same suits }

@@ -1,6 +1,6 @@
 -- How a session's script stands beside its open transaction: the call that comes next suits it.
-use Rattle.std.specs.Prelude.{◌≡◌, Option, None, Some, List, [], ◌∷◌, All, ⊤, drop, slice_get}
-use Rattle.pc_call.specs.Suiting.{SuitsFlight}
+use Rattle.std.specs.Prelude.{◌≡◌, Bool, Option, None, Some, List, [], ◌∷◌, All, ⊤, drop, slice_get}
+use Rattle.pc_call.specs.Suiting.{SuitsFlightIn}
 use Rattle.pc_proto.specs.declared.call.Call.{Call}
 use Rattle.pc_proto.specs.declared.call.Call.TheVariants as calls
 use Rattle.pc_script.specs.declared.planned.Planned.{Planned}
@@ -33,17 +33,17 @@ IsCourse (calls.Begin priority ∷ later) = AreOfOne later
 IsCourse (calls.Learn id ∷ later) = later ≡ []
 IsCourse ahead = AreOfOne ahead
 
--- The open transaction goes on by these calls, and the first of them suits it.
-pub record GoesOnWith (ahead : List Call) (x : OpenTxn) : Type 0 where
+-- The open transaction goes on by these calls, and the first of them suits it, where writes are pipelined, or not.
+pub record GoesOnWith (pipelining : Bool) (ahead : List Call) (x : OpenTxn) : Type 0 where
   pub inside : AreOfOne ahead
-  pub first : (call : Call) → slice_get ahead 0 ≡ Some call → SuitsFlight call x.in_flight
+  pub first : (call : Call) → slice_get ahead 0 ≡ Some call → SuitsFlightIn pipelining call x.in_flight
 
-abbrev pub FitsTxn : List Call → Option OpenTxn → Type 0
-FitsTxn ahead None = IsCourse ahead
-FitsTxn ahead (Some x) = GoesOnWith ahead x
+abbrev pub FitsTxn : Bool → List Call → Option OpenTxn → Type 0
+FitsTxn pipelining ahead None = IsCourse ahead
+FitsTxn pipelining ahead (Some x) = GoesOnWith pipelining ahead x
 
 -- The calls ahead go on with the open transaction, or begin one or learn where none is open; and those behind the running item's begin are
 -- of one transaction.
-pub record FitsCalls (at : Position) (txn : Option OpenTxn) : Type 0 where
+pub record FitsCalls (pipelining : Bool) (at : Position) (txn : Option OpenTxn) : Type 0 where
   pub calls : All IsPlannedIn (drop 1 at.calls)
-  pub now : FitsTxn (coming at) txn
+  pub now : FitsTxn pipelining (coming at) txn

@@ -69,7 +69,7 @@ module _ {C : Type 0} (old : ScriptedMeaning C) (new : SessionMeaning C) (at : P
         ∙ (sym (position_told (own_list old) called.part call called.whole.reading called.whole.between answer events-are called.whole.within reruns old.script)
         ∙ (ap (script_position reruns old.script) (sym called.grown.own)
         ∙ ap (λ n. script_position n old.script new.desk.log.part.own) (sym same-reruns))));
-    fits = subst (λ (p : Position). FitsCalls p new.coordinator.txn) (sym told)
+    fits = subst (λ (p : Position). FitsCalls new.coordinator.pipelining p new.coordinator.txn) (sym told)
         (fits_told old.session new old.at call answer called.part called.whole called.told goes.rest called.rest (id-then ∙ goes.rest.one.whose) called.grown.own goes.fits next called.suits);
   }
 
@@ -79,7 +79,6 @@ module _ {C : Type 0} (old : ScriptedMeaning C) (new : SessionMeaning C) (at : P
     whose = subst (λ n. All (λ p. p.entry.actor ≡ actors.Session n) new.desk.log.part.own) (sym same-number)
         (subst (All (λ p. p.entry.actor ≡ actors.Session (own_number old))) (sym called.grown.own)
         (All-append (λ (p : Pair Event). p.entry.actor ≡ actors.Session (own_number old)) (own_list old) called.part scripted.whose whole-call.whose));
-    unpiped = log-is (λ l. l.pipelining ≡ false) scripted.unpiped;
     within = called.rest.track.log.within;
     given = called.rest.track.given;
     asks = subst (λ n. AskInOrder n old.script new.desk.log.part.own) (sym same-reruns)
@@ -111,6 +110,7 @@ module _ {C : Type 0} (old : ScriptedMeaning C) (new : SessionMeaning C) (at : P
         reruns = same-reruns;
         head = log-is (λ l. l.head ≡ old.session.desk.log.head) refl;
         limit = limit-then;
+        piped = log-is (λ l. l.pipelining ≡ old.session.desk.log.pipelining) refl;
         beside = log-is (λ l. l.beside ≡ old.session.desk.log.beside) refl;
         stop = log-is (λ l. l.stop ≡ old.session.desk.log.stop) refl;
         range_limit = called.limit;
@@ -122,5 +122,5 @@ module _ {C : Type 0} (old : ScriptedMeaning C) (new : SessionMeaning C) (at : P
       known = called.grown.known;
     };
     is = λ held says. asks_whole (next_in_script reruns old.script) (ended_in_script old.session.desk.log.limit old.session.desk.log.stop held) (own_number old) (own_list old) called.part
-        (not_ended old.session.desk.log.limit old.session.desk.log.stop held (own_list old) (goes.rest.track.log.before_stop going) goes.rest.heard room) call next-here whole-call;
+        (not_ended old.session.desk.log.limit old.session.desk.log.stop held (own_list old) (goes.rest.track.log.before_stop going) goes.rest.closed goes.rest.heard room) call next-here whole-call;
   }

@@ -44,15 +44,14 @@ begun_scripted session script at reruns rest none going start =
     record {
       id = rest.one.whose ∙ ap actors.Session (sym (ap session_number rest.one.whose));
       whose = subst (All (λ (p : Pair Event). p.entry.actor ≡ actors.Session (session_number id))) (sym none) (All-nil (λ (p : Pair Event). p.entry.actor ≡ actors.Session (session_number id)));
-      unpiped = rest.one.unpiped;
       within = rest.track.log.within;
       given = rest.track.given;
       asks = subst (AskInOrder at.reruns script) (sym none) tt;
       goes = λ still. record {
         rest = rest;
         place = start ∙ (ap (opened script) (sym begins) ∙ ap (script_position at.reruns script) (sym none));
-        fits = subst (λ (p : Position). FitsCalls p session.coordinator.txn) (sym start)
-            (subst (λ (txn : Option OpenTxn). FitsCalls (opened script reruns) txn) (sym (none_is session.coordinator.txn (rest.holds ∙ ap (λ own. (known_of own).is_open) none))) (opened_fits script reruns));
+        fits = subst (λ (p : Position). FitsCalls session.coordinator.pipelining p session.coordinator.txn) (sym start)
+            (subst (λ (txn : Option OpenTxn). FitsCalls session.coordinator.pipelining (opened script reruns) txn) (sym (none_is session.coordinator.txn (rest.holds ∙ ap (λ own. (known_of own).is_open) none))) (opened_fits session.coordinator.pipelining script reruns));
       };
       ends = λ stopped. let e : true ≡ false = sym stopped ∙ going in absurd cc;
     }
@@ -75,6 +74,7 @@ module _ {C : Type 0} (d : DeskMeaning C) (note : List (KnownEntry Event)) where
     message = end.message;
     sent = end.sent;
     spent = spent_still end.message end.spent;
+    in_call = end.in_call;
     others = All-weaker (λ m. IsSpent d m ⊎ IsNotLost d m) (λ m. IsSpent taught m ⊎ IsNotLost taught m) other (known_of d.log.part.own).sent end.others;
     waits = end.waits;
     later = end.later;
@@ -96,7 +96,6 @@ followed_scripted {C} old new note is rests scripted =
     (λ rest. record {
       id = scripted.id;
       whose = scripted.whose;
-      unpiped = scripted.unpiped;
       within = scripted.within;
       given = record { each = scripted.given.each; once = scripted.given.once };
       asks = scripted.asks;

@@ -100,7 +100,6 @@ module _ {C : Type 0} (Are : List Event → Type 0) (old : ScriptedMeaning C) (n
     whose = subst (λ n. All (λ p. p.entry.actor ≡ actors.Session n) new.desk.log.part.own) (sym same-number)
         (subst (All (λ p. p.entry.actor ≡ actors.Session (own_number old))) (sym b.own)
         (All-append (λ (p : Pair Event). p.entry.actor ≡ actors.Session (own_number old)) (own_list old) b.part scripted.whose whose-part));
-    unpiped = log-is (λ l. l.pipelining ≡ false) scripted.unpiped;
     within = b.within;
     given = b.given;
     asks = subst (AskInOrder old.at.reruns old.script) (sym b.own) orders;
@@ -116,6 +115,7 @@ module _ {C : Type 0} (Are : List Event → Type 0) (old : ScriptedMeaning C) (n
       script = refl;
       reruns = refl;
       head = log-is (λ l. l.head ≡ old.session.desk.log.head) refl;
+      piped = log-is (λ l. l.pipelining ≡ old.session.desk.log.pipelining) refl;
       beside = log-is (λ l. l.beside ≡ old.session.desk.log.beside) refl;
       limit = limit-then;
       stop = stop-then;
@@ -138,7 +138,7 @@ module _ {C : Type 0} (Are : List Event → Type 0) (old : ScriptedMeaning C) (n
   -- and if it had before, nothing was made
   nothing-made : (held : Sent → Bool) → list_has_ended old.session.desk.log.limit old.session.desk.log.stop held (own_list old) ≡ true → b.part ≡ []
   nothing-made held before =
-      no_room old.session.desk.log.limit (own_list old) b.part (only_at_limit old.session.desk.log.limit old.session.desk.log.stop held (own_list old) (goes.rest.track.log.before_stop going) goes.rest.heard before)
+      no_room old.session.desk.log.limit (own_list old) b.part (only_at_limit old.session.desk.log.limit old.session.desk.log.stop held (own_list old) (goes.rest.track.log.before_stop going) goes.rest.closed goes.rest.heard before)
       (subst (λ own. length own ≤ old.session.desk.log.limit) b.own (subst (λ n. length new.desk.log.part.own ≤ n) limit-then b.within))
 
   -- if it had not, something was made

@@ -38,6 +38,9 @@ module _ {C : Type 0} (old : ScriptedMeaning C) (new : SessionMeaning C) (script
   same-number : own_number then ≡ own_number old
   same-number = log-is (λ l. session_number l.part.id ≡ own_number old) refl
 
+  piped-same : new.coordinator.pipelining ≡ old.session.coordinator.pipelining
+  piped-same = sym step.rest.one.piped ∙ (log-is (λ l. l.pipelining ≡ old.session.desk.log.pipelining) refl ∙ goes.rest.one.piped)
+
   whole-job : FinishesWhole (own_number old) (own_list old) step.part
   whole-job = subst (λ n. FinishesWhole n (own_list old) step.part) (sym (ap session_number goes.rest.one.whose)) step.whole
 
@@ -70,7 +73,6 @@ module _ {C : Type 0} (old : ScriptedMeaning C) (new : SessionMeaning C) (script
     whose = subst (λ n. All (λ p. p.entry.actor ≡ actors.Session n) new.desk.log.part.own) (sym same-number)
         (subst (All (λ p. p.entry.actor ≡ actors.Session (own_number old))) (sym step.grown.own)
         (All-append (λ (p : Pair Event). p.entry.actor ≡ actors.Session (own_number old)) (own_list old) step.part scripted.whose whole-job.whose));
-    unpiped = log-is (λ l. l.pipelining ≡ false) scripted.unpiped;
     within = step.rest.track.log.within;
     given = step.rest.track.given;
     asks = subst (AskInOrder old.at.reruns old.script) (sym step.grown.own) (order_between old.at.reruns old.script (own_list old) step.part scripted.asks step.whole.within);
@@ -80,7 +82,7 @@ module _ {C : Type 0} (old : ScriptedMeaning C) (new : SessionMeaning C) (script
           goes.place
           ∙ (sym (position_between (own_list old) step.part old.at.reruns old.script step.whole.within)
           ∙ ap (script_position old.at.reruns old.script) (sym step.grown.own));
-      fits = subst (FitsCalls old.at) (sym step.txn) goes.fits;
+      fits = subst (λ b. FitsCalls b old.at new.coordinator.txn) (sym piped-same) (subst (FitsCalls old.session.coordinator.pipelining old.at) (sym step.txn) goes.fits);
     };
     ends = λ stopped. let e : true ≡ false = sym stopped ∙ log-is (λ l. l.stopped ≡ false) going in absurd cc;
   }
@@ -96,6 +98,7 @@ module _ {C : Type 0} (old : ScriptedMeaning C) (new : SessionMeaning C) (script
         reruns = refl;
         head = log-is (λ l. l.head ≡ old.session.desk.log.head) refl;
         limit = limit-then;
+        piped = log-is (λ l. l.pipelining ≡ old.session.desk.log.pipelining) refl;
         beside = log-is (λ l. l.beside ≡ old.session.desk.log.beside) refl;
         stop = log-is (λ l. l.stop ≡ old.session.desk.log.stop) refl;
         range_limit = step.limit;
@@ -107,5 +110,5 @@ module _ {C : Type 0} (old : ScriptedMeaning C) (new : SessionMeaning C) (script
       known = step.grown.known;
     };
     is = λ held says. finishes_whole (next_in_script old.at.reruns old.script) (ended_in_script old.session.desk.log.limit old.session.desk.log.stop held) (own_number old) (own_list old) step.part
-        (not_ended old.session.desk.log.limit old.session.desk.log.stop held (own_list old) (goes.rest.track.log.before_stop going) goes.rest.heard room) (messages_of_job step.job) waiting oldest-is whole-job;
+        (not_ended old.session.desk.log.limit old.session.desk.log.stop held (own_list old) (goes.rest.track.log.before_stop going) goes.rest.closed goes.rest.heard room) (messages_of_job step.job) waiting oldest-is whole-job;
   }

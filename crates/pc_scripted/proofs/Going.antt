@@ -63,6 +63,7 @@ module _ {C : Type 0} (old mid new : ScriptedMeaning C) (p q : List (Pair Event)
       script = b.same.script ∙ a.same.script;
       reruns = b.same.reruns ∙ a.same.reruns;
       head = b.same.head ∙ a.same.head;
+      piped = b.same.piped ∙ a.same.piped;
       beside = b.same.beside ∙ a.same.beside;
       limit = b.same.limit ∙ a.same.limit;
       stop = b.same.stop ∙ a.same.stop;

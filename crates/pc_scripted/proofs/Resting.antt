@@ -18,7 +18,7 @@ use Rattle.pc_world.specs.Known.Traffic.{Sent}
 
 module _ {C : Type 0} (s : ScriptedMeaning C) (scripted : IsScripted s) where
   pub same_scripted : IsSameScripted s s
-  same_scripted = record { number = refl; script = refl; reruns = refl; head = refl; beside = refl; limit = refl; stop = refl; range_limit = refl }
+  same_scripted = record { number = refl; script = refl; reruns = refl; head = refl; piped = refl; beside = refl; limit = refl; stop = refl; range_limit = refl }
 
   -- nothing
   pub moved_by_none : HasMovedBy s s []

@@ -65,13 +65,13 @@ was_told_by l session own part call answer whole told log whose grown =
     same_call call reading s e = let made : Statement = record { call = call; reading = reading } in let same : made ≡ s = cc in ap (λ (s : Statement). s.call) same
 
 -- the script's call may be asked
-pub may_be_called : {C : Type 0} (s : SessionMeaning C) (at : Position) (call : Call) → IsAtRest s → FitsCalls at s.coordinator.txn → next_call at ≡ Some call → MayBeCalled s call
+pub may_be_called : {C : Type 0} (s : SessionMeaning C) (at : Position) (call : Call) → IsAtRest s → FitsCalls s.coordinator.pipelining at s.coordinator.txn → next_call at ≡ Some call → MayBeCalled s call
 may_be_called s at call rest fits next =
-    let held = (rests s.coordinator (session_knows s) rest.one.knows rest.closed).held in
+    let held = (rests false s.coordinator (session_knows s) rest.one.knows rest.closed).held in
     record {
-      no_round = (first_of (coming at) call (fits_course (coming at) s.coordinator.txn fits.now) next).round;
-      outside = fits_outside (coming at) s.coordinator.txn (session_knows s) call fits.now held next;
-      suits = fits_suits (coming at) s.coordinator.txn call fits.now next;
+      no_round = (first_of (coming at) call (fits_course s.coordinator.pipelining (coming at) s.coordinator.txn fits.now) next).round;
+      outside = fits_outside s.coordinator.pipelining (coming at) s.coordinator.txn (session_knows s) call fits.now held next;
+      suits = fits_suits s.coordinator.pipelining (coming at) s.coordinator.txn call fits.now next;
     }
 
 pub none_is : {X : Type 0} (o : Option X) → is_some o ≡ false → o ≡ None
@@ -80,20 +80,20 @@ none_is (Some x) e = absurd cc
 
 -- the script goes on by the answer
 pub fits_told : {C : Type 0} (old new : SessionMeaning C) (at : Position) (call : Call) (answer : Answer) (part : List (Pair Event)) (whole : AsksWhole old.coordinator.session call part) → whole.answer ≡ answer → IsAtRest old → IsAtRest new
-    → new.desk.log.part.id ≡ actors.Session old.coordinator.session → new.desk.log.part.own ≡ old.desk.log.part.own ++ part → FitsCalls at old.coordinator.txn → next_call at ≡ Some call → SuitsNext answer call new.coordinator.txn
-    → FitsCalls (after_told answer at) new.coordinator.txn
+    → new.desk.log.part.id ≡ actors.Session old.coordinator.session → new.desk.log.part.own ≡ old.desk.log.part.own ++ part → FitsCalls old.coordinator.pipelining at old.coordinator.txn → next_call at ≡ Some call
+    → SuitsNext new.coordinator.pipelining answer call new.coordinator.txn → FitsCalls new.coordinator.pipelining (after_told answer at) new.coordinator.txn
 fits_told old new at call answer part whole told rest after whose grown fits next suits =
     let own = old.desk.log.part.own in
     let w = was_told_by new.desk.log old.coordinator.session own part call answer whole told after.track.log whose grown in
     let may = may_be_called old at call rest fits next in
     let opens : (session_knows new).is_open ≡ is_open_told answer w.k.is_open =
     ap (λ own. (known_of own).is_open) grown ∙ (open_told own part call whole.reading whole.between answer (whole.whole ∙ ap (λ a. events.Ask call whole.reading ∷ (whole.between ++ events.Tell a ∷ [])) told) whole.within ∙ ap (is_open_told answer) (sym w.open_then)) in
-    told_fits answer at new.coordinator.txn new.desk.log.head.splits (actors.Session old.coordinator.session) w.k w.s (record {
-      course = fits_course (coming at) old.coordinator.txn fits.now;
+    told_fits new.coordinator.pipelining answer at new.coordinator.txn new.desk.log.head.splits (actors.Session old.coordinator.session) w.k w.s (record {
+      course = fits_course old.coordinator.pipelining (coming at) old.coordinator.txn fits.now;
       calls = fits.calls;
       next = next ∙ ap Some (sym w.asked);
       outside = λ out. w.open_then ∙ may.outside (sym (ap is_outside w.asked) ∙ out);
-      suits = subst (λ c. SuitsNext answer c new.coordinator.txn) (sym w.asked) suits;
+      suits = subst (λ c. SuitsNext new.coordinator.pipelining answer c new.coordinator.txn) (sym w.asked) suits;
       closed = λ none. none_is new.coordinator.txn (after.holds ∙ (opens ∙ none));
     }) w.may
 

@@ -1,13 +1,15 @@
 -- When a session's list has ended.
-use Rattle.std.proofs.Common.{◌≡◌, ℕ, ◌<◌, ◌≤◌, ◌⊎◌, inl, inr, Bool, true, false, ◌&&◌, ◌||◌, ◌==◌, not, All, Contains, IfSome, IsTrue, List, [], ◌∷◌, ◌++◌, length, length-append, Option, None, Some, refl, sym, ap, subst, ◌∙◌, arith}
-use Rattle.std.proofs.lemmas.List.Elements.{All-cons, All-head, All-nil, All-tail}
+use Rattle.std.proofs.Common.{◌≡◌, ℕ, ◌<◌, ◌≤◌, ◌⊎◌, inl, inr, Bool, true, false, ◌&&◌, ◌||◌, ◌==◌, not, is_some, All, Contains, IfSome, IsTrue, List, [], ◌∷◌, ◌++◌, length, length-append, Option, None, Some, refl, sym, ap, subst, ◌∙◌, arith}
+use Rattle.std.proofs.lemmas.List.Elements.{All-cons, All-head, All-nil, All-tail, All-weaker}
 use Rattle.std.specs.List.{list_any}
 use Rattle.pc_desk.specs.Desk.{DeskMeaning}
 use Rattle.pc_desk.specs.Ending.{EndsEarly}
 use Rattle.pc_history.specs.declared.pair.Pair.{Pair}
+use Rattle.pc_follows.specs.WaveOrder.{IsHeardOrPut}
 use Rattle.pc_lists.proofs.Lists.{contains_cons, contains_nil}
 use Rattle.pc_proto.specs.declared.event.Event.{Event}
-use Rattle.pc_scripted.specs.Ended.{SaysHeldUp, list_has_ended, reaches_stop, waits_for_one_of}
+use Rattle.pc_proto.specs.Requests.{is_put}
+use Rattle.pc_scripted.specs.Ended.{SaysHeldUp, holds_its_actor, list_has_ended, reaches_stop, waits_for_one_of}
 use Rattle.pc_world.specs.Known.{Known, known_of}
 use Rattle.pc_world.specs.Known.Traffic.{Sent}
 use Rattle.pc_world.specs.Tell.Refusal.{is_heard}
@@ -39,18 +41,19 @@ both_false true true e = refl
 both_false true false e = absurd cc
 both_false false b e = refl
 
--- where each message was heard, no session waits
-pub waits_for_none : (held : Sent → Bool) (k : Known) → All (λ m. IsTrue (is_heard k.heard m)) k.sent → waits_for_one_of held k ≡ false
-waits_for_none held k heard = none_any (λ m. held m && not (is_heard k.heard m)) k.sent (each k.sent heard)
+and_false : (b : Bool) → (b && false) ≡ false
+and_false true = refl
+and_false false = refl
+
+-- between calls, where each message was heard or is a put, no session waits
+pub waits_for_none : (held : Sent → Bool) (k : Known) → k.statement ≡ None → All (IsHeardOrPut k.heard) k.sent → waits_for_one_of held k ≡ false
+waits_for_none held k closed heard = none_any (λ m. held m && not (is_heard k.heard m) && holds_its_actor k m) k.sent (All-weaker (IsHeardOrPut k.heard) (λ m. (held m && not (is_heard k.heard m) && holds_its_actor k m) ≡ false) one k.sent heard)
   where
-    each : (sent : List Sent) → All (λ m. IsTrue (is_heard k.heard m)) sent → All (λ m. (held m && not (is_heard k.heard m)) ≡ false) sent
-    each [] all = All-nil (λ m. (held m && not (is_heard k.heard m)) ≡ false)
-    each (m ∷ ms) all =
-        All-cons (λ m. (held m && not (is_heard k.heard m)) ≡ false) m ms (both_false (held m) (is_heard k.heard m) (true_is (is_heard k.heard m) (All-head (λ m. IsTrue (is_heard k.heard m)) m ms all)))
-        (each ms (All-tail (λ m. IsTrue (is_heard k.heard m)) m ms all))
-      where
-        true_is : (b : Bool) → IsTrue b → b ≡ true
-        true_is b is = is
+    one : (m : Sent) → IsHeardOrPut k.heard m → (held m && not (is_heard k.heard m) && holds_its_actor k m) ≡ false
+    one m (inl is) = ap (λ b. b && holds_its_actor k m) (both_false (held m) (is_heard k.heard m) is)
+    one m (inr puts) =
+        let unwaited : holds_its_actor k m ≡ false = ap (λ s. is_some s || not (is_put m.request)) closed ∙ ap not puts in
+        ap (λ b. held m && not (is_heard k.heard m) && b) unwaited ∙ and_false (held m && not (is_heard k.heard m))
 
 or_true : (b : Bool) → (b || true) ≡ true
 or_true true = refl
@@ -61,7 +64,8 @@ not_stopped : (stop : Option ℕ) (long : ℕ) → IfSome stop (λ n. long < n) 
 not_stopped None long going = refl
 not_stopped (Some n) long going = eqb_other long n going
 
-module _ (limit : ℕ) (stop : Option ℕ) (held : Sent → Bool) (own : List (Pair Event)) (going : IfSome stop (λ n. length own < n)) (heard : All (λ m. IsTrue (is_heard (known_of own).heard m)) (known_of own).sent) where
+module _ (limit : ℕ) (stop : Option ℕ) (held : Sent → Bool) (own : List (Pair Event)) (going : IfSome stop (λ n. length own < n)) (closed : (known_of own).statement ≡ None)
+    (heard : All (IsHeardOrPut (known_of own).heard) (known_of own).sent) where
   abbrev waits : Bool
   waits = waits_for_one_of held (known_of own)
 
@@ -70,7 +74,7 @@ module _ (limit : ℕ) (stop : Option ℕ) (held : Sent → Bool) (own : List (P
 
   -- a session at rest goes on exactly below its limit
   pub not_ended : length own < limit → list_has_ended limit stop held own ≡ false
-  not_ended less = ap (λ b. b || at || waits) (eqb_other (length own) limit less) ∙ (ap (λ b. b || waits) (not_stopped stop (length own) going) ∙ waits_for_none held (known_of own) heard)
+  not_ended less = ap (λ b. b || at || waits) (eqb_other (length own) limit less) ∙ (ap (λ b. b || waits) (not_stopped stop (length own) going) ∙ waits_for_none held (known_of own) closed heard)
 
   pub only_at_limit : list_has_ended limit stop held own ≡ true → length own ≡ limit
   only_at_limit ended = by (length own == limit) refl
@@ -79,8 +83,12 @@ module _ (limit : ℕ) (stop : Option ℕ) (held : Sent → Bool) (own : List (P
       by true e = grind (arith, e)
       by false e =
           let w : waits ≡ true = sym (ap (λ b. b || at || waits) e ∙ ap (λ b. b || waits) (not_stopped stop (length own) going)) ∙ ended in
-          let no : true ≡ false = sym w ∙ waits_for_none held (known_of own) heard in
+          let no : true ≡ false = sym w ∙ waits_for_none held (known_of own) closed heard in
           absurd cc
+
+in_call-or : (opened puts : Bool) → (puts ≡ true → opened ≡ true) → (opened || not puts) ≡ true
+in_call-or opened true inside = ap (λ b. b || false) (inside refl)
+in_call-or opened false inside = or_true opened
 
 -- a session whose list has ended
 pub has_ended_now : {C : Type 0} (d : DeskMeaning C) (held : Sent → Bool) → SaysHeldUp held d → EndsEarly d → list_has_ended d.log.limit d.log.stop held d.log.part.own ≡ true
@@ -89,7 +97,9 @@ has_ended_now d held says (inl own) =
 has_ended_now d held says (inr (inl range)) =
     let k = known_of d.log.part.own in
     let waits : waits_for_one_of held k ≡ true =
-    any_there (λ m. held m && not (is_heard k.heard m)) k.sent range.message range.sent (ap (λ b. b && not (is_heard k.heard range.message)) (says range.message range.spent.refused) ∙ ap not range.spent.unheard) in
+    any_there (λ m. held m && not (is_heard k.heard m) && holds_its_actor k m) k.sent range.message range.sent
+    (ap (λ b. b && not (is_heard k.heard range.message) && holds_its_actor k range.message) (says range.message range.spent.refused)
+    ∙ (ap (λ b. not b && holds_its_actor k range.message) range.spent.unheard ∙ in_call-or (is_some k.statement) (is_put range.message.request) range.in_call)) in
     ap (λ b. length d.log.part.own == d.log.limit || reaches_stop d.log.stop (length d.log.part.own) || b) waits
     ∙ or_true (length d.log.part.own == d.log.limit || reaches_stop d.log.stop (length d.log.part.own))
 has_ended_now d held says (inr (inr stop)) =

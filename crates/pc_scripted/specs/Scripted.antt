@@ -44,13 +44,12 @@ next_in_script reruns script number own = next_call (script_position reruns scri
 pub record GoesOnInScript {C : Type 0} (s : ScriptedMeaning C) : Type 0 where
   pub rest : IsAtRest s.session
   pub place : s.at ≡ script_position s.at.reruns s.script (own_list s)
-  pub fits : FitsCalls s.at s.session.coordinator.txn
+  pub fits : FitsCalls s.session.coordinator.pipelining s.at s.session.coordinator.txn
 
 -- The session goes by its script: it asked each call where that came next, and goes on so until its list has ended.
 pub record IsScripted {C : Type 0} (s : ScriptedMeaning C) : Type 0 where
   pub id : s.session.desk.log.part.id ≡ actors.Session (own_number s)
   pub whose : All (λ p. p.entry.actor ≡ actors.Session (own_number s)) (own_list s)
-  pub unpiped : s.session.desk.log.pipelining ≡ false
   pub within : length (own_list s) ≤ s.session.desk.log.limit
   pub given : GivesOnce s.session.desk.log.part
   pub asks : AskInOrder s.at.reruns s.script (own_list s)

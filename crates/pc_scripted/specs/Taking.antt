@@ -19,12 +19,13 @@ use Rattle.pc_work.specs.declared.workload.Workload.{Workload}
 use Rattle.pc_follows.specs.FinishingJobs.{jobs_of}
 use Rattle.pc_world.specs.Known.Traffic.{Sent}
 
--- The session, its script, its way of evaluating a wave, its limits and its stop are the same.
+-- The session, its script, whether its writes are pipelined, its way of evaluating a wave, its limits and its stop are the same.
 pub record IsSameScripted {C : Type 0} (old new : ScriptedMeaning C) : Type 0 where
   pub number : own_number new ≡ own_number old
   pub script : new.script ≡ old.script
   pub reruns : new.at.reruns ≡ old.at.reruns
   pub head : new.session.desk.log.head ≡ old.session.desk.log.head
+  pub piped : new.session.desk.log.pipelining ≡ old.session.desk.log.pipelining
   pub beside : new.session.desk.log.beside ≡ old.session.desk.log.beside
   pub limit : new.session.desk.log.limit ≡ old.session.desk.log.limit
   pub stop : new.session.desk.log.stop ≡ old.session.desk.log.stop
@@ -88,6 +89,5 @@ SaysWhetherDone test s false = (s.session.desk.log.stopped ≡ false) × (jobs_o
 
 -- The session's script is that of this work, and so is how often it may ask again.
 pub record DoesWork {C : Type 0} (work : Workload) (session : SessionWork) (s : ScriptedMeaning C) : Type 0 where
-  pub unpiped : work.pipelining ≡ false
   pub script : session.script ≡ s.script
   pub reruns : work.reruns ≡ s.at.reruns

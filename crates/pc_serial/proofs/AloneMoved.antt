@@ -56,7 +56,7 @@ use Rattle.pc_world.proofs.Knowing.{known_other, known_same}
 use Rattle.pc_world.proofs.Prefixes.{run_front, run_induction}
 use Rattle.pc_world.specs.After.{known_at, place_at}
 use Rattle.pc_world.specs.Committed.{IsCommitted, commit_at, commit_by, commit_in, is_present}
-use Rattle.pc_follows.specs.CallMessages.{IsFor}
+use Rattle.pc_follows.specs.CallMessages.{IsPlainFor}
 use Rattle.pc_world.specs.Known.{Known, known_after}
 use Rattle.pc_world.specs.Known.Clock.{high_after, top_after}
 use Rattle.pc_world.specs.Known.Statements.{Statement}
@@ -102,10 +102,10 @@ Passes head history n (requests.Stage meta ts now writes locks) = n ≤ ts
 Passes head history n (requests.Commit meta ts locks) = (n ≤ ts) ⊎ IsCommitted head history meta.id ts
 Passes head history n request = ⊤
 
-no-stage : (call : Call) (request : Request) → IsFor call request → (meta : TxnMeta) (ts now : ℕ) (writes : List (List ℕ × ℕ)) (locks : List (List ℕ)) → request ≡ requests.Stage meta ts now writes locks → ⊥
-no-stage call request is meta ts now writes locks same = by call (subst (IsFor call) same is)
+no-stage : (call : Call) (request : Request) → IsPlainFor call request → (meta : TxnMeta) (ts now : ℕ) (writes : List (List ℕ × ℕ)) (locks : List (List ℕ)) → request ≡ requests.Stage meta ts now writes locks → ⊥
+no-stage call request is meta ts now writes locks same = by call (subst (IsPlainFor call) same is)
   where
-    by : (call : Call) → IsFor call (requests.Stage meta ts now writes locks) → ⊥
+    by : (call : Call) → IsPlainFor call (requests.Stage meta ts now writes locks) → ⊥
     by calls.Commit (inl is) = cc is
     by calls.Commit (inr is) = cc is
     by (calls.Get key) is = cc is

@@ -289,7 +289,7 @@ module _ (head : Head) (whole : List (Entry Event)) (run : IsRun head whole) (al
               let t = open-some k.is_open k.txns is some in
               let named : t.0.id ≡ last_of k = st.stands.first t.0 t.1 in
               absurd (elim (is-commit (call_of k)) [
-                | inl asked ↦ tidy_now.early t.0 ts (record { opened = t.1; asked = asked; why = inl (subst (λ i. WasCommitted k.heard i ts) (its ∙ sym named) heard) })
+                | inl asked ↦ tidy_now.early t.0 (inl (ts, record { opened = t.1; asked = asked; why = inl (subst (λ i. WasCommitted k.heard i ts) (its ∙ sym named) heard) }))
                 | inr elsewhere ↦
                     let here : IsOpenHere k (last_of k) = record { t = t.0; opened = t.1; named = named } in
                     let over = open_over head history before (last_of k) here elsewhere in

@@ -122,7 +122,7 @@ o3 = record {
   tidy = λ me. record {
     calls = inl (λ s is. inl (record { s = _; opened = refl; kind = inl refl }));
     puts = inl (record { t = _; opened = refl; whose = refl });
-    early = λ t ts known. cc known.asked;
+    early = λ t decided. elim decided [ inl known ↦ cc known.1.asked | inr known ↦ cc known.1.asked ];
     aborts = tt;
     finishes = λ none. absurd (cc none);
     asks = tt;
@@ -150,7 +150,10 @@ o6 = record {
   tidy = λ me. record {
     calls = inr (refl, record { t = _; opened = refl; whose = refl });
     puts = tt;
-    early = λ t ts known. elim known.why [ inl (n, h, inside, at, shows) ↦ absurd (omega (arith, inside)) | inr implied ↦ let (n, h, inside, at, shows) = implied.staging in absurd (omega (arith, inside)) ];
+    early = λ t decided. elim decided [
+      | inl known ↦ elim known.1.why [ inl (n, h, inside, at, shows) ↦ absurd (omega (arith, inside)) | inr implied ↦ let (n, h, inside, at, shows) = implied.staging in absurd (omega (arith, inside)) ]
+      | inr known ↦ let (n, h, inside, at, shows) = known.1.heard in absurd (omega (arith, inside))
+    ];
     aborts = tt;
     finishes = λ none. absurd (cc none);
     asks = tt;
@@ -188,7 +191,7 @@ o12 = record {
   tidy = λ me. record {
     calls = inl (λ s is. absurd (cc is));
     puts = tt;
-    early = λ t ts known. cc known.asked;
+    early = λ t decided. elim decided [ inl known ↦ cc known.1.asked | inr known ↦ cc known.1.asked ];
     aborts = tt;
     finishes = λ none. refl;
     asks = tt;
@@ -209,7 +212,7 @@ o15 = record {
   tidy = λ me. record {
     calls = inl (λ s is. absurd (cc is));
     puts = tt;
-    early = λ t ts known. cc known.asked;
+    early = λ t decided. elim decided [ inl known ↦ cc known.1.asked | inr known ↦ cc known.1.asked ];
     aborts = tt;
     finishes = λ none. refl;
     asks = tt;
@@ -230,7 +233,7 @@ o18 = record {
   tidy = λ me. record {
     calls = inl (λ s is. absurd (cc is));
     puts = tt;
-    early = λ t ts known. cc known.asked;
+    early = λ t decided. elim decided [ inl known ↦ cc known.1.asked | inr known ↦ cc known.1.asked ];
     aborts = tt;
     finishes = λ none. refl;
     asks = tt;

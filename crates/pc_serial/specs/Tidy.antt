@@ -1,6 +1,6 @@
 -- What a session alone owes beside the protocol: in a call it sends nothing but what the call is for, it puts for its open transaction alone, it
 -- tells a commit once it knows of it, it aborts before it tells that it rolled back, and it finishes what is over before it asks again.
-use Rattle.std.specs.Prelude.{◌≡◌, ◌⊎◌, None, Some, List, [], Contains, IsTrue, ⊤}
+use Rattle.std.specs.Prelude.{◌≡◌, ◌⊎◌, false, None, Some, List, [], Contains, IsTrue, ⊤}
 use Rattle.pc_proto.specs.declared.call.Call.TheVariants as calls
 use Rattle.pc_proto.specs.declared.event.Event.{Event}
 use Rattle.pc_proto.specs.declared.event.Event.TheVariants as events
@@ -28,9 +28,9 @@ IsForRecord k (requests.Beat meta ts now) = ⊤
 IsForRecord k (requests.Stage meta ts now writes locks) = (call_of k ≡ Some calls.Commit) × IsOfOpenTxn k meta
 IsForRecord k _ = ⊥
 
--- A message that goes out in an open call is for the call, or for the record of its transaction.
+-- A message that goes out in an open call is for the call, each of whose puts is heard before it is told, or for the record of its transaction.
 abbrev pub SendsForCallOrRecord : Known → Event → Type 0
-SendsForCallOrRecord k (events.Send number range request) = SendsForCall k (events.Send number range request) ⊎ IsForRecord k request
+SendsForCallOrRecord k (events.Send number range request) = SendsForCall false k (events.Send number range request) ⊎ IsForRecord k request
 SendsForCallOrRecord k _ = ⊤
 
 -- Each message that was sent before the open call was heard.

@@ -1,26 +1,27 @@
 -- The messages of a session in its call: each is on its way, or was heard in the call.
-use Rattle.std.proofs.Common.{◌≡◌, ℕ, ◌+◌, ◌≤◌, nat_lt, Bool, true, false, ◌||◌, ◌==◌, All, Contains, IsTrue, List, [], ◌∷◌, ◌++◌, length, cond, count_by, find, inl, inr, Option, None, Some, refl, sym, ap, ◌∙◌, arith}
+use Rattle.std.proofs.Common.{◌≡◌, ℕ, ◌+◌, ◌≤◌, Bool, true, false, ◌||◌, ◌==◌, All, Contains, IsTrue, List, [], ◌∷◌, ◌++◌, length, cond, count_by, find, inl, inr, Option, None, Some, refl, sym, ap, ◌∙◌, arith}
 use Rattle.std.proofs.lemmas.Bool.{eq-eqb}
-use Rattle.std.proofs.lemmas.Bool.Decides.{nat_tests}
 use Rattle.std.proofs.lemmas.List.{append-nil, append_assoc}
 use Rattle.std.proofs.lemmas.List.Elements.{All-contains, All-nil, All-push, All-weaker}
 use Rattle.std.proofs.lemmas.List.Folds.{list_any-append}
 use Rattle.std.specs.List.{list_any}
 use Rattle.std.specs.Option.{option_map}
-use Rattle.pc_coord.specs.Coordination.{Coordination, awaits_number}
-use Rattle.pc_coord.specs.Knows.{AwaitsNone}
-use Rattle.pc_desk.proofs.Counting.{any_counts, counts_any, none_beyond, none_counted, said_more, said_new, sent_where_said, uncounted}
+use Rattle.pc_coord.specs.declared.due.Due.TheVariants as dues
+use Rattle.pc_desk.proofs.Counting.{counts_any, none_beyond, none_counted, said_more, said_new, uncounted}
+use Rattle.pc_desk.proofs.Turns.{counted_has, put_aside}
 use Rattle.pc_desk.specs.declared.answered.Answered.{Answered}
-use Rattle.pc_desk.specs.Desk.{DeskMeaning, KeepsTrack, Posted, answered_as, heard_as_number, is_on_way, posted_as, times_sent}
+use Rattle.pc_desk.specs.Desk.{DeskMeaning, WasSetAside, KeepsTrack, Posted, answered_as, as_sent, heard_as_number, is_on_way, posted_as, times_sent}
 use Rattle.pc_lists.proofs.Lists.{all_from_contains, contains_cons, contains_nil}
+use Rattle.pc_proto.specs.declared.answer.Answer.TheVariants as answers
 use Rattle.pc_proto.specs.declared.call.Call.{Call}
 use Rattle.pc_proto.specs.declared.request.Request.{Request}
 use Rattle.pc_session.proofs.Knowing.{with_asked, with_heard, with_sent}
-use Rattle.pc_session.specs.InCall.{IsApartNow}
-use Rattle.pc_follows.specs.Resends.{AreAnsweredNow}
+use Rattle.pc_proto.specs.Requests.{is_put}
+use Rattle.pc_session.specs.InCall.{IsApartNow, IsHeardOrAway}
+use Rattle.pc_session.specs.Session.{SessionMeaning, waits_aside, session_knows}
+use Rattle.pc_follows.specs.WaveOrder.{IsHeardOrPut}
 use Rattle.pc_world.specs.Known.{Known, known_of}
 use Rattle.pc_world.specs.Known.Traffic.{Heard, Sent, request_sent}
-use Rattle.pc_world.specs.SameRequest.{IsSameRequest}
 use Rattle.pc_world.specs.Tell.Refusal.{is_heard}
 
 -- one more message, of another number
@@ -47,6 +48,16 @@ any_there test (y ∷ ys) x is there = elim (contains_cons y ys x there) [
   | inr later ↦ or_right (test y) (list_any test ys) (any_there test ys x is later)
 ]
 
+-- where as many pass the test, one passes or none
+pub same_any : {X : Type 0} (test : X → Bool) (xs ys : List X) → count_by test xs ≡ count_by test ys → list_any test xs ≡ list_any test ys
+same_any test xs ys same = by (list_any test xs) (list_any test ys) refl refl
+  where
+    by : (a b : Bool) → list_any test xs ≡ a → list_any test ys ≡ b → list_any test xs ≡ list_any test ys
+    by true true x y = x ∙ sym y
+    by false false x y = x ∙ sym y
+    by true false x y = absurd (let some = counts_any test xs x in let none = uncounted test ys y in omega (arith, some, none, same))
+    by false true x y = absurd (let some = counts_any test ys y in let none = uncounted test xs x in omega (arith, some, none, same))
+
 or_false : (a b : Bool) → (a || b) ≡ false → (a ≡ false) × (b ≡ false)
 or_false true b e = absurd cc
 or_false false b e = (refl, e)
@@ -55,50 +66,77 @@ module _ {C : Type 0} (d : DeskMeaning C) (track : KeepsTrack d) where
   abbrev k : Known
   k = known_of d.log.part.own
 
-  -- what was sent and is not on its way was heard
-  pub heard_if_back : (number : ℕ) → list_any (λ (m : Sent). m.number == number) k.sent ≡ true → is_on_way number d ≡ false → list_any (λ (h : Heard). h.number == number) k.heard ≡ true
-  heard_if_back number sent away =
-      let off = or_false (list_any (λ (m : Posted). m.number == number) d.posted) (list_any (λ (a : Answered). a.number == number) d.replies) away in
-      let some : 1 ≤ times_sent number k = counts_any (λ (m : Sent). m.number == number) k.sent sent in
-      let p : posted_as number d.posted ≡ 0 = uncounted (λ (m : Posted). m.number == number) d.posted off.0 in
-      let r : answered_as number d.replies ≡ 0 = uncounted (λ (a : Answered). a.number == number) d.replies off.1 in
-      let all = track.stages number in
-      let heard : 1 ≤ heard_as_number number k = omega arith in
-      let yes : nat_lt 0 (heard_as_number number k) ≡ true = grind (arith, nat_tests) in
-      any_counts (λ (h : Heard). h.number == number) k.heard ∙ yes
+  -- what was sent and is not on its way was heard, but for puts
+  pub heard_if_back : (m : Sent) → Contains k.sent m → is_on_way m.number d ≡ false → IsHeardOrPut k.heard m
+  heard_if_back m there away = by (list_any (λ (h : Heard). h.number == m.number) k.heard) refl
+    where
+      by : (b : Bool) → list_any (λ (h : Heard). h.number == m.number) k.heard ≡ b → IsHeardOrPut k.heard m
+      by true is = inl is
+      by false none =
+          let off = or_false (list_any (λ (p : Posted). p.number == m.number) d.posted) (list_any (λ (a : Answered). a.number == m.number) d.replies) away in
+          let some : 1 ≤ times_sent m.number k = counts_any (λ (x : Sent). x.number == m.number) k.sent (any_there (λ (x : Sent). x.number == m.number) k.sent m (eq-eqb m.number m.number refl) there) in
+          let p : posted_as m.number d.posted ≡ 0 = uncounted (λ (x : Posted). x.number == m.number) d.posted off.0 in
+          let r : answered_as m.number d.replies ≡ 0 = uncounted (λ (a : Answered). a.number == m.number) d.replies off.1 in
+          let h : heard_as_number m.number k ≡ 0 = uncounted (λ (x : Heard). x.number == m.number) k.heard none in
+          let all = track.stages m.number in
+          inr (put_aside d track m there (omega (arith, some, p, r, h, all)))
 
-  -- no message of the next number was heard or sent
+  -- no message of the next number was heard or sent, or was set aside
   pub none_heard_next : (number : ℕ) → number ≡ d.sends + 1 → (list_any (λ (h : Heard). h.number == number) k.heard ≡ false) × (count_by (λ (m : Sent). m.number == number) k.sent ≡ 0)
   none_heard_next number next =
       let none : times_sent number k ≡ 0 = none_beyond (λ (m : Sent). m.number) (length k.sent) number k.sent track.numbers (let c = track.counted in omega arith) in
       let all = track.stages number in
       (none_counted (λ (h : Heard). h.number == number) k.heard (omega arith), none)
 
-  -- where none is on its way, all that was sent was heard
-  pub all_heard : ((number : ℕ) → is_on_way number d ≡ false) → All (λ m. IsTrue (is_heard k.heard m)) k.sent
-  all_heard away = all_from_contains (λ (m : Sent). IsTrue (is_heard k.heard m)) k.sent (λ m there. heard_if_back m.number (any_there (λ (x : Sent). x.number == m.number) k.sent m (eq-eqb m.number m.number refl) there) (away m.number))
+  pub unsent_next : (number : ℕ) → number ≡ d.sends + 1 → (m : Sent) → Contains k.sent m → m.number ≡ number → ⊥
+  unsent_next number next m there same =
+      let low : m.number ≤ length k.sent = All-contains (λ (m : Sent). m.number ≤ length k.sent) k.sent m track.numbers there in
+      let c = track.counted in
+      omega (arith, low, next, same, c)
 
-  -- what was sent in the call and is not on its way was heard in it
-  pub heard_now_if_back : (apart : IsApartNow k) (m : Sent) → request_sent m.number k.sent ≡ Some m.request → is_heard apart.before m ≡ false → is_on_way m.number d ≡ false → IsTrue (is_heard k.heard_now m)
-  heard_now_if_back apart m said before away =
-      let whole : is_heard k.heard m ≡ true = heard_if_back m.number (sent_where_said m.number k.sent m.request said) away in
-      let cut : (is_heard apart.before m || is_heard k.heard_now m) ≡ true = sym (ap (λ (hs : List Heard). is_heard hs m) apart.split ∙ list_any-append (λ (h : Heard). h.number == m.number) apart.before k.heard_now) ∙ whole in
-      sym (ap (λ b. b || is_heard k.heard_now m) before) ∙ cut
+  pub next_not_aside : (number : ℕ) → number ≡ d.sends + 1 → waits_aside number d ≡ false
+  next_not_aside number next =
+      let none : times_sent number k ≡ 0 = none_beyond (λ (m : Sent). m.number) (length k.sent) number k.sent track.numbers (let c = track.counted in omega arith) in
+      let all = track.stages number in
+      none_counted (λ (m : Posted). m.number == number) d.later (omega (arith, none, all))
 
-  -- where the coordinator waits for none, all that was sent in the call was heard in it
-  pub all_heard_now : IsApartNow k → ((number : ℕ) → is_on_way number d ≡ false) → All (λ m. IsTrue (is_heard k.heard_now m)) k.sent_now
-  all_heard_now apart away = all_from_contains (λ (m : Sent). IsTrue (is_heard k.heard_now m)) k.sent_now (λ m there.
-      heard_now_if_back apart m (All-contains (λ (m : Sent). request_sent m.number k.sent ≡ Some m.request) k.sent_now m apart.said there) (All-contains (λ (m : Sent). is_heard apart.before m ≡ false) k.sent_now m apart.apart there) (away m.number))
+  -- what was set aside is not on its way, and was not heard
+  pub aside_not_away : (number : ℕ) → waits_aside number d ≡ true → (is_on_way number d ≡ false) × (list_any (λ (h : Heard). h.number == number) k.heard ≡ false)
+  aside_not_away number aside =
+      let some : 1 ≤ posted_as number d.later = counts_any (λ (m : Posted). m.number == number) d.later aside in
+      let all = track.stages number in
+      let once = track.once number in
+      let p : list_any (λ (m : Posted). m.number == number) d.posted ≡ false = none_counted (λ (m : Posted). m.number == number) d.posted (omega (arith, some, all, once)) in
+      let r : list_any (λ (a : Answered). a.number == number) d.replies ≡ false = none_counted (λ (a : Answered). a.number == number) d.replies (omega (arith, some, all, once)) in
+      let h : list_any (λ (h : Heard). h.number == number) k.heard ≡ false = none_counted (λ (h : Heard). h.number == number) k.heard (omega (arith, some, all, once)) in
+      (ap (λ b. b || list_any (λ (a : Answered). a.number == number) d.replies) p ∙ r, h)
 
-  -- where it waits for none of a request, each of that in the call was answered there
-  pub answered_now : (c : Coordination) (request : Request) → IsApartNow k → ((number : ℕ) → awaits_number number c.due ≡ is_on_way number d) → AwaitsNone c k request → AreAnsweredNow k request
-  answered_now c request apart way none = all_from_contains (λ (m : Sent). IsSameRequest request m.request → IsTrue (is_heard k.heard_now m)) k.sent_now (λ m there same. by m there same (is_on_way m.number d) refl)
-    where
-      by : (m : Sent) → Contains k.sent_now m → IsSameRequest request m.request → (b : Bool) → is_on_way m.number d ≡ b → IsTrue (is_heard k.heard_now m)
-      by m there same true is =
-          absurd (none m.number m.request (way m.number ∙ is) (All-contains (λ (m : Sent). request_sent m.number k.sent ≡ Some m.request) k.sent_now m apart.said there) same)
-      by m there same false is =
-          heard_now_if_back apart m (All-contains (λ (m : Sent). request_sent m.number k.sent ≡ Some m.request) k.sent_now m apart.said there) (All-contains (λ (m : Sent). is_heard apart.before m ≡ false) k.sent_now m apart.apart there) is
+  -- it was sent, and puts a write
+  pub aside_sent : (number : ℕ) → waits_aside number d ≡ true → (m : Sent) × Contains k.sent m × (m.number ≡ number) × (is_put m.request ≡ true)
+  aside_sent number aside =
+      let has = counted_has (λ (m : Posted). m.number) number d.later (counts_any (λ (m : Posted). m.number == number) d.later aside) in
+      let is = All-contains (WasSetAside k.sent) d.later has.0 track.aside has.1 in
+      (as_sent has.0, is.one, has.2, is.puts)
+
+  -- where none is on its way, all that was sent was heard, but for puts
+  pub all_heard : ((number : ℕ) → is_on_way number d ≡ false) → All (IsHeardOrPut k.heard) k.sent
+  all_heard away = all_from_contains (IsHeardOrPut k.heard) k.sent (λ m there. heard_if_back m there (away m.number))
+
+-- ---- what was sent in the call
+
+module _ {C : Type 0} (s : SessionMeaning C) (m : Sent) (out : IsHeardOrAway s m) where
+  -- it was heard in it, if it is not on its way, and the call is not to be told that it is written
+  pub heard_now_if_back : (s.coordinator.due ≡ dues.Tell answers.Written → ⊥) → is_on_way m.number s.desk ≡ false → IsTrue (is_heard (session_knows s).heard_now m)
+  heard_now_if_back other away = elim out [
+    | inl heard ↦ heard
+    | inr (inl on) ↦ let e : true ≡ false = sym on ∙ away in absurd cc
+    | inr (inr told) ↦ absurd (other told.1)
+  ]
+
+-- where none is on its way, all that was sent in the call was heard in it
+pub all_heard_now : {C : Type 0} (s : SessionMeaning C) → All (IsHeardOrAway s) (session_knows s).sent_now → (s.coordinator.due ≡ dues.Tell answers.Written → ⊥) → ((number : ℕ) → is_on_way number s.desk ≡ false)
+    → All (λ m. IsTrue (is_heard (session_knows s).heard_now m)) (session_knows s).sent_now
+all_heard_now s out other away = All-weaker (IsHeardOrAway s) (λ m. IsTrue (is_heard (session_knows s).heard_now m)) (λ m o. heard_now_if_back s m o other (away m.number)) (session_knows s).sent_now out
 
 -- where none is on its way, none waits
 pub none_posted : {C : Type 0} (d : DeskMeaning C) → ((number : ℕ) → is_on_way number d ≡ false) → d.posted ≡ []

@@ -1,11 +1,11 @@
 -- What is due at a coordinator that knows what its session knows: where it waits for nothing, and what it sends.
-use Rattle.std.proofs.Common.{◌≡◌, ℕ, Bool, true, false, ◌||◌, List, [], ◌∷◌, is_some, Option, None, Some, refl, sym, ap, ◌∙◌}
+use Rattle.std.proofs.Common.{◌≡◌, ℕ, Bool, true, false, ◌||◌, ◌&&◌, if◌then◌else◌, List, [], ◌∷◌, is_some, Option, None, Some, refl, sym, ap, ◌∙◌}
 use Rattle.std.specs.List.{list_any}
 use Rattle.pc_base.specs.declared.transaction.TxnId.{TxnId}
 use Rattle.pc_call.specs.declared.call.OpenCall.{OpenCall}
 use Rattle.pc_call.specs.Opening.{reader_of}
 use Rattle.pc_coord.proofs.Knowing.{rests}
-use Rattle.pc_coord.specs.Coordination.{Coordination, awaits_number, next_at, next_by, next_in, next_of}
+use Rattle.pc_coord.specs.Coordination.{Coordination, awaits_number, is_writing, next_at, next_by, next_in, next_of}
 use Rattle.pc_coord.specs.declared.due.Due.{Due}
 use Rattle.pc_coord.specs.declared.due.Due.TheVariants as dues
 use Rattle.pc_coord.specs.declared.next.Next.TheVariants as nexts
@@ -31,34 +31,38 @@ use Rattle.pc_world.specs.Known.Transactions.{Txn}
 
 -- ---- where nothing is waited for
 
-tells_by : (reader : Option ℕ) (step : Step) (answer : Answer) → next_by reader step ≡ nexts.Tell answer → ⊥
-tells_by reader (steps.Send request) answer e = cc
-tells_by reader steps.Deliver answer e = cc
-tells_by reader (steps.Round number conflict) answer e = cc
-tells_by reader (steps.Blocked holder) answer e = cc
-tells_by reader steps.Answered answer e = cc
+sends_once : (b : Bool) (request : Request) (answer : Answer) → (if b then nexts.Later request else nexts.Send request) ≡ nexts.Tell answer → ⊥
+sends_once true request answer e = cc
+sends_once false request answer e = cc
 
-tells_in : (txn : Option OpenTxn) (call : OpenCall) (answer : Answer) → next_in txn call ≡ nexts.Tell answer → ⊥
-tells_in None call answer e = cc
-tells_in (Some x) call answer e = tells_by (reader_of call.purpose x) (step_of call.wave) answer e
+tells_by : (reader : Option ℕ) (b : Bool) (step : Step) (answer : Answer) → next_by reader b step ≡ nexts.Tell answer → ⊥
+tells_by reader b (steps.Send request) answer e = sends_once b request answer e
+tells_by reader b steps.Deliver answer e = cc
+tells_by reader b (steps.Round number conflict) answer e = cc
+tells_by reader b (steps.Blocked holder) answer e = cc
+tells_by reader b steps.Answered answer e = cc
+
+tells_in : (pipelining : Bool) (txn : Option OpenTxn) (call : OpenCall) (answer : Answer) → next_in pipelining txn call ≡ nexts.Tell answer → ⊥
+tells_in pipelining None call answer e = cc
+tells_in pipelining (Some x) call answer e = tells_by (reader_of call.purpose x) (pipelining && is_writing call.purpose) (step_of call.wave) answer e
 
 -- where an answer is due, no reply is waited for
 pub quiet_tell : (c : Coordination) (answer : Answer) → next_of c ≡ nexts.Tell answer → (number : ℕ) → awaits_number number c.due ≡ false
 quiet_tell c answer next number = by c.due next
   where
-    by : (due : Due) → next_at c.txn due ≡ nexts.Tell answer → awaits_number number due ≡ false
+    by : (due : Due) → next_at c.pipelining c.txn due ≡ nexts.Tell answer → awaits_number number due ≡ false
     by dues.Nothing e = refl
     by (dues.Tell told) e = refl
-    by (dues.Call call) e = absurd (tells_in c.txn call answer e)
+    by (dues.Call call) e = absurd (tells_in c.pipelining c.txn call answer e)
 
 -- and it is what is due
 pub tell_due : (c : Coordination) (answer : Answer) → next_of c ≡ nexts.Tell answer → c.due ≡ dues.Tell answer
 tell_due c answer next = by c.due next
   where
-    by : (due : Due) → next_at c.txn due ≡ nexts.Tell answer → due ≡ dues.Tell answer
+    by : (due : Due) → next_at c.pipelining c.txn due ≡ nexts.Tell answer → due ≡ dues.Tell answer
     by dues.Nothing e = absurd cc
     by (dues.Tell told) e = let same : told ≡ answer = cc in ap dues.Tell same
-    by (dues.Call call) e = absurd (tells_in c.txn call answer e)
+    by (dues.Call call) e = absurd (tells_in c.pipelining c.txn call answer e)
 
 no_wait : (number : ℕ) (progress : Progress) → progress_out progress ≡ false → progress_awaits number progress ≡ false
 no_wait number progresses.ToSend none = refl
@@ -74,31 +78,35 @@ none_awaits number (m ∷ messages) none = by (none_awaits number messages) (is_
     by later true is none = absurd cc
     by later false is none = ap (λ b. b || wave_awaits number messages) (no_wait number m.progress is) ∙ later none
 
+meets_once : (b : Bool) (request : Request) (n : ℕ) (conflict : Reply) (at : Option ℕ) → (if b then nexts.Later request else nexts.Send request) ≡ nexts.Conflict n conflict at → ⊥
+meets_once true request n conflict at e = cc
+meets_once false request n conflict at e = cc
+
 -- The step is a conflict's round.
-rounds_by : (reader : Option ℕ) (step : Step) (n : ℕ) (conflict : Reply) (at : Option ℕ) → next_by reader step ≡ nexts.Conflict n conflict at → (m : ℕ) × (met : Reply) × (step ≡ steps.Round m met)
-rounds_by reader (steps.Send request) n conflict at e = absurd cc
-rounds_by reader steps.Deliver n conflict at e = absurd cc
-rounds_by reader (steps.Round m met) n conflict at e = (m, met, refl)
-rounds_by reader (steps.Blocked holder) n conflict at e = absurd cc
-rounds_by reader steps.Answered n conflict at e = absurd cc
+rounds_by : (reader : Option ℕ) (b : Bool) (step : Step) (n : ℕ) (conflict : Reply) (at : Option ℕ) → next_by reader b step ≡ nexts.Conflict n conflict at → (m : ℕ) × (met : Reply) × (step ≡ steps.Round m met)
+rounds_by reader b (steps.Send request) n conflict at e = absurd (meets_once b request n conflict at e)
+rounds_by reader b steps.Deliver n conflict at e = absurd cc
+rounds_by reader b (steps.Round m met) n conflict at e = (m, met, refl)
+rounds_by reader b (steps.Blocked holder) n conflict at e = absurd cc
+rounds_by reader b steps.Answered n conflict at e = absurd cc
 
 none_out : (messages : List Message) (n : ℕ) (conflict : Reply) → step_of messages ≡ steps.Round n conflict → list_any is_out messages ≡ false
 none_out messages n conflict due = let f = due_round messages n conflict due in (first_found messages f.0 f.1).1
 
-quiet_in : (txn : Option OpenTxn) (call : OpenCall) (n : ℕ) (conflict : Reply) (reader : Option ℕ) → next_in txn call ≡ nexts.Conflict n conflict reader → (number : ℕ) → wave_awaits number call.wave ≡ false
-quiet_in None call n conflict reader e number = absurd cc
-quiet_in (Some x) call n conflict reader e number =
-    let r = rounds_by (reader_of call.purpose x) (step_of call.wave) n conflict reader e in
+quiet_in : (pipelining : Bool) (txn : Option OpenTxn) (call : OpenCall) (n : ℕ) (conflict : Reply) (reader : Option ℕ) → next_in pipelining txn call ≡ nexts.Conflict n conflict reader → (number : ℕ) → wave_awaits number call.wave ≡ false
+quiet_in pipelining None call n conflict reader e number = absurd cc
+quiet_in pipelining (Some x) call n conflict reader e number =
+    let r = rounds_by (reader_of call.purpose x) (pipelining && is_writing call.purpose) (step_of call.wave) n conflict reader e in
     none_awaits number call.wave (none_out call.wave r.0 r.1 r.2)
 
 -- where the round of a conflict is due, no reply is waited for
 pub quiet_met : (c : Coordination) (n : ℕ) (conflict : Reply) (reader : Option ℕ) → next_of c ≡ nexts.Conflict n conflict reader → (number : ℕ) → awaits_number number c.due ≡ false
 quiet_met c n conflict reader next number = by c.due next
   where
-    by : (due : Due) → next_at c.txn due ≡ nexts.Conflict n conflict reader → awaits_number number due ≡ false
+    by : (due : Due) → next_at c.pipelining c.txn due ≡ nexts.Conflict n conflict reader → awaits_number number due ≡ false
     by dues.Nothing e = refl
     by (dues.Tell told) e = refl
-    by (dues.Call call) e = quiet_in c.txn call n conflict reader e number
+    by (dues.Call call) e = quiet_in c.pipelining c.txn call n conflict reader e number
 
 -- ---- what is sent
 
@@ -112,13 +120,13 @@ puts_open k request own = put_open k request own
 
 -- ---- where no call is open
 
-idle_at : (c : Coordination) (k : Known) (due : Due) → KnowsAt c k due → k.statement ≡ None → due ≡ dues.Nothing
+idle_at : (c : Coordination) (k : Known) (due : Due) → KnowsAt false c k due → k.statement ≡ None → due ≡ dues.Nothing
 idle_at c k dues.Nothing at none = refl
 idle_at c k (dues.Call call) at none = let e = sym at.in_call.opened ∙ none in absurd cc
 idle_at c k (dues.Tell answer) at none = let e = sym at.may.may.opened ∙ none in absurd cc
 
 -- nothing is due
-pub idle : (c : Coordination) (k : Known) → Knows c k → k.statement ≡ None → c.due ≡ dues.Nothing
+pub idle : (c : Coordination) (k : Known) → Knows false c k → k.statement ≡ None → c.due ≡ dues.Nothing
 idle c k knows none = idle_at c k c.due knows.stands none
 
 held_is : (txn : Option OpenTxn) (k : Known) → IsHeld txn k → is_some txn ≡ k.is_open
@@ -126,5 +134,5 @@ held_is None k held = sym held
 held_is (Some x) k held = sym held.open_in.is_open
 
 -- and the coordinator holds a transaction exactly where the session has one open
-pub holds : (c : Coordination) (k : Known) → Knows c k → k.statement ≡ None → is_some c.txn ≡ k.is_open
-holds c k knows none = held_is c.txn k (rests c k knows none).held
+pub holds : (c : Coordination) (k : Known) → Knows false c k → k.statement ≡ None → is_some c.txn ≡ k.is_open
+holds c k knows none = held_is c.txn k (rests false c k knows none).held

@@ -1,13 +1,14 @@
 -- A session in its call while its messages are evaluated, and their replies heard.
-use Rattle.std.proofs.Common.{◌≡◌, ℕ, ◌+◌, ◌<◌, ◌≤◌, true, false, Bool, ◌==◌, ◌||◌, ◌&&◌, not, inl, inr, All, Contains, List, [], ◌∷◌, length, Option, Some, None, refl, sym, ap, subst, ◌∙◌, arith}
+use Rattle.std.proofs.Common.{◌≡◌, ℕ, ◌+◌, ◌<◌, ◌≤◌, true, false, Bool, ◌==◌, ◌||◌, ◌&&◌, not, inl, inr, All, Contains, List, [], ◌∷◌, length, Option, Some, refl, sym, ap, subst, ◌∙◌, arith, ◌++◌, ◌⊎◌, IsTrue}
 use Rattle.std.proofs.lemmas.Bool.{eq-eqb, eqb-true}
-use Rattle.std.proofs.lemmas.List.{append-nil}
-use Rattle.std.proofs.lemmas.List.Elements.{All-cons, All-contains, All-head, All-nil, Contains-push}
+use Rattle.std.proofs.lemmas.List.{same_from_push}
+use Rattle.std.proofs.lemmas.List.Elements.{All-cons, All-contains, All-head, All-nil, Contains-push, All-weaker, Contains-append_left}
 use Rattle.std.specs.List.{list_any}
-use Rattle.pc_coord.specs.Coming.{ComesOf}
-use Rattle.pc_coord.specs.Coordination.{Coordination, awaits_number, opened_by}
+use Rattle.pc_coord.specs.Coming.{ComesOf, AwaitsAfter, GoesOnBy, goes_by_sequence}
+use Rattle.pc_coord.proofs.OwnMessages.{awaited_alone}
+use Rattle.pc_coord.specs.Coordination.{Coordination, awaits_number, opened_by, SendsNoMore}
 use Rattle.pc_coord.specs.declared.due.Opened.{Opened}
-use Rattle.pc_coord.specs.Events.{HearsAwaited, IsAnsweredAlive, IsAnsweredUnstaged}
+use Rattle.pc_coord.specs.Events.{HearsAwaited, IsAnsweredAlive}
 use Rattle.pc_coord.specs.Knows.{Knows}
 use Rattle.pc_desk.proofs.Making.{added, known_after_it}
 use Rattle.pc_desk.proofs.Turns.{oldest_waits}
@@ -15,7 +16,7 @@ use Rattle.pc_desk.specs.declared.answered.Answered.{Answered}
 use Rattle.pc_desk.specs.Desk.{DeskMeaning, HasDelivered, HasHeardFirst, IsAnsweredBy, KeepsTrack, MayHearNow, Posted, WaitInTurn, is_on_way}
 use Rattle.pc_desk.specs.Keeping.{KeepsSessionStep}
 use Rattle.pc_desk.specs.OwnLog.{LogMeaning}
-use Rattle.pc_exchange.proofs.AnsweredAlive.{answered_alive, answered_unstaged, first_mapped}
+use Rattle.pc_exchange.proofs.AnsweredAlive.{answered_alive, first_mapped}
 use Rattle.pc_exchange.proofs.Growing.{grows_else, grows_entered}
 use Rattle.pc_exchange.proofs.HeardKinds.{heard_kind, heard_past}
 use Rattle.pc_exchange.proofs.Waves.{ends_where_heard}
@@ -25,31 +26,66 @@ use Rattle.pc_lists.proofs.Lists.{contains_cons, contains_head, contains_map, co
 use Rattle.pc_proto.specs.declared.event.Event.{Event}
 use Rattle.pc_proto.specs.declared.event.Event.TheVariants as events
 use Rattle.pc_proto.specs.declared.request.Request.{Request}
+use Rattle.pc_call.specs.declared.purpose.Purpose.TheVariants as purposes
+use Rattle.pc_coord.specs.declared.due.Due.TheVariants as dues
+use Rattle.pc_proto.specs.declared.answer.Answer.TheVariants as answers
+use Rattle.pc_proto.specs.declared.call.Call.TheVariants as call_variants
 use Rattle.pc_proto.specs.declared.request.Request.TheVariants as requests
-use Rattle.pc_proto.specs.Requests.{goal_in}
 use Rattle.pc_range.specs.Message.{evaluation}
-use Rattle.pc_session.proofs.Again.{all_again, ends_otherwise}
+use Rattle.pc_session.proofs.Again.{and_first, ends_otherwise}
 use Rattle.pc_session.proofs.Away.{all_heard, any_there, apart_heard, none_away}
 use Rattle.pc_session.proofs.InTurn.{AreHeardOnce, heard_once}
-use Rattle.pc_session.proofs.Inside.{one_on}
+use Rattle.pc_session.proofs.Inside.{one_on, id_same}
 use Rattle.pc_session.proofs.Jobs.{HasJobs, jobs_heard}
-use Rattle.pc_session.proofs.Keeping.{keeps_as, keeps_heard, no_goal, plain_kind}
+use Rattle.pc_session.proofs.Keeping.{keeps_as, keeps_heard}
 use Rattle.pc_session.proofs.Knowing.{it, jobs_then, known_heard, with_heard}
-use Rattle.pc_session.proofs.TurnsOn.{heard_silent, heard_turn}
+use Rattle.pc_session.proofs.TurnsOn.{heard_silent, IsOpenedAs, waits_opened}
 use Rattle.pc_session.proofs.WholeWave.{whole_heard, whole_still}
-use Rattle.pc_session.specs.InCall.{HasGoneInside, HasOpenCall, IsApartNow, IsWholeOut}
+use Rattle.pc_session.specs.InCall.{HasGoneInside, HasOpenCall, IsApartNow, IsWholeOut, HasAsideInCall, IsBetweenWaves, IsHeardOrAway, IsOfOpenEpoch, LeavesStrays, IsWaitedFor}
 use Rattle.pc_session.specs.InTurn.{KeepsTurn}
-use Rattle.pc_session.specs.Session.{HasLeft, SessionMeaning, session_knows}
+use Rattle.pc_session.specs.Session.{HasLeft, SessionMeaning, session_knows, waits_aside}
 use Rattle.pc_turns.specs.Order.{IsInBetween}
 use Rattle.pc_wave.specs.Messages.{awaits_at, back_with, first_changed}
-use Rattle.pc_wave.specs.Standing.{HasMore, IsHeardTo, IsPastWhereUndecided}
+use Rattle.pc_wave.specs.Standing.{IsHeardTo, IsPastWhereUndecided}
 use Rattle.pc_world.specs.Answering.{MayAnswer}
 use Rattle.pc_follows.specs.AgainInOneWave.{EndsWithSending}
 use Rattle.pc_follows.specs.CallMessages.{IsForCall}
-use Rattle.pc_follows.specs.WaveOrder.{EndsWaves}
-use Rattle.pc_world.specs.Known.{Known, known_of, learn, open_txn}
-use Rattle.pc_world.specs.Known.Traffic.{Heard, heard_as, request_sent}
+use Rattle.pc_world.specs.Known.{Known, known_of, learn, open_txn, call_of}
+use Rattle.pc_world.specs.Known.Traffic.{Heard, Sent, heard_as, request_sent}
 use Rattle.pc_world.specs.Known.Transactions.{Txn, txn_heard}
+use Rattle.std.proofs.lemmas.List.Folds.{list_any-append}
+use Rattle.pc_call.specs.declared.call.OpenCall.{OpenCall}
+use Rattle.pc_call.specs.Outbox.{has_waited}
+use Rattle.pc_coord.specs.Awaiting.{IsAwaitedNext}
+use Rattle.pc_desk.specs.Waiting.{EndsUnheard}
+use Rattle.pc_exchange.proofs.ShownStages.{shown_sent}
+use Rattle.pc_follows.specs.Heartbeats.{is_heartbeat}
+use Rattle.pc_follows.specs.Proving.{IsAwaitedPut}
+use Rattle.pc_proto.specs.declared.answer.Answer.{Answer}
+use Rattle.pc_session.proofs.AsideInCall.{aside_why, epoch_same, waits_before}
+use Rattle.pc_session.proofs.BothTurns.{heard_turn}
+use Rattle.pc_session.proofs.Comes.{comes_in_turn}
+use Rattle.pc_session.proofs.Misses.{misses_below}
+use Rattle.pc_session.proofs.OfRun.{own_session}
+use Rattle.pc_session.proofs.PutWaves.{puts_heard}
+use Rattle.pc_session.proofs.RollsBack.{rollback_awaits_none}
+use Rattle.pc_session.proofs.Wanted.{awaited_kind, awaited_out}
+use Rattle.pc_wave.specs.Shown.{ShowsSentStage}
+use Rattle.pc_world.specs.Local.{is_outside}
+use Rattle.pc_world.specs.Tell.Refusal.{is_heard}
+use Rattle.std.specs.Option.{option_map_or}
+use Rattle.pc_follows.specs.WaveEvaluation.{IsHearingOfWave}
+use Rattle.pc_base.specs.declared.actor.ActorId.TheVariants as actors
+use Rattle.pc_call.specs.Missing.{IsAboveMisses}
+use Rattle.pc_proto.specs.Requests.{is_about}
+use Rattle.pc_proto.specs.Replies.{view_in}
+use Rattle.pc_proto.specs.Views.{is_staging_at}
+use Rattle.pc_session.proofs.Waiting.{wait_said, wait_of}
+use Rattle.pc_desk.specs.Hearing.{MayStayUnheard}
+use Rattle.pc_session.proofs.Behind.{beats_behind, evaluated_past, records_behind}
+use Rattle.pc_session.proofs.KeepsBehind.{behind_heard}
+use Rattle.pc_session.specs.Behind.{WaitsBehindHeard}
+use Rattle.pc_coord.proofs.Dues.{gone_out}
 
 -- ---- messages are evaluated
 
@@ -67,25 +103,42 @@ module _ {C : Type 0} (old : SessionMeaning C) (reading : ℕ) (calls : HasOpenC
   grown_delivered : HasGrownBy old.desk.log d.log []
   grown_delivered = grows_else old.desk.log d.log old.desk.log.part.given d.log.part.known made.own made.more
 
+  aside_same : (n : ℕ) → waits_aside n d ≡ waits_aside n old.desk
+  aside_same n = ap (list_any (λ (m : Posted). m.number == n)) made.later
+
+  away_still : (m : Sent) → IsHeardOrAway old m → IsHeardOrAway delivered_then m
+  away_still m (inl heard) = inl (ap (λ (k : Known). is_heard k.heard_now m) known_same ∙ heard)
+  away_still m (inr (inl on)) = inr (inl (made.way m.number ∙ on))
+  away_still m (inr (inr told)) = inr (inr (aside_same m.number ∙ told.0, told.1, subst (λ k. MayStayUnheard old.coordinator.pipelining k m) (sym known_same) told.2))
+
   -- the call goes on
   pub delivered_open : HasOpenCall delivered_then reading
   delivered_open = record {
     track = made.track;
-    one = one_on old.desk d old.coordinator old.coordinator [] grown_delivered calls.one refl refl (subst (Knows old.coordinator) (sym known_same) calls.one.knows);
-    way = λ n. calls.way n ∙ sym (made.way n);
+    one = one_on old.desk d old.coordinator old.coordinator [] grown_delivered calls.one refl refl refl (subst (Knows false old.coordinator) (sym known_same) calls.one.knows);
+    way = λ n. made.way n ∙ (calls.way n ∙ ap (λ b. awaits_number n old.coordinator.due && not b) (sym (aside_same n)));
+    aside = record {
+      waits = λ n waits. elim (calls.aside.waits n waits) [ inl aside ↦ inl (aside_same n ∙ aside) | inr rolls ↦ inr (ap call_of known_same ∙ rolls) ];
+      why = λ n aside. subst (λ call. (has_waited n old.coordinator.later ≡ true) ⊎ (awaits_number n old.coordinator.due ≡ true) ⊎ LeavesStrays call old.coordinator.due) (ap call_of (sym known_same)) (calls.aside.why n (sym (aside_same n) ∙ aside));
+      epoch = λ n aside. subst (λ k. IsOfOpenEpoch k n) (sym known_same) (calls.aside.epoch n (sym (aside_same n) ∙ aside));
+    };
+    sent = subst (λ k. All (IsHeardOrAway delivered_then) k.sent_now) (sym known_same) (All-weaker (IsHeardOrAway old) (IsHeardOrAway delivered_then) away_still (session_knows old).sent_now calls.sent);
     call = calls.call;
     opened = ap (λ (k : Known). k.statement) known_same ∙ calls.opened;
+    outside = λ outside. ap (λ (k : Known). k.is_open) known_same ∙ calls.outside outside;
     apart = subst IsApartNow (sym known_same) calls.apart;
     kinds = λ n q on said.
-        subst (λ k. IsForCall k q) (sym known_same) (calls.kinds n q (sym (made.way n) ∙ on) (ap (λ (k : Known). request_sent n k.sent) (sym known_same) ∙ said));
+        subst (λ k. IsForCall old.coordinator.pipelining k q) (sym known_same) (calls.kinds n q (sym (made.way n) ∙ on) (ap (λ (k : Known). request_sent n k.sent) (sym known_same) ∙ said));
     waiting = subst (λ own. HasLeft own old.jobs) (sym own_same) calls.waiting;
-    turn = subst (λ k. KeepsTurn k old.coordinator.due) (sym known_same) calls.turn;
+    turn = subst (λ k. KeepsTurn old.coordinator.pipelining k old.coordinator.due) (sym known_same) calls.turn;
     goes_out = λ ends. calls.goes_out (subst EndsWithSending own_same ends);
+    joins = λ silent n on aside. subst EndsUnheard (sym own_same) (calls.joins silent n on (sym (aside_same n) ∙ aside));
+    behind = subst (WaitsBehindHeard (IsWaitedFor old.coordinator)) (sym own_same) calls.behind;
   }
 
   -- the wave is as whole as it was
   pub delivered_whole : IsWholeOut old → IsWholeOut delivered_then
-  delivered_whole whole = whole_still old delivered_then (ap (λ (l : LogMeaning C). l.head.splits) made.own) known_same (λ n on. sym (made.way n) ∙ on) refl whole
+  delivered_whole whole = whole_still old delivered_then (ap (λ (l : LogMeaning C). l.head.splits) made.own) own_same made.way aside_same refl whole
 
   pub delivered_goes : HasGoneInside old delivered_then
   delivered_goes = record {
@@ -99,8 +152,17 @@ module _ {C : Type 0} (old : SessionMeaning C) (reading : ℕ) (calls : HasOpenC
 
 -- ---- all were heard
 
-pub wave_ends : {C : Type 0} (s : SessionMeaning C) (reading : ℕ) → HasOpenCall s reading → s.desk.posted ≡ [] → s.desk.replies ≡ [] → EndsWaves s.desk.log.part.own
-wave_ends s reading calls posted replies = ends_where_heard s.desk.log.part.own (all_heard s.desk calls.track (none_away s.desk posted replies))
+pub wave_ends : {C : Type 0} (s : SessionMeaning C) (reading : ℕ) → HasOpenCall s reading → IsWholeOut s → s.desk.posted ≡ [] → s.desk.replies ≡ [] → IsBetweenWaves s.desk
+wave_ends s reading calls whole posted replies =
+    let k = session_knows s in
+    let away = none_away s.desk posted replies in
+    record {
+      ends = ends_where_heard s.desk.log.part.own (all_heard s.desk calls.track away);
+      puts = λ front back p is hears none.
+          All-weaker (λ m. IsAwaitedPut k m.request → IsTrue (is_heard k.heard m) ⊎ (is_on_way m.number s.desk ≡ true)) (λ m. IsAwaitedPut k m.request → IsTrue (is_heard k.heard m))
+          (λ m was awaited. elim (was awaited) [ inl heard ↦ heard | inr on ↦ absurd (let e : true ≡ false = sym on ∙ away m.number in cc e) ]) (known_of front).sent (whole.puts front back p is hears none);
+      none_waits = replies;
+    }
 
 -- ---- a reply is heard
 
@@ -141,6 +203,31 @@ or_right : (a b : Bool) → b ≡ true → (a || b) ≡ true
 or_right true b e = refl
 or_right false b e = e
 
+and_last : (a b : Bool) → (a && b) ≡ true → b ≡ true
+and_last true b e = e
+and_last false b e = absurd cc
+
+swap : (a s n : Bool) → ((a && not s) && not n) ≡ ((a && not n) && not s)
+swap true true true = refl
+swap true true false = refl
+swap true false true = refl
+swap true false false = refl
+swap false s n = refl
+
+none_and : (w s : Bool) → (w ≡ true → s ≡ true) → (w && not s) ≡ (false && not s)
+none_and true true on = refl
+none_and true false on = absurd (let e : false ≡ true = on refl in cc e)
+none_and false s on = refl
+
+-- behind the reply to a heartbeat no wave was heard
+unheard_beat : (own : List (Pair Event)) (q : Pair Event) (number step : ℕ) → q.entry.event ≡ events.Hear number step → (request : Request) → request_sent number (known_of (own ++ q ∷ [])).sent ≡ Some request → is_heartbeat request ≡ true → EndsUnheard (own ++ q ∷ [])
+unheard_beat own q number step hears request said beats front p whole does =
+    let same = (same_from_push own front q p whole).1 in
+    let event : p.entry.event ≡ events.Hear number step = ap (λ (x : Pair Event). x.entry.event) (sym same) ∙ hears in
+    let is : option_map_or (λ r. is_heartbeat r) (request_sent number (known_of (own ++ q ∷ [])).sent) false ≡ false = subst (IsHearingOfWave (known_of (own ++ q ∷ [])).sent) event does in
+    let e : true ≡ false = sym beats ∙ (sym (ap (λ o. option_map_or (λ (r : Request). is_heartbeat r) o false) said) ∙ is) in
+    cc e
+
 module _ {C : Type 0} (old : SessionMeaning C) (reading : ℕ) (calls : HasOpenCall old reading) where
   abbrev k : Known
   k = session_knows old
@@ -152,10 +239,25 @@ module _ {C : Type 0} (old : SessionMeaning C) (reading : ℕ) (calls : HasOpenC
   answered-any xs a there = any_there (λ (x : Answered). x.number == a.number) xs a (eq-eqb a.number a.number refl) there
 
   -- a reply that waits is to a message on its way, which is for the call
-  for-call : (a : Answered) (there : Contains old.desk.replies a) → IsForCall k (by-it a there).request
+  for-call : (a : Answered) (there : Contains old.desk.replies a) → IsForCall old.coordinator.pipelining k (by-it a there).request
   for-call a there =
       calls.kinds a.number (by-it a there).request (or_right (list_any (λ (m : Posted). m.number == a.number) old.desk.posted) (list_any (λ (x : Answered). x.number == a.number) old.desk.replies) (answered-any old.desk.replies a there))
       (by-it a there).said
+
+  on-way-of : (a : Answered) → Contains old.desk.replies a → is_on_way a.number old.desk ≡ true
+  on-way-of a there = or_right (list_any (λ (m : Posted). m.number == a.number) old.desk.posted) (list_any (λ (x : Answered). x.number == a.number) old.desk.replies) (answered-any old.desk.replies a there)
+
+  awaited-of : (n : ℕ) → is_on_way n old.desk ≡ true → awaits_number n old.coordinator.due ≡ true
+  awaited-of n on = and_first (awaits_number n old.coordinator.due) (not (waits_aside n old.desk)) (sym (calls.way n) ∙ on)
+
+  -- what is waited for, once the wave is whole, is on its way
+  way-of : IsWholeOut old → (a : Answered) → Contains old.desk.replies a → (n : ℕ) → awaits_number n old.coordinator.due ≡ true → is_on_way n old.desk ≡ true
+  way-of whole a there n waits =
+      calls.way n ∙ (ap (λ b. b && not (waits_aside n old.desk)) waits ∙ ap (λ b. not b) (whole.joined a.number (on-way-of a there) n waits))
+
+  least-of : IsWholeOut old → (a : Answered) (rest : List Answered) → old.desk.replies ≡ a ∷ rest → (n : ℕ) → awaits_number n old.coordinator.due ≡ true → a.number ≤ n
+  least-of whole a rest first n waits =
+      least_on_way old.desk a rest calls.track first n (way-of whole a (subst (λ rs. Contains rs a) (sym first) (contains_head a rest)) n waits)
 
   -- each reply that waits may be heard
   pub may_hear_now : IsWholeOut old → MayHearNow old.desk
@@ -165,12 +267,11 @@ module _ {C : Type 0} (old : SessionMeaning C) (reading : ℕ) (calls : HasOpenC
         let by = by-it a there in
         let h : Heard = record { number = a.number; request = by.request; reply = a.reply; step = a.step } in
         let brings : heard_as a.number a.step (request_sent a.number k.sent) (Some a.reply) ≡ Some h = ap (λ (r : Option Request). heard_as a.number a.step r (Some a.reply)) by.said in
-        keeps_as old.desk.log.part.id old.coordinator.session old.desk.log.head.splits old.desk.log.pipelining old.desk.log.part.own (events.Hear a.number a.step) (heard_as a.number a.step (request_sent a.number k.sent) (Some a.reply)) calls.one.whose calls.one.unpiped
-        (subst (KeepsSessionStep old.desk.log.head.splits false old.desk.log.part.own (events.Hear a.number a.step)) (sym brings)
-        (keeps_heard old.desk.log.head.splits old.desk.log.part.own a.number a.step h (for-call a there)
-        (whole.pieces a.number by.request (or_right (list_any (λ (m : Posted). m.number == a.number) old.desk.posted) (list_any (λ (x : Answered). x.number == a.number) old.desk.replies) (answered-any old.desk.replies a there)) by.said)
-        (λ s opened plain ends. let on = or_right (list_any (λ (m : Posted). m.number == a.number) old.desk.posted) (list_any (λ (x : Answered). x.number == a.number) old.desk.replies) (answered-any old.desk.replies a there) in all_again old reading a.number calls on (whole.silent a.number on) ends)
-        (whole.refreshes a.number by.request (or_right (list_any (λ (m : Posted). m.number == a.number) old.desk.posted) (list_any (λ (x : Answered). x.number == a.number) old.desk.replies) (answered-any old.desk.replies a there)) by.said)
+        let on = on-way-of a there in
+        let next : IsAwaitedNext old.coordinator k h = record { waited = awaited-of a.number on; whole = whole.silent a.number on; said = by.said } in
+        keeps_as old.desk.log.part.id old.coordinator.session old.desk.log.head.splits old.desk.log.pipelining old.coordinator.pipelining old.desk.log.part.own (events.Hear a.number a.step) (heard_as a.number a.step (request_sent a.number k.sent) (Some a.reply)) calls.one.whose calls.one.piped
+        (subst (KeepsSessionStep old.desk.log.head.splits old.coordinator.pipelining old.desk.log.part.own (events.Hear a.number a.step)) (sym brings)
+        (keeps_heard old.desk.log.head.splits old.coordinator.pipelining old.desk.log.part.own a.number a.step h (comes_in_turn old reading h calls next on (least-of whole a rest first)) (whole.pieces a.number by.request on by.said) (whole.refreshes a.number by.request on by.said)
         (oldest_waits old.desk a rest calls.track first)));
   }
 
@@ -188,7 +289,7 @@ module _ {C : Type 0} (old : SessionMeaning C) (reading : ℕ) (calls : HasOpenC
     there-first : Contains old.desk.replies a
     there-first = subst (λ l. Contains l a) (sym heard.first) (contains_head a d.replies)
 
-    by : IsAnsweredBy old.desk.log a
+    abbrev by : IsAnsweredBy old.desk.log a
     by = by-it a there-first
 
     abbrev h : Heard
@@ -204,13 +305,14 @@ module _ {C : Type 0} (old : SessionMeaning C) (reading : ℕ) (calls : HasOpenC
     grown_heard = grows_entered old.desk.log d.log event heard.entered refl
 
     on-way : is_on_way a.number old.desk ≡ true
-    on-way = or_right (list_any (λ (m : Posted). m.number == a.number) old.desk.posted) (list_any (λ (x : Answered). x.number == a.number) old.desk.replies) (answered-any old.desk.replies a there-first)
+    on-way = on-way-of a there-first
 
     pub waited : awaits_number a.number old.coordinator.due ≡ true
-    waited = calls.way a.number ∙ on-way
+    waited = awaited-of a.number on-way
 
     past-same : (request : Request) (t : Txn) → IsPastWhereUndecided (txn_heard k.sent (Some h) t) request a.reply → IsPastWhereUndecided t request a.reply
     past-same (requests.Commit meta ts locks) t past = past
+    past-same (requests.Stage meta ts now writes locks) t past = past
     past-same request t past = tt
 
     past : (request : Request) → request_sent a.number k.sent ≡ Some request → (t : Txn) → Contains k.txns t → IsPastWhereUndecided t request a.reply
@@ -237,18 +339,31 @@ module _ {C : Type 0} (old : SessionMeaning C) (reading : ℕ) (calls : HasOpenC
         (answered_alive d.log heard.entered.log h there k (ap (λ (x : Known). x.sent) known_is) (ap (λ (x : Known). x.heard) known_is)
         (λ t opened. (txn_heard k.sent (Some h) t, ap open_txn known_is ∙ first_mapped (txn_heard k.sent (Some h)) k.is_open k.txns t opened, refl)))
 
-    unstaged : (request : Request) → request_sent a.number k.sent ≡ Some request → IsAnsweredUnstaged k request a.reply
-    unstaged request said =
+    shown : (request : Request) → request_sent a.number k.sent ≡ Some request → (t : Txn) → Contains k.txns t → ShowsSentStage k t.id (record { number = a.number; request = request; reply = a.reply; step = a.step })
+    shown request said t mine =
         let both : Some by.request ≡ Some request = sym by.said ∙ said in
         let same : by.request ≡ request = cc in
-        let there : Contains (known_of d.log.part.own).heard h = subst (λ (x : Known). Contains x.heard h) (sym known_is) (Contains-push k.heard h) in
-        subst (λ q. IsAnsweredUnstaged k q a.reply) same
-        (answered_unstaged d.log heard.entered.log h there k
-        (λ t opened. (txn_heard k.sent (Some h) t, ap open_txn known_is ∙ first_mapped (txn_heard k.sent (Some h)) k.is_open k.txns t opened, refl)))
+        subst (λ q. ShowsSentStage k t.id (record { number = a.number; request = q; reply = a.reply; step = a.step })) same shown_here
+      where
+        there : Contains (known_of d.log.part.own).heard h
+        there = subst (λ (x : Known). Contains x.heard h) (sym known_is) (Contains-push k.heard h)
 
-    hears-awaited : HearsAwaited old.coordinator a.number a.step a.reply k p
-    hears-awaited = record {
+        whose : d.log.part.id ≡ actors.Session t.id.session
+        whose =
+            let mine_now : d.log.part.id ≡ actors.Session old.coordinator.session = id_same old.desk.log d.log (p ∷ []) grown_heard ∙ calls.one.whose in
+            mine_now ∙ ap (λ n. actors.Session n) (sym (own_session old.desk.log calls.track.log old.coordinator.session calls.one.whose t mine))
+
+        shown_here : ShowsSentStage k t.id h
+        shown_here epoch ts shows =
+            let about : is_about t.id by.request ≡ true = and_first (is_about t.id by.request) (option_map_or (is_staging_at epoch ts) (view_in a.reply) false) shows in
+            shown_sent d.log heard.entered.log h there t.id whose k (sym (ap (λ (x : Known). x.sent) known_is))
+            (λ g inside. subst (λ (x : Known). Contains x.heard g) (sym known_is) (Contains-append_left k.heard (h ∷ []) g inside))
+            (λ g inside its. records_behind old.desk calls.track a d.replies heard.first (IsWaitedFor old.coordinator) calls.behind (inl waited) by.request by.said t.id about g inside its) epoch ts shows
+
+    hears-awaited : IsWholeOut old → HearsAwaited old.coordinator a.number a.step a.reply k p
+    hears-awaited whole = record {
       waited = waited;
+      whole = gone_out old.coordinator.due (whole.silent a.number on-way);
       event = refl;
       evaluation = evaluation a.step heard.range old.desk.log.part.id a.number a.reply;
       actor = old.desk.log.part.id;
@@ -258,73 +373,198 @@ module _ {C : Type 0} (old : SessionMeaning C) (reading : ℕ) (calls : HasOpenC
       kind = kind;
       past = past;
       alive = alive;
-      unstaged = unstaged;
+      shown = shown;
+      turn = least-of whole a d.replies heard.first;
+      after = λ request said. beats_behind old.desk calls.track a d.replies heard.first (IsWaitedFor old.coordinator) calls.behind (inl waited) request said;
+      missed = λ request said.
+          let both : Some by.request ≡ Some request = sym by.said ∙ said in
+          let same : by.request ≡ request = cc in
+          subst (λ q. IsAboveMisses k.heard q a.reply) same
+          (misses_below d.log heard.entered.log old.coordinator k h calls.one.knows waited by.said known_is
+          (λ g inside comes. evaluated_past old.desk calls.track a d.replies heard.first g.step (calls.behind a.number by.request (inl waited) by.said g inside comes)));
     }
 
     left_on : HasLeft d.log.part.own old.jobs
     left_on =
-        let has : HasJobs old.jobs (learn p k) = jobs_heard old.jobs k p a.number a.step h refl (sym learnt ∙ known_is) (record { numbers = calls.waiting.numbers; left = calls.waiting.each }) in
+        let has : HasJobs old.jobs (learn p k) = jobs_heard old.jobs k p old.coordinator.pipelining a.number a.step h (for-call a there-first) refl (sym learnt ∙ known_is) (λ job left. awaited_alone false old.coordinator k calls.one.knows job.meta.id left.other a.number by.request waited by.said) (record { numbers = calls.waiting.numbers; left = calls.waiting.each }) in
         let now : HasJobs old.jobs (known_of d.log.part.own) = subst (HasJobs old.jobs) (sym learnt) has in
         record { left = jobs_then old.desk.log d.log event heard.entered ∙ calls.waiting.left; numbers = now.numbers; each = now.left }
 
-    and_left : (x y : Bool) → (x && y) ≡ true → x ≡ true
-    and_left true y e = refl
-    and_left false y e = e
+    heard_to : IsHeardTo k a.number a.reply h
+    heard_to = record { numbered = refl; asked = by.said; told = refl; kind = kind by.request by.said; past = past by.request by.said; shown = shown by.request by.said }
+
+    once : AreHeardOnce (with_heard h k)
+    once = subst AreHeardOnce known_is (heard_once d heard.track (subst IsApartNow (sym known_is) (apart_heard h k calls.apart)))
+
+    aside_back : (n : ℕ) → waits_aside n d ≡ waits_aside n old.desk
+    aside_back n = ap (list_any (λ (m : Posted). m.number == n)) heard.later
+
+    own-is : d.log.part.own ≡ old.desk.log.part.own ++ p ∷ []
+    own-is = grown_heard.own
+
+    opened_then : (known_of d.log.part.own).statement ≡ Some (record { call = calls.call; reading = reading })
+    opened_then = ap (λ (k : Known). k.statement) known_is ∙ calls.opened
+
+    abbrev o : IsOpenedAs old.coordinator k
+    o = waits_opened old.coordinator k a.number calls.one.knows waited
 
     -- What the coordinator says of what is due then.
-    abbrev Comes : Type 0
-    Comes =
-        (k : Known) (p : Pair Event) (o : Opened) → Knows old.coordinator k → HearsAwaited old.coordinator a.number a.step a.reply k p → opened_by old.coordinator.txn old.coordinator.due ≡ Some o
-        → ComesOf (first_changed (awaits_at a.number) (back_with a.number a.reply) o.call.wave) c.due
+    module _ (whole : IsWholeOut old)
+        (learns : (loses : Bool) (k : Known) (p : Pair Event) → Knows loses old.coordinator k → HearsAwaited old.coordinator a.number a.step a.reply k p → Knows loses c (learn p k))
+        (waits : (loses : Bool) (k : Known) (p : Pair Event) → loses ≡ false → Knows loses old.coordinator k → HearsAwaited old.coordinator a.number a.step a.reply k p → AwaitsAfter a.number old.coordinator c.due)
+        (left : (number : ℕ) → has_waited number c.later ≡ true → has_waited number old.coordinator.later ≡ true)
+        (goes_on : (loses : Bool) (k : Known) (p : Pair Event) (o : Opened) (other : ℕ) → loses ≡ false → Knows loses old.coordinator k → HearsAwaited old.coordinator a.number a.step a.reply k p → opened_by old.coordinator.txn old.coordinator.due ≡ Some o
+        → (awaits_number other old.coordinator.due && not (a.number == other)) ≡ true → GoesOnBy (first_changed (awaits_at a.number) (back_with a.number a.reply) o.call.wave) c.due)
+        (joins : (loses : Bool) (k : Known) (p : Pair Event) (request : Request) (other : ℕ) → Knows loses old.coordinator k → HearsAwaited old.coordinator a.number a.step a.reply k p → request_sent a.number k.sent ≡ Some request → is_heartbeat request ≡ false
+        → has_waited other old.coordinator.later ≡ true → awaits_number other c.due ≡ true → SendsNoMore c.due → ⊥)
+        (ends : (o : Opened) (answer : Answer) (asked : ℕ) (next : OpenCall) → opened_by old.coordinator.txn old.coordinator.due ≡ Some o → o.call.purpose ≡ purposes.LastBeat answer asked → c.due ≡ dues.Call next → ⊥)
+        (comes : (loses : Bool) (k : Known) (p : Pair Event) (o : Opened) → Knows loses old.coordinator k → HearsAwaited old.coordinator a.number a.step a.reply k p → opened_by old.coordinator.txn old.coordinator.due ≡ Some o → goes_by_sequence o.call.purpose ≡ false
+        → ComesOf (first_changed (awaits_at a.number) (back_with a.number a.reply) o.call.wave) c.due)
+        (session : c.session ≡ old.coordinator.session) (splits : c.splits ≡ old.coordinator.splits) (pipelines : c.pipelining ≡ old.coordinator.pipelining) where
+      it-is : HearsAwaited old.coordinator a.number a.step a.reply k p
+      it-is = hears-awaited whole
 
-    heard_to : IsHeardTo k a.number a.reply h
-    heard_to = record { numbered = refl; asked = by.said; told = refl; kind = kind by.request by.said; past = past by.request by.said }
+      knows_learnt : Knows false c (learn p k)
+      knows_learnt = learns false k p calls.one.knows it-is
 
-    more : HasMore k (known_of d.log.part.own) [] (h ∷ [])
-    more = record {
-      sent = ap (λ (x : Known). x.sent) known_is ∙ sym (append-nil k.sent);
-      sent_now = ap (λ (x : Known). x.sent_now) known_is ∙ sym (append-nil k.sent_now);
-      heard = ap (λ (x : Known). x.heard) known_is;
-      heard_now = ap (λ (x : Known). x.heard_now) known_is;
-    }
+      knows_then : Knows false c (known_of d.log.part.own)
+      knows_then = subst (Knows false c) (sym learnt) knows_learnt
 
-    plain : goal_in by.request ≡ None
-    unfolding by by-it
-    plain = let kind = for-call a there-first in no_goal by.request (plain_kind kind.s.call by.request kind.kind)
+      after : AwaitsAfter a.number old.coordinator c.due
+      after = waits false k p refl calls.one.knows it-is
 
-    least : (n : ℕ) → awaits_number n old.coordinator.due ≡ true → a.number ≤ n
-    least n waits = least_on_way old.desk a d.replies calls.track heard.first n (sym (calls.way n) ∙ waits)
+      on_by : (other : ℕ) → (awaits_number other old.coordinator.due && not (a.number == other)) ≡ true → GoesOnBy (first_changed (awaits_at a.number) (back_with a.number a.reply) o.o.call.wave) c.due
+      on_by other on = goes_on false k p o.o other refl calls.one.knows it-is o.opened on
 
-    once : AreHeardOnce (known_of d.log.part.own)
-    once = heard_once d heard.track (subst IsApartNow (sym known_is) (apart_heard h k calls.apart))
+      silent_then : (n : ℕ) → is_on_way n d ≡ true → SendsNoMore c.due
+      silent_then n on =
+          heard_silent old.coordinator c k (with_heard h k) h calls.one.knows waited (whole.silent a.number on-way) after on_by n (still_awaited n on)
+        where
+          still_awaited : (n : ℕ) → is_on_way n d ≡ true → (awaits_number n old.coordinator.due && not (a.number == n)) ≡ true
+          still_awaited n on =
+              let was : (is_on_way n old.desk && not (a.number == n)) ≡ true = sym (heard.way n) ∙ on in
+              ap (λ b. b && not (a.number == n)) (awaited-of n (and_first (is_on_way n old.desk) (not (a.number == n)) was)) ∙ and_last (is_on_way n old.desk) (not (a.number == n)) was
 
-    -- the call goes on
-    pub heard_open : ((k : Known) (p : Pair Event) → Knows old.coordinator k → HearsAwaited old.coordinator a.number a.step a.reply k p → Knows c (learn p k))
-        → ((k : Known) (other : ℕ) → Knows old.coordinator k → awaits_number a.number old.coordinator.due ≡ true → awaits_number other c.due ≡ (awaits_number other old.coordinator.due && not (a.number == other)))
-        → c.session ≡ old.coordinator.session → c.splits ≡ old.coordinator.splits → IsWholeOut old → Comes → HasOpenCall heard_then reading
-    heard_open learns waits session splits whole comes = record {
-      track = heard.track;
-      one = one_on old.desk d old.coordinator c (p ∷ []) grown_heard calls.one session splits (subst (Knows c) (sym learnt) (learns k p calls.one.knows hears-awaited));
-      way = λ n. waits k n calls.one.knows waited ∙ (ap (λ b. b && not (a.number == n)) (calls.way n) ∙ sym (heard.way n));
-      call = calls.call;
-      opened = ap (λ (k : Known). k.statement) known_is ∙ calls.opened;
-      apart = subst IsApartNow (sym known_is) (apart_heard h k calls.apart);
-      kinds = λ n q on said.
-          let is = calls.kinds n q (and_left (is_on_way n old.desk) (not (a.number == n)) (sym (heard.way n) ∙ on)) (ap (λ (x : Known). request_sent n x.sent) (sym known_is) ∙ said) in
-          record { s = is.s; opened = ap (λ (x : Known). x.statement) known_is ∙ is.opened; kind = is.kind };
-      waiting = left_on;
-      goes_out = λ ends. absurd (ends_otherwise old.desk.log.part.own d.log.part.own p grown_heard.own (λ sends. sends) ends);
-      turn =
-          heard_turn old.coordinator c k (known_of d.log.part.own) h calls.one.knows calls.turn waited heard_to more plain (whole.silent a.number on-way) least once (λ o opened. comes k p o calls.one.knows hears-awaited opened) (ap (λ (x : Known). x.sent_now) known_is);
-    }
+      not_rolled : (n : ℕ) → has_waited n old.coordinator.later ≡ true → awaits_number n c.due ≡ true → (waits_aside n old.desk ≡ true) ⊎ (call_of k ≡ Some call_variants.Rollback) → waits_aside n old.desk ≡ true
+      not_rolled n has on (inl aside) = aside
+      not_rolled n has on (inr rolls) = (
+          let w = wait_said old.coordinator k o.o.call o.at n has in
+          absurd (rollback_awaits_none c (known_of d.log.part.own) n knows_then on (ap call_of known_is ∙ rolls) (wait_of old.coordinator k o.o.call o.at n has).put.request (ap (λ (x : Known). request_sent n x.sent) known_is ∙ w.0) w.1))
 
-    -- the wave stays whole
-    pub heard_whole : ((k : Known) (other : ℕ) → Knows old.coordinator k → awaits_number a.number old.coordinator.due ≡ true → awaits_number other c.due ≡ (awaits_number other old.coordinator.due && not (a.number == other))) → Comes → IsWholeOut old → IsWholeOut heard_then
-    heard_whole waits comes whole =
-        whole_heard old heard_then h (ap (λ (l : LogMeaning C). l.head.splits) heard.entered.stored) known_is (λ n on. and_left (is_on_way n old.desk) (not (a.number == n)) (sym (heard.way n) ∙ on))
-        (λ n on.
-        heard_silent old.coordinator c k (known_of d.log.part.own) h calls.one.knows calls.turn waited heard_to more plain (whole.silent a.number on-way) least once (λ o opened. comes k p o calls.one.knows hears-awaited opened) (ap (λ (x : Known). x.sent_now) known_is) n
-        (waits k n calls.one.knows waited ∙ (ap (λ b. b && not (a.number == n)) (calls.way n) ∙ (sym (heard.way n) ∙ on)))) whole
+      way_is : (n : ℕ) → is_on_way n d ≡ (awaits_number n c.due && not (waits_aside n d))
+      way_is n = heard.way n ∙ (ap (λ b. b && not (a.number == n)) (calls.way n) ∙ elim after [
+        | inl same ↦
+            swap (awaits_number n old.coordinator.due) (waits_aside n old.desk) (a.number == n)
+            ∙ (ap (λ b. b && not (waits_aside n old.desk)) (sym (same n)) ∙ ap (λ b. awaits_number n c.due && not b) (sym (aside_back n)))
+        | inr (none, outbox) ↦
+            (swap (awaits_number n old.coordinator.due) (waits_aside n old.desk) (a.number == n) ∙ ap (λ b. b && not (waits_aside n old.desk)) (none n))
+            ∙ sym (none_and (awaits_number n c.due) (waits_aside n d) (λ on. aside_back n ∙ not_rolled n (outbox n on) on (calls.aside.waits n (outbox n on))))
+      ])
+
+      apart_then : IsApartNow (known_of d.log.part.own)
+      apart_then = subst IsApartNow (sym known_is) (apart_heard h k calls.apart)
+
+      outside_then : is_outside calls.call ≡ true → (known_of d.log.part.own).is_open ≡ false
+      outside_then outside = ap (λ (k : Known). k.is_open) known_is ∙ calls.outside outside
+
+      sent_then : All (IsHeardOrAway heard_then) (known_of d.log.part.own).sent_now
+      sent_then = subst (λ k. All (IsHeardOrAway heard_then) k.sent_now) (sym known_is) (All-weaker (IsHeardOrAway old) (IsHeardOrAway heard_then) on k.sent_now calls.sent)
+        where
+          pushed : (m : Sent) → is_heard k.heard_now m ≡ true → is_heard (known_of d.log.part.own).heard_now m ≡ true
+          pushed m is = ap (λ (k : Known). is_heard k.heard_now m) known_is ∙ (list_any-append (λ (g : Heard). g.number == m.number) k.heard_now (h ∷ []) ∙ ap (λ b. b || list_any (λ (g : Heard). g.number == m.number) (h ∷ [])) is)
+
+          last : (m : Sent) → (a.number == m.number) ≡ true → is_heard (known_of d.log.part.own).heard_now m ≡ true
+          last m is =
+              ap (λ (k : Known). is_heard k.heard_now m) known_is ∙ (list_any-append (λ (g : Heard). g.number == m.number) k.heard_now (h ∷ []) ∙ or_right (is_heard k.heard_now m) (list_any (λ (g : Heard). g.number == m.number) (h ∷ [])) (ap (λ b. b || false) is))
+
+          by_number : (m : Sent) → (b : Bool) → (a.number == m.number) ≡ b → is_on_way m.number old.desk ≡ true → IsHeardOrAway heard_then m
+          by_number m true is on = inl (last m is)
+          by_number m false is on = inr (inl (heard.way m.number ∙ (ap (λ b. is_on_way m.number old.desk && not b) is ∙ ap (λ b. b && true) on)))
+
+          on : (m : Sent) → IsHeardOrAway old m → IsHeardOrAway heard_then m
+          on m (inl now) = inl (pushed m now)
+          on m (inr (inl way)) = by_number m (a.number == m.number) refl way
+          on m (inr (inr told)) = absurd (let e : dues.Call o.o.call ≡ dues.Tell answers.Written = sym o.due ∙ told.1 in cc e)
+
+      epoch_then : (n : ℕ) → waits_aside n d ≡ true → IsOfOpenEpoch (known_of d.log.part.own) n
+      epoch_then n aside =
+          subst (λ k. IsOfOpenEpoch k n) (sym known_is)
+          (epoch_same k (with_heard h k) n (txn_heard k.sent (Some h)) (λ t. (refl, refl)) refl (λ t opened. first_mapped (txn_heard k.sent (Some h)) k.is_open k.txns t opened) (calls.aside.epoch n (sym (aside_back n) ∙ aside)))
+
+      aside_then : HasAsideInCall heard_then
+      aside_then = record {
+        waits = λ n waiting. elim (calls.aside.waits n (left n waiting)) [ inl aside ↦ inl (aside_back n ∙ aside) | inr rolls ↦ inr (ap call_of known_is ∙ rolls) ];
+        why = λ n aside. aside_why heard_then heard.track knows_then (record { call = calls.call; reading = reading }) opened_then outside_then apart_then sent_then n aside (epoch_then n aside);
+        epoch = epoch_then;
+      }
+
+      -- what waits in the outbox was sent before the call
+      before : (n : ℕ) → has_waited n old.coordinator.later ≡ true → list_any (λ (m : Sent). m.number == n) k.sent_now ≡ false
+      before n waiting = waits_before old reading calls o.o.call o.due o.at n waiting
+
+      joins_then : SendsNoMore c.due → (n : ℕ) → awaits_number n c.due ≡ true → waits_aside n d ≡ true → EndsUnheard d.log.part.own
+      joins_then silent n on aside = by (is_heartbeat by-request) refl
+        where
+          by-request : Request
+          by-request = (by-it a there-first).request
+
+          has : has_waited n old.coordinator.later ≡ true
+          has = elim after [
+            | inl same ↦ absurd (
+                let was : (awaits_number n old.coordinator.due && not (a.number == n)) ≡ true = sym (same n) ∙ on in
+                let none : waits_aside n old.desk ≡ false = whole.joined a.number on-way n (and_first (awaits_number n old.coordinator.due) (not (a.number == n)) was) in
+                let e : true ≡ false = sym (sym (aside_back n) ∙ aside) ∙ none in
+                cc e)
+            | inr (none, outbox) ↦ outbox n on
+          ]
+
+          by : (b : Bool) → is_heartbeat by-request ≡ b → EndsUnheard d.log.part.own
+          by true beats = subst EndsUnheard (sym own-is) (unheard_beat old.desk.log.part.own p a.number a.step refl by-request (ap (λ (own : List (Pair Event)). request_sent a.number (known_of own).sent) (sym own-is) ∙ (ap (λ (k : Known). request_sent a.number k.sent) known_is ∙ (by-it a there-first).said)) beats)
+          by false other = absurd (joins false k p by-request n calls.one.knows it-is (by-it a there-first).said other has on silent)
+
+      -- the call goes on
+      pub heard_open : HasOpenCall heard_then reading
+      heard_open = record {
+        track = heard.track;
+        one = one_on old.desk d old.coordinator c (p ∷ []) grown_heard calls.one session splits pipelines knows_then;
+        way = way_is;
+        aside = aside_then;
+        sent = sent_then;
+        call = calls.call;
+        opened = opened_then;
+        outside = outside_then;
+        apart = apart_then;
+        kinds = λ n q on said. awaited_kind c (known_of d.log.part.own) n q knows_then (and_first (awaits_number n c.due) (not (waits_aside n d)) (sym (way_is n) ∙ on)) said;
+        waiting = left_on;
+        goes_out = λ ends. absurd (ends_otherwise old.desk.log.part.own d.log.part.own p own-is (λ sends. sends) ends);
+        joins = joins_then;
+        behind = subst (WaitsBehindHeard (IsWaitedFor c)) (sym own-is) (behind_heard old.coordinator c old.desk.log.part.own p h calls.one.knows o.o.call o.at waited by.said (ap known_of (sym own-is) ∙ known_is) after left calls.behind);
+        turn =
+            subst (λ now. KeepsTurn c.pipelining now c.due) (sym known_is)
+            (heard_turn old.coordinator c k h calls.one.knows (subst (Knows false c) known_is knows_then) pipelines waited calls.turn heard_to (for-call a there-first) (whole.silent a.number on-way) (least-of whole a d.replies heard.first) once after on_by
+            (λ isnt. comes false k p o.o calls.one.knows it-is o.opened isnt) (λ answer asked next is. ends o.o answer asked next o.opened is) before);
+      }
+
+      joined_then : (n : ℕ) → is_on_way n d ≡ true → (number : ℕ) → awaits_number number c.due ≡ true → waits_aside number d ≡ false
+      joined_then n on number waits_it = elim after [
+        | inl same ↦
+            let was : (awaits_number number old.coordinator.due && not (a.number == number)) ≡ true = sym (same number) ∙ waits_it in
+            aside_back number ∙ whole.joined a.number on-way number (and_first (awaits_number number old.coordinator.due) (not (a.number == number)) was)
+        | inr (none, outbox) ↦ absurd (
+            let was : (is_on_way n old.desk && not (a.number == n)) ≡ true = sym (heard.way n) ∙ on in
+            let awaits : (awaits_number n old.coordinator.due && not (a.number == n)) ≡ true = ap (λ b. b && not (a.number == n)) (awaited-of n (and_first (is_on_way n old.desk) (not (a.number == n)) was)) ∙ and_last (is_on_way n old.desk) (not (a.number == n)) was in
+            let e : true ≡ false = sym awaits ∙ none n in
+            cc e)
+      ]
+
+      next_h : IsAwaitedNext old.coordinator k h
+      next_h = record { waited = waited; whole = whole.silent a.number on-way; said = by.said }
+
+      -- the wave stays whole
+      pub heard_whole : IsWholeOut heard_then
+      heard_whole =
+          whole_heard old heard_then h (ap (λ (l : LogMeaning C). l.head.splits) heard.entered.stored) known_is (λ n on. and_first (is_on_way n old.desk) (not (a.number == n)) (sym (heard.way n) ∙ on)) silent_then joined_then
+          (puts_heard old heard_then h p own-is refl known_is heard.way by.said (awaited_out old.coordinator k h calls.one.knows next_h) (way-of whole a there-first) whole.puts) whole
 
     pub heard_goes : c.session ≡ old.coordinator.session → HasGoneInside old heard_then
     heard_goes session = record {

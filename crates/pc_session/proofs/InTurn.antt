@@ -8,7 +8,8 @@ use Rattle.std.specs.List.{list_any}
 use Rattle.pc_base.specs.declared.actor.ActorId.TheVariants as actors
 use Rattle.pc_base.specs.declared.limits.TheConstants.{MOST_CONFLICTS}
 use Rattle.pc_base.specs.declared.transaction.TxnId.{TxnId}
-use Rattle.pc_coord.specs.Coming.{AreUnsent, ComesOf}
+use Rattle.pc_call.specs.declared.call.OpenCall.{OpenCall}
+use Rattle.pc_coord.specs.Coming.{ComesOf}
 use Rattle.pc_coord.specs.declared.due.Due.{Due}
 use Rattle.pc_coord.specs.declared.due.Due.TheVariants as dues
 use Rattle.pc_desk.proofs.Counting.{counts_any}
@@ -27,12 +28,13 @@ use Rattle.pc_proto.specs.Replies.{holder_in, is_conflict}
 use Rattle.pc_proto.specs.Requests.{goal_in}
 use Rattle.pc_session.proofs.Away.{any_there}
 use Rattle.pc_session.proofs.Lost.{row_by}
-use Rattle.pc_session.proofs.WaveTurns.{IsBelowNumber, IsBlockedFirst, IsFromNumber, apart_again, apart_unsent, first_blocked, numbers_again, numbers_back, numbers_none, numbers_sent, order_again, order_back, order_sent, order_unsent, sends_no_more, sends_none, sent_none, unsent_none}
+use Rattle.pc_session.proofs.WaveTurns.{AreAllToSend, IsBelowNumber, IsBlockedFirst, IsFromNumber, IsUnlost, apart_again, apart_unsent, first_blocked, numbers_again, numbers_back, numbers_none, numbers_sent, order_again, order_back, order_sent, order_unsent, sends_no_more, sends_none, sent_none, unsent_none}
 use Rattle.pc_session.specs.InCall.{IsApartNow}
 use Rattle.pc_session.specs.InTurn.{HasRoundsInTurn, KeepsTurn, number_met, numbers_met}
 use Rattle.pc_wave.proofs.Changed.{found_all}
 use Rattle.pc_wave.proofs.Lists.{at_least-before, at_least-fewer}
 use Rattle.pc_wave.proofs.Rounds.{due_round, first_found}
+use Rattle.pc_wave.specs.Course.{Course}
 use Rattle.pc_wave.specs.declared.message.Message.{Message}
 use Rattle.pc_wave.specs.declared.message.Progress.{Progress}
 use Rattle.pc_wave.specs.declared.message.Progress.TheVariants as progresses
@@ -124,7 +126,7 @@ get_behind : {X : Type 0} (xs : List X) (y : X) (ys : List X) → slice_get (xs 
 get_behind xs y ys = ap (λ l. slice_get l (length xs)) (sym (append_assoc xs (y ∷ []) ys)) ∙ get_append (xs ++ y ∷ []) ys (length xs) y (get_push xs y)
 
 -- of two elements one stands before the other
-pairwise_two : {X : Type 0} (R : X → X → Type 0) (xs : List X) (a b : X) → Pairwise R xs → Contains xs a → Contains xs b → (a ≡ b → ⊥) → R a b ⊎ R b a
+pub pairwise_two : {X : Type 0} (R : X → X → Type 0) (xs : List X) (a b : X) → Pairwise R xs → Contains xs a → Contains xs b → (a ≡ b → ⊥) → R a b ⊎ R b a
 pairwise_two R [] a b pairs one other differ = absurd (contains_nil a one)
 pairwise_two R (x ∷ xs) a b pairs one other differ = by (contains_cons x xs a one) (contains_cons x xs b other) (λ here there. pairwise_two R xs a b pairs.1 here there differ)
   where
@@ -156,7 +158,7 @@ same_heard k once a b one other same = once_only (λ (h : Heard). h.number == a.
 
 -- ---- the call was asked
 
-pub turn_asked : (k : Known) (ms : List Message) → k.sent_now ≡ [] → k.heard_now ≡ [] → AreUnsent ms → HasRoundsInTurn k ms
+pub turn_asked : (k : Known) (ms : List Message) → k.sent_now ≡ [] → k.heard_now ≡ [] → AreAllToSend ms → HasRoundsInTurn k ms
 turn_asked k ms sent heard unsent =
     let none : rounds_begun k ≡ 0 = ap (λ l. length (filter (λ (m : Sent). is_some (goal_in m.request)) l)) sent in
     let quiet : pushes_answered k ≡ 0 = ap (λ l. length (filter (λ (h : Heard). is_some (goal_in h.request)) l)) heard in
@@ -173,8 +175,8 @@ turn_asked k ms sent heard unsent =
     }
 
 -- no holder blocks it yet
-pub asked_block : (splits : List (List ℕ)) (session : ℕ) (k : Known) (s : Statement) (answer : Answer) → k.heard_now ≡ [] → MayTellIn splits (actors.Session session) k s answer → TellsFirstBlock k answer
-asked_block splits session k s (answers.Blocked holder) heard may =
+pub asked_block : (splits : List (List ℕ)) (session : ℕ) (k : Known) (s : Statement) (answer : Answer) → k.heard_now ≡ [] → MayTellIn splits (actors.Session session) k s answer → (b : Bool) → TellsFirstBlock b k answer
+asked_block splits session k s (answers.Blocked holder) heard may b =
     let row : MayTellBlocked k s holder =
     row_by _ _ (answers.Blocked holder ≡ answers.NoTxn) (answers.Blocked holder ≡ answers.Clock s.reading) (MayTellBlocked k s holder) (λ e. absurd cc) (λ e. absurd cc) may in
     absurd (elim row.why [ inl refused ↦ none_any refused | inr eight ↦ none_eight eight ])
@@ -184,26 +186,27 @@ asked_block splits session k s (answers.Blocked holder) heard may =
 
     none_eight : MetEight holder k.heard_now → ⊥
     none_eight eight = at_least-fewer (IsConflictOf eight.request) 1 MOST_CONFLICTS [] (omega arith) (subst (AtLeast (IsConflictOf eight.request) MOST_CONFLICTS) heard eight.eight)
-asked_block splits session k s answer heard may = tt
+asked_block splits session k s answer heard may true = tt
+asked_block splits session k s answer heard may false = tt
 
 -- ---- a message goes out
 
 -- what is sent next goes out once no conflict is left
-pub conflicts_over : (k : Known) (ms : List Message) (request : Request) → step_of ms ≡ steps.Send request → HasRoundsInTurn k ms → AreConflictsOver k
-conflicts_over k ms request due t = record { all = t.begun ∙ sym (ap length t.conflicts ∙ ap (λ l. length (t.done ++ l)) none ∙ ap length (append-nil t.done)); over = t.over }
+pub conflicts_over : (k : Known) (ms : List Message) (request : Request) → All IsUnlost ms → step_of ms ≡ steps.Send request → HasRoundsInTurn k ms → AreConflictsOver k
+conflicts_over k ms request unlost due t = record { all = t.begun ∙ sym (ap length t.conflicts ∙ ap (λ l. length (t.done ++ l)) none ∙ ap length (append-nil t.done)); over = t.over }
   where
     empty : (hs : List Heard) → map (λ (h : Heard). h.number) hs ≡ [] → hs ≡ []
     empty [] e = refl
     empty (h ∷ hs) e = absurd cc
 
     none : t.waiting ≡ []
-    none = empty t.waiting (t.numbers ∙ numbers_none ms (sends_none ms request due t.apart))
+    none = empty t.waiting (t.numbers ∙ numbers_none ms (sends_none ms request unlost due t.apart))
 
-pub turn_sent : (k now : Known) (m : Sent) (ms : List Message) → now.sent_now ≡ k.sent_now ++ m ∷ [] → now.heard_now ≡ k.heard_now → goal_in m.request ≡ None → step_of ms ≡ steps.Send m.request → All (λ x. IsBelowNumber m.number x.progress) ms → HasRoundsInTurn k ms
+pub turn_sent : (k now : Known) (m : Sent) (ms : List Message) → now.sent_now ≡ k.sent_now ++ m ∷ [] → now.heard_now ≡ k.heard_now → goal_in m.request ≡ None → All IsUnlost ms → step_of ms ≡ steps.Send m.request → All (λ x. IsBelowNumber m.number x.progress) ms → HasRoundsInTurn k ms
     → HasRoundsInTurn now (first_changed is_to_send (sent_under m.number) ms)
-turn_sent k now m ms sent heard plain due below t =
+turn_sent k now m ms sent heard plain unlost due below t =
     let P : Sent → Bool = λ x. is_some (goal_in x.request) in
-    let none : list_any is_in_conflict ms ≡ false = sends_none ms m.request due t.apart in
+    let none : list_any is_in_conflict ms ≡ false = sends_none ms m.request unlost due t.apart in
     let zero_more : one_if (P m) ≡ 0 = ap (λ g. one_if (is_some g)) plain in
     let same : rounds_begun now ≡ rounds_begun k =
     (let a : rounds_begun now ≡ length (filter P (k.sent_now ++ m ∷ [])) = ap (λ l. length (filter P l)) sent in let b = passing_more P k.sent_now m in omega (arith, a, b, zero_more)) in
@@ -342,28 +345,28 @@ met_under (m ∷ ms) number there = elim (either (number_met m.progress) (number
   | inr later ↦ let h = met_under ms number later in record { m = h.m; conflict = h.conflict; there = contains_tail m ms h.m h.there; met = h.met }
 ]
 
-met_as_far : (k : Known) (m : Message) (number : ℕ) (conflict : Reply) → m.progress ≡ progresses.Met number conflict → MessageStands k m → MetConflict k number m.request conflict
-met_as_far k m number conflict met s = subst (λ p. IsAsFar k m.request m.conflicts p) met s.as_far
+pub met_as_far : (co : Course) (k : Known) (m : Message) (number : ℕ) (conflict : Reply) → m.progress ≡ progresses.Met number conflict → MessageStands co k m → MetConflict co k number m.request conflict
+met_as_far co k m number conflict met s = subst (λ p. IsAsFar co k m.request m.conflicts p) met s.as_far
 
 -- the reply that a message met was heard in the call
-met_there : (k : Known) (number : ℕ) (request : Request) (conflict : Reply) (met : MetConflict k number request conflict) → Contains k.heard_now met.h
-met_there k number request conflict met = subst (λ l. Contains l met.h) (sym met.whole) (Contains-append_right met.before (met.h ∷ met.later) met.h (contains_head met.h met.later))
+pub met_there : (co : Course) (k : Known) (number : ℕ) (request : Request) (conflict : Reply) (met : MetConflict co k number request conflict) → Contains k.heard_now met.h
+met_there co k number request conflict met = subst (λ l. Contains l met.h) (sym met.whole) (Contains-append_right met.before (met.h ∷ met.later) met.h (contains_head met.h met.later))
 
-holder_is : (conflict : Reply) (meta : TxnMeta) (ts : ℕ) (key : List ℕ) (holder : TxnId) → conflict ≡ replies.Conflict meta ts key → holder_in conflict ≡ Some holder → meta.id ≡ holder
+pub holder_is : (conflict : Reply) (meta : TxnMeta) (ts : ℕ) (key : List ℕ) (holder : TxnId) → conflict ≡ replies.Conflict meta ts key → holder_in conflict ≡ Some holder → meta.id ≡ holder
 holder_is conflict meta ts key holder is whose = same_Some meta.id holder (sym (ap holder_in is) ∙ whose)
 
-module _ (k : Known) (ms : List Message) (t : HasRoundsInTurn k ms) (stands : WaveStands k ms) (once : AreHeardOnce k) (holder : TxnId) (b : IsBlockedFirst ms holder) where
-  first : WaitsFirst k ms t b.number
+module _ (co : Course) (k : Known) (ms : List Message) (t : HasRoundsInTurn k ms) (stands : WaveStands co k ms) (once : AreHeardOnce k) (holder : TxnId) (b : IsBlockedFirst ms holder) where
+  abbrev first : WaitsFirst k ms t b.number
   first = waits_first k ms t b.m b.number b.conflict b.found b.met
 
-  stands_m : MessageStands k b.m
-  stands_m = found_all is_in_conflict (MessageStands k) ms b.m b.found stands.stand
+  stands_m : MessageStands co k b.m
+  stands_m = found_all is_in_conflict (MessageStands co k) ms b.m b.found stands.stand
 
-  met_m : MetConflict k b.number b.m.request b.conflict
-  met_m = met_as_far k b.m b.number b.conflict b.met stands_m
+  abbrev met_m : MetConflict co k b.number b.m.request b.conflict
+  met_m = met_as_far co k b.m b.number b.conflict b.met stands_m
 
   same_h : first.h ≡ met_m.h
-  same_h = same_heard k once first.h met_m.h first.there (met_there k b.number b.m.request b.conflict met_m) (first.numbered ∙ sym met_m.reply.numbered)
+  same_h = same_heard k once first.h met_m.h first.there (met_there co k b.number b.m.request b.conflict met_m) (first.numbered ∙ sym met_m.reply.numbered)
 
   asked_h : first.h.request ≡ b.m.request
   asked_h = ap (λ (x : Heard). x.request) same_h ∙ met_m.reply.asked
@@ -405,9 +408,9 @@ module _ (k : Known) (ms : List Message) (t : HasRoundsInTurn k ms) (stands : Wa
           let most = once b.number in
           omega (arith, one, it, whole, sum, front, here, low, most)
       by false not =
-          let stands_other : MessageStands k other.m = All-contains (MessageStands k) ms other.m stands.stand other.there in
-          let met_other = met_as_far k other.m r.number other.conflict other.met stands_other in
-          let same_r : r ≡ met_other.h = same_heard k once r met_other.h heard_r (met_there k r.number other.m.request other.conflict met_other) (sym met_other.reply.numbered) in
+          let stands_other : MessageStands co k other.m = All-contains (MessageStands co k) ms other.m stands.stand other.there in
+          let met_other = met_as_far co k other.m r.number other.conflict other.met stands_other in
+          let same_r : r ≡ met_other.h = same_heard k once r met_other.h heard_r (met_there co k r.number other.m.request other.conflict met_other) (sym met_other.reply.numbered) in
           let asked : r.request ≡ other.m.request = ap (λ (x : Heard). x.request) same_r ∙ met_other.reply.asked in
           let two : IsSameRequest b.m.request other.m.request = subst (IsSameRequest b.m.request) asked same in
           let apart : b.m ≡ other.m → ⊥ = λ e.
@@ -446,23 +449,27 @@ module _ (k : Known) (ms : List Message) (t : HasRoundsInTurn k ms) (stands : Wa
     why = inl (refl, eighth_here);
   }
 
--- what comes of the call's messages keeps the turn
-pub turn_comes : (k : Known) (ms : List Message) (due : Due) → ComesOf ms due → HasRoundsInTurn k ms → WaveStands k ms → AreHeardOnce k → KeepsTurn k due
-turn_comes k ms dues.Nothing comes t stands once = tt
-turn_comes k ms (dues.Call call) (inl same) t stands once = subst (HasRoundsInTurn k) (sym same) t
-turn_comes k ms (dues.Call call) (inr (unsent, none)) t stands once = record {
-  done = t.done;
-  waiting = t.waiting;
-  conflicts = t.conflicts;
-  begun = t.begun;
-  answered = t.answered;
-  over = t.over;
-  numbers = t.numbers ∙ (numbers_none ms none ∙ sym (numbers_none call.wave (unsent_none call.wave unsent)));
-  order = order_unsent call.wave unsent;
-  apart = apart_unsent call.wave unsent;
-}
-turn_comes k ms (dues.Tell answer) comes t stands once = by answer comes
+-- what comes of the call's messages keeps the turn, where nothing waited in the outbox
+pub turn_comes : (co : Course) (k : Known) (ms : List Message) (due : Due) → ComesOf ms due → ((call : OpenCall) → due ≡ dues.Call call → (call.wave ≡ ms) ⊎ AreAllToSend call.wave) → HasRoundsInTurn k ms → WaveStands co k ms → AreHeardOnce k → KeepsTurn false k due
+turn_comes co k ms dues.Nothing comes anew t stands once = tt
+turn_comes co k ms (dues.Call call) comes anew t stands once = by comes (anew call refl)
   where
-    by : (answer : Answer) → ComesOf ms (dues.Tell answer) → TellsFirstBlock k answer
-    by (answers.Blocked holder) blocks = eighth_blocks k ms t stands once holder (first_blocked ms holder blocks)
+    by : ComesOf ms (dues.Call call) → (call.wave ≡ ms) ⊎ AreAllToSend call.wave → HasRoundsInTurn k call.wave
+    by (inl same) new = subst (HasRoundsInTurn k) (sym same) t
+    by comes (inl same) = subst (HasRoundsInTurn k) (sym same) t
+    by (inr (way, none)) (inr unsent) = record {
+      done = t.done;
+      waiting = t.waiting;
+      conflicts = t.conflicts;
+      begun = t.begun;
+      answered = t.answered;
+      over = t.over;
+      numbers = t.numbers ∙ (numbers_none ms none ∙ sym (numbers_none call.wave (unsent_none call.wave unsent)));
+      order = order_unsent call.wave unsent;
+      apart = apart_unsent call.wave unsent;
+    }
+turn_comes co k ms (dues.Tell answer) comes anew t stands once = by answer comes
+  where
+    by : (answer : Answer) → ComesOf ms (dues.Tell answer) → TellsFirstBlock false k answer
+    by (answers.Blocked holder) blocks = eighth_blocks co k ms t stands once holder (first_blocked ms holder blocks)
     by answer blocks = tt

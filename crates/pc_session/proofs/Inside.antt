@@ -1,5 +1,5 @@
 -- How a session goes on by parts of its own list.
-use Rattle.std.proofs.Common.{◌≡◌, ℕ, inl, inr, All, List, [], ◌++◌, refl, sym, ap, subst, ◌∙◌}
+use Rattle.std.proofs.Common.{false, ◌≡◌, ℕ, inl, inr, All, List, [], ◌++◌, refl, sym, ap, subst, ◌∙◌}
 use Rattle.std.proofs.lemmas.List.{map-append}
 use Rattle.std.proofs.lemmas.List.Elements.{All-append, All-nil}
 use Rattle.pc_base.specs.declared.actor.ActorId.TheVariants as actors
@@ -39,12 +39,12 @@ module _ {C : Type 0} (old new : LogMeaning C) (part : List (Pair Event)) (grown
   stopped_same = ap (λ (l : LogMeaning C). l.stopped) grown.rest
 
 -- the desk and the coordinator are still of one session
-pub one_on : {C : Type 0} (old new : DeskMeaning C) (c d : Coordination) (part : List (Pair Event)) → HasGrownBy old.log new.log part → AreOfOneSession old c → d.session ≡ c.session → d.splits ≡ c.splits → Knows d (known_of new.log.part.own)
-    → AreOfOneSession new d
-one_on old new c d part grown one session splits knows = record {
+pub one_on : {C : Type 0} (old new : DeskMeaning C) (c d : Coordination) (part : List (Pair Event)) → HasGrownBy old.log new.log part → AreOfOneSession old c → d.session ≡ c.session → d.splits ≡ c.splits → d.pipelining ≡ c.pipelining
+    → Knows false d (known_of new.log.part.own) → AreOfOneSession new d
+one_on old new c d part grown one session splits pipelines knows = record {
   whose = id_same old.log new.log part grown ∙ (one.whose ∙ ap (λ n. actors.Session n) (sym session));
   splits = splits ∙ (one.splits ∙ ap (λ (h : Head). h.splits) (sym (head_same old.log new.log part grown)));
-  unpiped = piped_same old.log new.log part grown ∙ one.unpiped;
+  piped = piped_same old.log new.log part grown ∙ (one.piped ∙ sym pipelines);
   knows = knows;
 }
 

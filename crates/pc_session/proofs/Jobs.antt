@@ -3,7 +3,12 @@ use Rattle.std.proofs.Common.{◌≡◌, ℕ, ◌+◌, ◌≤◌, max, Bool, tru
 use Rattle.std.proofs.lemmas.List.Elements.{All-cons, All-head, All-nil, All-tail, All-weaker}
 use Rattle.pc_base.specs.declared.transaction.TxnId.{TxnId}
 use Rattle.pc_coord.specs.declared.job.Job.{Job}
-use Rattle.pc_coord.specs.Knows.{MayFinishJob}
+use Rattle.pc_coord.specs.OwnMessages.{LeavesAlone}
+use Rattle.pc_call.specs.Finished.{MayBeCommittedFirst}
+use Rattle.pc_call.specs.Sending.{IsSendable}
+use Rattle.pc_call.specs.Setting.{Setting}
+use Rattle.pc_coord.specs.Knows.{MayFinishJob, left_for}
+use Rattle.pc_follows.specs.CallMessages.{IsForCall}
 use Rattle.pc_history.specs.declared.pair.Pair.{Pair}
 use Rattle.pc_proto.specs.declared.call.Call.{Call}
 use Rattle.pc_proto.specs.declared.event.Event.{Event}
@@ -15,10 +20,12 @@ use Rattle.pc_resolve.proofs.Finishing.{finish_later}
 use Rattle.pc_resolve.specs.ResolveKnows.{sends_put_by}
 use Rattle.pc_resolve.specs.Resolving.{Resolving}
 use Rattle.pc_world.specs.Exchange.{is_message}
+use Rattle.pc_world.specs.Send.Settling.{MayFinish}
 use Rattle.pc_world.specs.Known.{Known, first_if, learn, open_txn}
 use Rattle.pc_world.specs.Known.Traffic.{Heard}
 use Rattle.pc_world.specs.Known.Transactions.{Txn, txn_heard, txn_sent}
 use Rattle.pc_exchange.specs.Jobs.{IsFinishable}
+use Rattle.pc_session.proofs.FirstCommits.{first_asked, first_heard, first_sent, settles_on}
 use Rattle.pc_session.proofs.Knowing.{with_asked, with_heard, with_sent}
 
 -- The transactions are numbered up to how many were begun, and each of the jobs may be done.
@@ -85,7 +92,7 @@ puts_no_job k request job puts left = by (is_put_by job.meta.id request) refl
     by false e = e
 
 -- a message more, which puts nothing of the job's transaction
-finish_message : (k : Known) (p : Pair Event) (job : Job) → IsTrue (is_message p.entry.event) → sends_put_by job.meta.id p.entry.event ≡ false → MayFinishJob k job → MayFinishJob (learn p k) job
+finish_message : (k : Known) (p : Pair Event) (job : Job) → IsTrue (is_message p.entry.event) → sends_put_by job.meta.id p.entry.event ≡ false → MayFinish k job.meta.id job.meta.anchor job.fate job.locks → MayFinish (learn p k) job.meta.id job.meta.anchor job.fate job.locks
 finish_message k p job message none may =
     let m : Resolving = record { id = job.meta.id; anchor = job.meta.anchor; fate = job.fate; locks = job.locks; settled = 0; removed = false } in
     let M : Pair Event → Type 0 = λ p. IsTrue (is_message p.entry.event) in
@@ -97,18 +104,18 @@ finish_message k p job message none may =
 pub jobs_asked : (jobs : List Job) (k : Known) (call : Call) (reading : ℕ) → HasJobs jobs k → HasJobs jobs (with_asked call reading k)
 jobs_asked jobs k call reading has = record {
   numbers = has.numbers;
-  left = All-weaker (IsFinishable k) (IsFinishable (with_asked call reading k)) (λ job left. record { may = on job left.may; begun = left.begun; other = left.other }) jobs has.left;
+  left = All-weaker (IsFinishable k) (IsFinishable (with_asked call reading k)) (λ job left. record { may = on job left; begun = left.begun; other = left.other }) jobs has.left;
 }
   where
-    on : (job : Job) → MayFinishJob k job → MayFinishJob (with_asked call reading k) job
-    on job may = record {
+    on : (job : Job) → IsFinishable k job → MayFinishJob (with_asked call reading k) job
+    on job left = settles_on k (with_asked call reading k) job (λ may. record {
       resolve = may.resolve;
       stamps = All-weaker (λ ts. ts ≤ k.top + 1) (λ ts. ts ≤ max k.top 0 + 1) (λ ts low. omega (arith, low)) (fate_stamps job.fate) may.stamps;
       anchored = may.anchored;
       shown = may.shown;
       final = may.final;
       must = may.must;
-    }
+    }) (λ ts first. first_asked k job left ts first call reading) left.may
 
 -- The session's next messages leave its transactions their names.
 pub record LeavesTxns (k next : Known) : Type 0 where
@@ -131,17 +138,19 @@ jobs_message jobs k p leaves on has =
     }
 
 -- a message is sent
-pub jobs_sent : (jobs : List Job) (k : Known) (p : Pair Event) (number range : ℕ) (request : Request) → p.entry.event ≡ events.Send number range request → learn p k ≡ with_sent number range request k → PutsOpen k request → HasJobs jobs k → HasJobs jobs (learn p k)
-jobs_sent jobs k p number range request says e puts has =
+pub jobs_sent : (jobs : List Job) (k : Known) (p : Pair Event) (set : Setting) (session number range : ℕ) (request : Request) → IsSendable set session k request → p.entry.event ≡ events.Send number range request → learn p k ≡ with_sent number range request k → PutsOpen k request → ((job : Job) → IsFinishable k job → LeavesAlone job.meta.id request) → HasJobs jobs k → HasJobs jobs (learn p k)
+jobs_sent jobs k p set session number range request may says e puts alone has =
     jobs_message jobs k p
     (subst (LeavesTxns k) (sym e) (record { begun = refl; is_open = refl; same = same_map (txn_sent request) (λ t. refl) k.txns }))
-    (λ job left. finish_message k p job (ap is_message says) (ap (sends_put_by job.meta.id) says ∙ puts_no_job k request job puts left) left.may)
+    (λ job left. settles_on k (learn p k) job (finish_message k p job (ap is_message says) (ap (sends_put_by job.meta.id) says ∙ puts_no_job k request job puts left))
+    (λ ts first. subst (λ now. MayBeCommittedFirst now ts (left_for job)) (sym e) (first_sent k job left ts first number range request (alone job left))) left.may)
     has
 
 -- a reply is heard
-pub jobs_heard : (jobs : List Job) (k : Known) (p : Pair Event) (number step : ℕ) (h : Heard) → p.entry.event ≡ events.Hear number step → learn p k ≡ with_heard h k → HasJobs jobs k → HasJobs jobs (learn p k)
-jobs_heard jobs k p number step h says e has =
+pub jobs_heard : (jobs : List Job) (k : Known) (p : Pair Event) (pipelining : Bool) (number step : ℕ) (h : Heard) → IsForCall pipelining k h.request → p.entry.event ≡ events.Hear number step → learn p k ≡ with_heard h k → ((job : Job) → IsFinishable k job → LeavesAlone job.meta.id h.request) → HasJobs jobs k → HasJobs jobs (learn p k)
+jobs_heard jobs k p pipelining number step h kind says e alone has =
     jobs_message jobs k p
     (subst (LeavesTxns k) (sym e) (record { begun = refl; is_open = refl; same = same_map (txn_heard k.sent (Some h)) (λ t. refl) k.txns }))
-    (λ job left. finish_message k p job (ap is_message says) (ap (sends_put_by job.meta.id) says) left.may)
+    (λ job left. settles_on k (learn p k) job (finish_message k p job (ap is_message says) (ap (sends_put_by job.meta.id) says))
+    (λ ts first. subst (λ now. MayBeCommittedFirst now ts (left_for job)) (sym e) (first_heard k job left ts first h (alone job left))) left.may)
     has

@@ -6,7 +6,7 @@ use Rattle.std.proofs.lemmas.List.Elements.{All-cons, All-head, All-push, All-ta
 use Rattle.std.specs.Option.{option_or, option_to_list}
 use Rattle.pc_base.specs.declared.transaction.TxnId.{TxnId}
 use Rattle.pc_coord.specs.declared.job.Job.{Job}
-use Rattle.pc_coord.specs.Knows.{MayFinishJob, messages_left, messages_of_job}
+use Rattle.pc_coord.specs.Knows.{MayFinishJob, commit_in_front, messages_left, messages_of_job}
 use Rattle.pc_lists.proofs.Lists.{contains_cons, contains_head, contains_tail}
 use Rattle.pc_proto.specs.declared.answer.Answer.{Answer}
 use Rattle.pc_proto.specs.declared.answer.Answer.TheVariants as answers
@@ -23,6 +23,7 @@ use Rattle.pc_world.specs.Known.Transactions.{Txn, txn_told}
 use Rattle.pc_world.specs.Send.Settling.{MustSettle}
 use Rattle.pc_world.specs.Views.{fate_heard}
 use Rattle.pc_exchange.specs.Jobs.{IsFinishable}
+use Rattle.pc_session.proofs.FirstCommits.{first_told, settles_on}
 use Rattle.pc_session.proofs.Jobs.{AreBegun, AreSameTxns, HasJobs, IsNotOpen, same_itself, same_numbers, same_other}
 use Rattle.pc_session.proofs.Knowing.{with_told}
 
@@ -110,18 +111,17 @@ module _ (k : Known) where
   -- a job that waits may be done after the answer
   left_told : (answer : Answer) (job : Job) → BeginsNext k.begun answer → IsFinishable k job → IsFinishable (with_told answer k) job
   left_told answer job begins left =
-      let may = left.may in
       let more = begun_more answer in
       let low = left.begun in
       record {
-        may = record {
+        may = settles_on k (with_told answer k) job (λ may. record {
           resolve = may.resolve;
           stamps = All-weaker (λ ts. ts ≤ k.top + 1) (λ ts. ts ≤ max k.top (max (greatest_of (answer_stamps answer)) 0) + 1) (λ ts low. omega (arith, low)) (fate_stamps job.fate) may.stamps;
           anchored = may.anchored;
           shown = may.shown;
           final = may.final;
           must = must_told answer job.meta.id may.shown job.locks begins left.begun may.must;
-        };
+        }) (λ ts first. first_told k job left ts first answer) left.may;
         begun = omega arith;
         other = other_told answer job.meta.id begins left.begun left.other;
       }
@@ -140,12 +140,21 @@ none_last : {X : Type 0} (xs : List X) (x : X) → xs ++ x ∷ [] ≡ [] → ⊥
 none_last [] x e = cc
 none_last (y ∷ xs) x e = cc
 
+-- The messages of a job before the last, and the last.
+abbrev front_of : Job → List Request
+front_of job = commit_in_front job.staged job ++ map (λ lock. requests.Resolve job.meta.id lock job.fate) job.locks
+
+abbrev last_of : Job → Request
+last_of job = requests.Remove job.meta.id job.meta.anchor
+
+whole_of : (job : Job) → messages_of_job job ≡ front_of job ++ last_of job ∷ []
+whole_of job = sym (append_assoc (commit_in_front job.staged job) (map (λ lock. requests.Resolve job.meta.id lock job.fate) job.locks) (last_of job ∷ []))
+
 removed_of : (job : Job) (t : Txn) (fate : Option Fate) (anchor : Option (List ℕ)) → messages_of_job job ≡ settling t fate anchor → job.meta.id ≡ t.id
-removed_of job t None anchor e = absurd (none_last (map (λ lock. requests.Resolve job.meta.id lock job.fate) job.locks) (requests.Remove job.meta.id job.meta.anchor) e)
-removed_of job t (Some fate) None e = absurd (none_last (map (λ lock. requests.Resolve job.meta.id lock job.fate) job.locks) (requests.Remove job.meta.id job.meta.anchor) e)
+removed_of job t None anchor e = absurd (none_last (front_of job) (last_of job) (sym (whole_of job) ∙ e))
+removed_of job t (Some fate) None e = absurd (none_last (front_of job) (last_of job) (sym (whole_of job) ∙ e))
 removed_of job t (Some fate) (Some anchor) e =
-    let same = last_same (map (λ lock. requests.Resolve job.meta.id lock job.fate) job.locks) (map (λ lock. requests.Resolve t.id lock fate) t.locks)
-    (requests.Remove job.meta.id job.meta.anchor) (requests.Remove t.id anchor) e in
+    let same = last_same (front_of job) (map (λ lock. requests.Resolve t.id lock fate) t.locks) (last_of job) (requests.Remove t.id anchor) (sym (whole_of job) ∙ e) in
     cc
 
 -- The job is one of the open transaction, which the answer ends.
@@ -157,7 +166,7 @@ pub record EndsBy (k : Known) (answer : Answer) (job : Job) : Type 0 where
   pub begun : begun_told answer k.begun ≡ k.begun
 
 ends_if : (k : Known) (job : Job) (t : Option Txn) → messages_of_job job ≡ left_if k t → (u : Txn) × (t ≡ Some u) × (job.meta.id ≡ u.id)
-ends_if k job None e = absurd (none_last (map (λ lock. requests.Resolve job.meta.id lock job.fate) job.locks) (requests.Remove job.meta.id job.meta.anchor) e)
+ends_if k job None e = absurd (none_last (front_of job) (last_of job) (sym (whole_of job) ∙ e))
 ends_if k job (Some t) e = (t, refl, removed_of job t (fate_heard t.id k.heard) t.anchor e)
 
 fate_after_commit : (o : Option Fate) (other : Fate) → (fate : Fate) × (option_or o (Some other) ≡ Some fate)
@@ -166,25 +175,24 @@ fate_after_commit (Some fate) other = (fate, refl)
 
 -- the last message of what is left names the transaction, whatever stands before its settling
 ends_committed : (k : Known) (job : Job) (ts : ℕ) (t : Option Txn) → messages_of_job job ≡ left_committed ts k t → (u : Txn) × (t ≡ Some u) × (job.meta.id ≡ u.id)
-ends_committed k job ts None e = absurd (none_last (map (λ lock. requests.Resolve job.meta.id lock job.fate) job.locks) (requests.Remove job.meta.id job.meta.anchor) e)
+ends_committed k job ts None e = absurd (none_last (front_of job) (last_of job) (sym (whole_of job) ∙ e))
 ends_committed k job ts (Some t) e =
     let f = fate_after_commit (fate_heard t.id k.heard) (fates.Committed t.epoch ts) in
     (t, refl, by t.anchor f.0 (e ∙ ap (λ o. committing k t ts t.anchor ++ settling t o t.anchor) f.1))
   where
     by : (anchor : Option (List ℕ)) (fate : Fate) → messages_of_job job ≡ committing k t ts anchor ++ settling t (Some fate) anchor → job.meta.id ≡ t.id
-    by None fate e = absurd (none_last (map (λ lock. requests.Resolve job.meta.id lock job.fate) job.locks) (requests.Remove job.meta.id job.meta.anchor) e)
+    by None fate e = absurd (none_last (front_of job) (last_of job) (sym (whole_of job) ∙ e))
     by (Some anchor) fate e =
         let front = committing k t ts (Some anchor) in
         let locks = map (λ lock. requests.Resolve t.id lock fate) t.locks in
-        let same = last_same (map (λ lock. requests.Resolve job.meta.id lock job.fate) job.locks) (front ++ locks)
-        (requests.Remove job.meta.id job.meta.anchor) (requests.Remove t.id anchor) (e ∙ sym (append_assoc front locks (requests.Remove t.id anchor ∷ []))) in
+        let same = last_same (front_of job) (front ++ locks) (last_of job) (requests.Remove t.id anchor) (sym (whole_of job) ∙ (e ∙ sym (append_assoc front locks (requests.Remove t.id anchor ∷ [])))) in
         cc
 
 pub ends_by : (answer : Answer) (k : Known) (job : Job) → messages_of_job job ≡ left_by answer k → EndsBy k answer job
 ends_by (answers.Committed id ts) k job e = let t = ends_committed k job ts (open_txn k) e in record { t = t.0; opened = t.1; named = t.2; closed = refl; begun = refl }
 ends_by (answers.Aborted why) k job e = let t = ends_if k job (open_txn k) e in record { t = t.0; opened = t.1; named = t.2; closed = refl; begun = refl }
 ends_by (answers.RolledBack id why) k job e = let t = ends_if k job (open_txn k) e in record { t = t.0; opened = t.1; named = t.2; closed = refl; begun = refl }
-ends_by answer k job e = absurd (none_last (map (λ lock. requests.Resolve job.meta.id lock job.fate) job.locks) (requests.Remove job.meta.id job.meta.anchor) e)
+ends_by answer k job e = absurd (none_last (front_of job) (last_of job) (sym (whole_of job) ∙ e))
 
 open_number : (begun : ℕ) (b : Bool) (ts : List Txn) (t : Txn) → AreBegun begun ts → first_if b ts ≡ Some t → t.id.number ≤ begun
 open_number begun b [] t a is = absurd cc
@@ -228,5 +236,6 @@ pub jobs_after_told : (jobs : List Job) (k : Known) (answer : Answer) (left : Op
 jobs_after_told jobs k answer None is = ap (λ messages. with_job messages (map messages_of_job jobs)) (sym is) ∙ sym (ap (map messages_of_job) (append-nil jobs))
 jobs_after_told jobs k answer (Some job) is =
     ap (λ messages. with_job messages (map messages_of_job jobs)) (sym is)
-    ∙ (with_last (map (λ lock. requests.Resolve job.meta.id lock job.fate) job.locks) (requests.Remove job.meta.id job.meta.anchor) (map messages_of_job jobs)
-    ∙ sym (map-append messages_of_job jobs (job ∷ [])))
+    ∙ (ap (λ messages. with_job messages (map messages_of_job jobs)) (whole_of job)
+    ∙ (with_last (front_of job) (last_of job) (map messages_of_job jobs)
+    ∙ (ap (λ messages. map messages_of_job jobs ++ messages ∷ []) (sym (whole_of job)) ∙ sym (map-append messages_of_job jobs (job ∷ [])))))

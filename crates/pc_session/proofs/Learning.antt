@@ -1,5 +1,5 @@
 -- A session that learns of a commit: it asks, meets the commit where its token was given, and is told.
-use Rattle.std.proofs.Common.{◌≡◌, ℕ, ◌+◌, ◌<◌, ◌≤◌, ◌⊎◌, ◌==◌, max, Bool, true, false, All, Contains, inl, inr, is_some, List, [], ◌∷◌, ◌++◌, Option, None, Some, refl, sym, ap, subst, ◌∙◌, arith}
+use Rattle.std.proofs.Common.{◌≡◌, ℕ, ◌+◌, ◌<◌, ◌≤◌, ◌⊎◌, ◌==◌, max, Bool, true, false, All, Contains, inl, inr, is_some, List, [], ◌∷◌, ◌++◌, Option, None, Some, refl, sym, ap, subst, ◌∙◌, arith, ◌&&◌, not, IsTrue}
 use Rattle.std.proofs.lemmas.Bool.{and_from, eq-eqb}
 use Rattle.std.proofs.lemmas.List.{append-nil, map-append}
 use Rattle.std.proofs.lemmas.List.Elements.{All-cons, All-contains, All-nil, All-weaker, Contains-append_left, Contains-push}
@@ -10,7 +10,7 @@ use Rattle.pc_coord.specs.Coordination.{Coordination, awaits_number, next_at, ne
 use Rattle.pc_coord.specs.declared.due.Due.TheVariants as dues
 use Rattle.pc_coord.specs.declared.job.Job.{Job}
 use Rattle.pc_coord.specs.declared.next.Next.TheVariants as nexts
-use Rattle.pc_coord.specs.Knows.{IsTellable, Knows, KnowsAt, MayFinishJob}
+use Rattle.pc_coord.specs.Knows.{IsHeld, IsOutboxOf, IsTellable, Knows, KnowsAt, MayFinishJob, learned}
 use Rattle.pc_coord.specs.Meeting.{MeetsCommit, known_met, meeting}
 use Rattle.pc_desk.proofs.Entering.{local_does}
 use Rattle.pc_desk.proofs.Making.{added, known_after_it}
@@ -25,9 +25,9 @@ use Rattle.pc_exchange.proofs.Growing.{grows_both, grows_else, grows_entered, gr
 use Rattle.pc_exchange.specs.Ending.{BreaksOff}
 use Rattle.pc_exchange.specs.Growing.{HasGrownBy}
 use Rattle.pc_exchange.specs.Jobs.{IsFinishable}
+use Rattle.pc_history.specs.declared.view.Known.{Known as KnownEntry}
 use Rattle.pc_history.proofs.Callers.{knows-known, names-known}
 use Rattle.pc_history.specs.declared.pair.Pair.{Pair}
-use Rattle.pc_history.specs.declared.view.Known.{Known as KnownEntry}
 use Rattle.pc_history.specs.Parts.{knowledge, named_by, told}
 use Rattle.pc_lists.proofs.Lists.{all_from_contains}
 use Rattle.pc_proto.specs.declared.answer.Answer.{Answer}
@@ -36,30 +36,39 @@ use Rattle.pc_proto.specs.declared.call.Call.TheVariants as calls
 use Rattle.pc_proto.specs.declared.event.Event.{Event}
 use Rattle.pc_proto.specs.declared.event.Event.TheVariants as events
 use Rattle.pc_proto.specs.Stamps.{event_stamps, fate_stamps, greatest_of}
+use Rattle.pc_session.proofs.FirstCommits.{first_met, settles_on}
 use Rattle.pc_session.proofs.Inside.{halted_on, one_on}
 use Rattle.pc_session.proofs.Jobs.{HasJobs}
-use Rattle.pc_session.proofs.Keeping.{keeps_as}
+use Rattle.pc_session.proofs.Keeping.{keeps_as, hears_none}
 use Rattle.pc_session.proofs.Knowing.{jobs_then}
 use Rattle.pc_session.proofs.Stepping.{part_whose}
-use Rattle.pc_session.specs.InCall.{HasOpenCall, HasTold, IsApartNow}
+use Rattle.pc_session.specs.InCall.{HasOpenCall, HasTold, IsApartNow, IsHeardOrAway, IsWaitedFor}
 use Rattle.pc_session.specs.InTurn.{KeepsTurn, WaitsForReplies}
 use Rattle.pc_session.specs.Learning.{AreOfBrokenLearn, AreOfToldLearn, AreOfUntoldLearn, HasAskedToLearn, HasLearnt, HasMet, IsLearning, answer_to_learn, met_at}
-use Rattle.pc_session.specs.Session.{HasLeft, IsAtRest, SessionMeaning, session_knows}
+use Rattle.pc_session.specs.Session.{HasLeft, IsAtRest, SessionMeaning, session_knows, waits_aside}
 use Rattle.pc_session.specs.Token.{IsOfCommit, TokenMeaning}
 use Rattle.pc_turns.specs.Order.{IsInBetween, events_of}
+use Rattle.pc_txn.specs.declared.txn.OpenTxn.{OpenTxn}
 use Rattle.pc_world.specs.Caused.{TellsCommitted}
 use Rattle.pc_world.specs.Known.{Known, known_after, known_of, learn}
 use Rattle.pc_world.specs.Known.Traffic.{Heard, Sent}
 use Rattle.pc_world.specs.Named.{is_tell}
 use Rattle.pc_world.specs.Run.{protocol}
+use Rattle.pc_call.specs.Outbox.{has_waited}
+use Rattle.pc_exchange.proofs.Waves.{puts_where_heard}
+use Rattle.pc_follows.specs.PipelinedRounds.{MakesRounds}
+use Rattle.pc_follows.specs.Proving.{IsAwaitedPut, WritesLast}
+use Rattle.pc_follows.specs.WaveOrder.{AreAwaitedHeard, EndsPutWaves}
+use Rattle.pc_session.proofs.Strays.{is_open_by}
+use Rattle.pc_world.specs.Tell.Refusal.{is_heard}
 
 -- ---- what is due is told
 
 pub next_told : (c : Coordination) (answer : Answer) → c.due ≡ dues.Tell answer → next_of c ≡ nexts.Tell answer
-next_told c answer due = ap (next_at c.txn) due
+next_told c answer due = ap (next_at c.pipelining c.txn) due
 
-pub tellable_now : (c : Coordination) (k : Known) (answer : Answer) → Knows c k → c.due ≡ dues.Tell answer → IsTellable c k answer
-tellable_now c k answer knows due = let now : KnowsAt c k (dues.Tell answer) = subst (KnowsAt c k) due knows.stands in now.may
+pub tellable_now : (c : Coordination) (k : Known) (answer : Answer) → Knows false c k → c.due ≡ dues.Tell answer → IsTellable false c k answer
+tellable_now c k answer knows due = let now : KnowsAt false c k (dues.Tell answer) = subst (KnowsAt false c k) due knows.stands in now.may
 
 -- ---- what a session knows once it met a commit
 
@@ -78,39 +87,53 @@ met_is id step ts k e told =
 jobs_met : (jobs : List Job) (k : Known) (id : TxnId) (ts : ℕ) → HasJobs jobs k → HasJobs jobs (known_met id ts k)
 jobs_met jobs k id ts has = record {
   numbers = has.numbers;
-  left = All-weaker (IsFinishable k) (IsFinishable (known_met id ts k)) (λ job left. record { may = on job left.may; begun = left.begun; other = left.other }) jobs has.left;
+  left = All-weaker (IsFinishable k) (IsFinishable (known_met id ts k)) (λ job left. record { may = on job left; begun = left.begun; other = left.other }) jobs has.left;
 }
   where
-    on : (job : Job) → MayFinishJob k job → MayFinishJob (known_met id ts k) job
-    on job may = record {
+    on : (job : Job) → IsFinishable k job → MayFinishJob (known_met id ts k) job
+    on job left = settles_on k (known_met id ts k) job (λ may. record {
       resolve = may.resolve;
       stamps = All-weaker (λ t. t ≤ k.top + 1) (λ t. t ≤ max k.top (max 0 (greatest_of (ts ∷ []))) + 1) (λ t low. omega (arith, low)) (fate_stamps job.fate) may.stamps;
       anchored = may.anchored;
       shown = may.shown;
       final = may.final;
       must = may.must;
-    }
+    }) (λ at first. first_met k job left at first id ts) left.may
 
 apart_met : (k : Known) (id : TxnId) (ts : ℕ) → IsApartNow k → IsApartNow (known_met id ts k)
 apart_met k id ts apart = record { before = apart.before; split = apart.split; apart = apart.apart; said = apart.said }
 
+meets_last : (b : Bool) (k : Known) (id : TxnId) (step : ℕ) → WritesLast b k (events.Meet id step)
+meets_last true k id step = tt
+meets_last false k id step = tt
+
+meets_rounds : (b : Bool) (k : Known) (id : TxnId) (step : ℕ) → MakesRounds b k (events.Meet id step)
+meets_rounds true k id step = tt
+meets_rounds false k id step = tt
+
 -- a meeting keeps what a session's events keep
-keeps_met : (cut : List (List ℕ)) (own : List (Pair Event)) (id : TxnId) (step : ℕ) → KeepsSessionStep cut false own (events.Meet id step) None
-keeps_met cut own id step = record {
+keeps_met : (cut : List (List ℕ)) (pipelining : Bool) (own : List (Pair Event)) (id : TxnId) (step : ℕ) → KeepsSessionStep cut pipelining own (events.Meet id step) None
+keeps_met cut pipelining own id step = record {
   wire = tt;
   early_tell = tt;
-  early_proof = λ asked staged. tt;
+  early_proof = tt;
   written = tt;
   puts = tt;
+  proving = tt;
+  proved = tt;
+  last = meets_last pipelining (known_of own) id step;
+  behind = hears_none pipelining (known_of own);
+  stages = tt;
   resends = tt;
   calls = tt;
   beats = tt;
+  last_beats = tt;
   finishes = tt;
   aborts = tt;
   rolled_back = tt;
   writes = tt;
   refreshes = tt;
-  rounds = tt;
+  rounds = meets_rounds pipelining (known_of own) id step;
   eighth = tt;
   waves = tt;
   pieces = tt;
@@ -119,6 +142,36 @@ keeps_met cut own id step = record {
   piece_order = tt;
   oldest = tt;
 }
+
+learnt_turn : (b : Bool) (k : Known) → KeepsTurn b k (dues.Tell answers.Learnt)
+learnt_turn true k = tt
+learnt_turn false k = tt
+
+-- outside of a transaction nothing waits in the outbox, and no put is waited for
+closed_later : (c : Coordination) (k : Known) → Knows false c k → c.due ≡ dues.Tell answers.NotYet → k.is_open ≡ false → (number : ℕ) → has_waited number c.later ≡ false
+closed_later c k knows due closed number = by c.txn at.after.held at.after.outbox
+  where
+    at : KnowsAt false c k (dues.Tell answers.NotYet)
+    at = subst (KnowsAt false c k) due knows.stands
+
+    by : (txn : Option OpenTxn) → IsHeld txn (learned (events.Tell answers.NotYet) k) → IsOutboxOf false txn c.later (learned (events.Tell answers.NotYet) k) → has_waited number c.later ≡ false
+    by None held outbox = ap (has_waited number) outbox.0
+    by (Some x) held outbox = absurd (let is_open_now : k.is_open ≡ true = held.open_in.is_open in let e : true ≡ false = sym is_open_now ∙ closed in cc e)
+
+closed_awaited : (k : Known) → k.is_open ≡ false → AreAwaitedHeard k k.sent
+closed_awaited k closed =
+    all_from_contains (λ m. IsAwaitedPut k m.request → IsTrue (is_heard k.heard m)) k.sent (λ m there a. absurd (let is_open_now : k.is_open ≡ true = is_open_by k.is_open k.txns a.t a.opened in let e : true ≡ false = sym is_open_now ∙ closed in cc e))
+
+-- while a learn is open, what was set aside waits in the outbox: nothing
+pub learn_aside : {C : Type 0} (s : SessionMeaning C) (reading : ℕ) (id : TxnId) → HasOpenCall s reading → IsLearning s id → (number : ℕ) → waits_aside number s.desk ≡ has_waited number s.coordinator.later
+learn_aside s reading id calls_are learning number = by (waits_aside number s.desk) refl
+  where
+    k : Known
+    k = session_knows s
+
+    by : (b : Bool) → waits_aside number s.desk ≡ b → waits_aside number s.desk ≡ has_waited number s.coordinator.later
+    by false is = is ∙ sym (closed_later s.coordinator k calls_are.one.knows learning.due learning.closed number)
+    by true is = absurd (let of = calls_are.aside.epoch number is in let is_open_now : k.is_open ≡ true = is_open_by k.is_open k.txns of.t of.opened in let e : true ≡ false = sym is_open_now ∙ learning.closed in cc e)
 
 -- ---- the commit is met
 
@@ -142,7 +195,7 @@ module _ {C : Type 0} (old : SessionMeaning C) (reading : ℕ) (token : TokenMea
       knows-known desk_told.log.part commit.entry (subst (λ (ks : List (KnownEntry Event)). Contains (old.desk.log.part.known ++ ks) commit.entry) (sym commit.knows) (Contains-push old.desk.log.part.known commit.entry))
 
   away : (number : ℕ) → is_on_way number old.desk ≡ false
-  away number = sym (calls.way number) ∙ ap (awaits_number number) learning.due
+  away number = calls.way number ∙ ap (λ d. awaits_number number d && not (waits_aside number old.desk)) learning.due
 
   module _ (track : KeepsTrack desk_told) where
     names_it : named_by (protocol desk_told.log.head) desk_told.log.part event ≡ Some telling
@@ -160,11 +213,11 @@ module _ {C : Type 0} (old : SessionMeaning C) (reading : ℕ) (token : TokenMea
           caused = (knows_it.0, telling, knows_it.1, knows_it.2, record { at = commit.at; tell = subst (TellsCommitted token.id) (sym commit.says) refl });
           free = refl;
           no_ask = refl;
-          keeps = keeps_as l.part.id old.coordinator.session l.head.splits l.pipelining l.part.own event None calls.one.whose calls.one.unpiped (keeps_met l.head.splits l.part.own token.id token.step);
+          keeps = keeps_as l.part.id old.coordinator.session l.head.splits l.pipelining old.coordinator.pipelining l.part.own event None calls.one.whose calls.one.piped (keeps_met l.head.splits old.coordinator.pipelining l.part.own token.id token.step);
         }
 
     module _ (d : DeskMeaning C) (c : Coordination) (done : HasDone desk_told d event) (made : c ≡ meeting token.ts old.coordinator)
-        (learns : (k : Known) (p : Pair Event) (id : TxnId) (step : ℕ) → Knows old.coordinator k → MeetsCommit old.coordinator id step token.ts k p → Knows c (learn p k)) where
+        (learns : (loses : Bool) (k : Known) (p : Pair Event) (id : TxnId) (step : ℕ) → Knows loses old.coordinator k → MeetsCommit old.coordinator id step token.ts k p → Knows loses c (learn p k)) where
       abbrev p : Pair Event
       p = added desk_told.log d.log event done.entered
 
@@ -189,10 +242,10 @@ module _ {C : Type 0} (old : SessionMeaning C) (reading : ℕ) (token : TokenMea
       session_is : c.session ≡ old.coordinator.session
       session_is = ap (λ (c : Coordination). c.session) made
 
-      knows_then : Knows c (known_of d.log.part.own)
+      knows_then : Knows false c (known_of d.log.part.own)
       knows_then =
-          subst (Knows c) (sym learnt)
-          (learns k p token.id token.step calls.one.knows
+          subst (Knows false c) (sym learnt)
+          (learns false k p token.id token.step calls.one.knows
           (record { due = learning.due; asked = learning.asked; closed = learning.closed; quiet = learning.quiet; event = refl; commit = telling; named = names_it; told = commit.says }))
 
       away_then : (number : ℕ) → is_on_way number d ≡ false
@@ -203,20 +256,69 @@ module _ {C : Type 0} (old : SessionMeaning C) (reading : ℕ) (token : TokenMea
           let has : HasJobs old.jobs (known_of d.log.part.own) = subst (HasJobs old.jobs) (sym known_is) (jobs_met old.jobs k token.id token.ts (record { numbers = calls.waiting.numbers; left = calls.waiting.each })) in
           record { left = jobs_then desk_told.log d.log event done.entered ∙ calls.waiting.left; numbers = has.numbers; each = has.left }
 
+      later_is : c.later ≡ old.coordinator.later
+      later_is = ap (λ (c : Coordination). c.later) made
+
+      -- a learn is open outside of a transaction: nothing waits in the outbox
+      none_later : (number : ℕ) → has_waited number old.coordinator.later ≡ false
+      none_later number = closed_later old.coordinator k calls.one.knows learning.due learning.closed number
+
+      none_aside : (number : ℕ) → waits_aside number old.desk ≡ false
+      none_aside number = by (waits_aside number old.desk) refl
+        where
+          by : (b : Bool) → waits_aside number old.desk ≡ b → waits_aside number old.desk ≡ false
+          by false is = is
+          by true is = absurd (let of = calls.aside.epoch number is in let is_open_now : k.is_open ≡ true = is_open_by k.is_open k.txns of.t of.opened in let e : true ≡ false = sym is_open_now ∙ learning.closed in cc e)
+
+      aside_then : (number : ℕ) → waits_aside number d ≡ false
+      aside_then number = ap (λ (x : DeskMeaning C). waits_aside number x) done.rest ∙ none_aside number
+
+      no_written : old.coordinator.due ≡ dues.Tell answers.Written → ⊥
+      no_written told = let e : dues.Tell answers.NotYet ≡ dues.Tell answers.Written = sym learning.due ∙ told in cc e
+
+      sent_then : All (IsHeardOrAway met_then) (known_of d.log.part.own).sent_now
+      sent_then =
+          subst (λ k. All (IsHeardOrAway met_then) k.sent_now) (sym known_is)
+          (All-weaker (IsHeardOrAway old) (IsHeardOrAway met_then) (λ m out. elim out [
+            | inl heard ↦ inl (ap (λ (k : Known). is_heard k.heard_now m) known_is ∙ heard)
+            | inr (inl on) ↦ absurd (let e : true ≡ false = sym on ∙ away m.number in cc e)
+            | inr (inr told) ↦ absurd (no_written told.1)
+          ]) k.sent_now calls.sent)
+
+      none_waits : (number : ℕ) → IsWaitedFor c number → ⊥
+      none_waits number (inl on) = let e : false ≡ true = ap (awaits_number number) (sym due_is) ∙ on in cc e
+      none_waits number (inr later) = let e : true ≡ false = sym later ∙ (ap (has_waited number) later_is ∙ none_later number) in cc e
+
       -- the call goes on
       pub met_open : HasOpenCall met_then reading
       met_open = record {
         track = done.track;
-        one = one_on old.desk d old.coordinator c (p ∷ []) grown_met calls.one session_is (ap (λ (c : Coordination). c.splits) made) knows_then;
-        way = λ number. ap (awaits_number number) due_is ∙ sym (away_then number);
+        one = one_on old.desk d old.coordinator c (p ∷ []) grown_met calls.one session_is (ap (λ (c : Coordination). c.splits) made) (ap (λ (c : Coordination). c.pipelining) made) knows_then;
+        way = λ number. away_then number ∙ sym (ap (λ due. awaits_number number due && not (waits_aside number d)) due_is);
+        aside = record {
+          waits = λ number has. absurd (let e : true ≡ false = sym (ap (has_waited number) (sym later_is) ∙ has) ∙ none_later number in cc e);
+          why = λ number is. absurd (let e : true ≡ false = sym is ∙ aside_then number in cc e);
+          epoch = λ number is. absurd (let e : true ≡ false = sym is ∙ aside_then number in cc e);
+        };
+        sent = sent_then;
         call = calls.call;
         opened = ap (λ (k : Known). k.statement) known_is ∙ calls.opened;
+        outside = λ outside. ap (λ (k : Known). k.is_open) known_is ∙ calls.outside outside;
         apart = subst IsApartNow (sym known_is) (apart_met k token.id token.ts calls.apart);
         kinds = λ number request on. absurd (let e : true ≡ false = sym on ∙ away_then number in cc e);
         waiting = left_on;
         goes_out = λ ends. subst WaitsForReplies (sym due_is) tt;
-        turn = subst (KeepsTurn (known_of d.log.part.own)) (sym due_is) tt;
+        joins = λ silent number on is. absurd (let e : true ≡ false = sym is ∙ aside_then number in cc e);
+        behind = λ number request waits. absurd (none_waits number waits);
+        turn = subst (KeepsTurn c.pipelining (known_of d.log.part.own)) (sym due_is) (learnt_turn c.pipelining (known_of d.log.part.own));
       }
+
+      -- what waits in the outbox was set aside, and no wave of puts is half heard
+      pub met_aside : (number : ℕ) → waits_aside number d ≡ has_waited number c.later
+      met_aside number = aside_then number ∙ sym (ap (has_waited number) later_is ∙ none_later number)
+
+      pub met_puts : EndsPutWaves old.desk.log.part.own → EndsPutWaves d.log.part.own
+      met_puts puts = puts_where_heard d.log.part.own (closed_awaited (known_of d.log.part.own) (ap (λ (k : Known). k.is_open) known_is ∙ learning.closed))
 
       -- and the commit alone was met
       pub met_goes : HasMet old met_then token.id token.step
@@ -289,12 +391,18 @@ module _ {C : Type 0} (v old : SessionMeaning C) (same : v ≡ old) (reading : �
   meet_may = subst (λ (x : DeskMeaning C). MayEnter x.log (events.Meet parts.id parts.step)) (sym took) (may_meet v reading parts calls-v learning-v commit-v track-v)
 
   module _ (d : DeskMeaning C) (c : Coordination) (done : HasDone t d (events.Meet parts.id parts.step)) (made : c ≡ meeting parts.ts v.coordinator)
-      (learns : (k : Known) (p : Pair Event) (id : TxnId) (step : ℕ) → Knows v.coordinator k → MeetsCommit v.coordinator id step parts.ts k p → Knows c (learn p k)) where
+      (learns : (loses : Bool) (k : Known) (p : Pair Event) (id : TxnId) (step : ℕ) → Knows loses v.coordinator k → MeetsCommit v.coordinator id step parts.ts k p → Knows loses c (learn p k)) where
     done-v : HasDone (desk_told v reading parts calls-v learning-v commit-v) d (events.Meet parts.id parts.step)
     done-v = subst (λ (x : DeskMeaning C). HasDone x d (events.Meet parts.id parts.step)) took done
 
     pub meet_calls : HasOpenCall (record v { desk = d; coordinator = c }) reading
     meet_calls = met_open v reading parts calls-v learning-v commit-v track-v d c done-v made learns
+
+    pub meet_aside : (number : ℕ) → waits_aside number d ≡ has_waited number c.later
+    meet_aside = met_aside v reading parts calls-v learning-v commit-v track-v d c done-v made learns
+
+    pub meet_puts : EndsPutWaves old.desk.log.part.own → EndsPutWaves d.log.part.own
+    meet_puts puts = met_puts v reading parts calls-v learning-v commit-v track-v d c done-v made learns (subst (λ (s : SessionMeaning C). EndsPutWaves s.desk.log.part.own) (sym same) puts)
 
     pub meet_met : HasMet old (record v { desk = d; coordinator = c }) token.id token.step
     meet_met =

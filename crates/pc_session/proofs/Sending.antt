@@ -1,49 +1,81 @@
--- A session in its call once it sent the message that its coordinator gave.
-use Rattle.std.proofs.Common.{◌≡◌, ℕ, ◌+◌, true, false, Bool, ◌==◌, ◌||◌, List, [], ◌∷◌, ◌++◌, Some, None, refl, sym, ap, subst, ◌∙◌, if◌then◌else◌, is_some, Option}
-use Rattle.std.proofs.lemmas.Bool.{eqb-true}
-use Rattle.std.proofs.lemmas.List.Elements.{All-cons, All-nil}
+-- A session in its call once it sent the message that its coordinator gave, which goes with the next wave.
+use Rattle.std.proofs.Common.{◌≡◌, ℕ, ◌+◌, true, false, Bool, ◌==◌, ◌||◌, ◌&&◌, not, inl, inr, All, List, [], ◌∷◌, ◌++◌, Some, None, refl, sym, ap, subst, ◌∙◌, if◌then◌else◌, is_some, Option, ◌<◌}
+use Rattle.std.proofs.lemmas.Bool.{eq-eqb, eqb-true}
+use Rattle.std.proofs.lemmas.List.Elements.{All-cons, All-nil, All-push, All-weaker, All-contains, Contains-append_left}
 use Rattle.pc_base.specs.declared.actor.ActorId.TheVariants as actors
+use Rattle.pc_call.specs.Outbox.{has_waited}
 use Rattle.pc_call.specs.Sending.{IsSendable}
-use Rattle.pc_coord.specs.Coordination.{Coordination, awaits_number, next_of, opened_by}
+use Rattle.pc_coord.proofs.OwnMessages.{next_alone}
+use Rattle.pc_coord.specs.Coordination.{Coordination, awaits_number, next_of, opened_by, request_next, setting_of}
 use Rattle.pc_coord.specs.declared.due.Due.TheVariants as dues
 use Rattle.pc_coord.specs.declared.due.Opened.{Opened}
 use Rattle.pc_coord.specs.declared.next.Next.TheVariants as nexts
 use Rattle.pc_coord.specs.Events.{SendsDue}
-use Rattle.pc_coord.specs.Knows.{AwaitsNone, Knows}
-use Rattle.pc_desk.proofs.Counting.{said_new}
+use Rattle.pc_coord.specs.Knows.{Knows}
+use Rattle.pc_coord.specs.declared.job.Job.{Job}
+use Rattle.pc_coord.specs.OwnMessages.{LeavesAlone}
+use Rattle.pc_exchange.specs.Jobs.{IsFinishable}
 use Rattle.pc_desk.proofs.Making.{added, known_after_it}
+use Rattle.pc_desk.proofs.Waves.{unheard_push}
 use Rattle.pc_desk.specs.Desk.{DeskMeaning, HasSentNext, MaySendNow, is_on_way}
 use Rattle.pc_desk.specs.OwnLog.{LogMeaning}
+use Rattle.pc_desk.specs.Waiting.{EndsUnheard}
+use Rattle.pc_exchange.proofs.AnsweredAlive.{first_mapped}
 use Rattle.pc_exchange.proofs.Growing.{grows_both, grows_else, grows_entered}
 use Rattle.pc_exchange.proofs.Waves.{ends_on}
 use Rattle.pc_exchange.specs.Growing.{HasGrownBy}
 use Rattle.pc_history.specs.declared.pair.Pair.{Pair}
+use Rattle.pc_proto.specs.declared.answer.Answer.TheVariants as answers
 use Rattle.pc_proto.specs.declared.event.Event.{Event}
 use Rattle.pc_proto.specs.declared.event.Event.TheVariants as events
 use Rattle.pc_proto.specs.declared.request.Request.{Request}
-use Rattle.pc_session.proofs.Away.{answered_now, apart_sent, none_heard_next, said_before}
+use Rattle.pc_session.proofs.Again.{and_first}
+use Rattle.pc_session.proofs.AsideInCall.{aside_why, epoch_sent}
+use Rattle.pc_session.proofs.Away.{apart_sent, next_not_aside, none_heard_next}
+use Rattle.pc_session.proofs.BothTurns.{sent_turn, unmet_sends}
 use Rattle.pc_session.proofs.Due.{puts_open}
+use Rattle.pc_session.proofs.Goes.{goes_in_turn}
 use Rattle.pc_session.proofs.Inside.{one_on}
 use Rattle.pc_session.proofs.Jobs.{HasJobs, jobs_sent}
-use Rattle.pc_session.proofs.Keeping.{keeps_as, keeps_sent, no_goal, plain_kind}
+use Rattle.pc_session.proofs.Keeping.{keeps_as, keeps_sent, no_push}
 use Rattle.pc_session.proofs.Knowing.{jobs_then, known_sent, of_send, with_sent}
-use Rattle.pc_session.proofs.PieceTurns.{next_piece}
-use Rattle.pc_session.proofs.TurnsOn.{over_now, sent_goes_out, sent_turn}
-use Rattle.pc_session.specs.InCall.{HasGoneInside, HasOpenCall, IsApartNow}
-use Rattle.pc_session.specs.Session.{HasLeft, SessionMeaning, session_knows}
+use Rattle.pc_session.proofs.PutWaves.{puts_sent}
+use Rattle.pc_session.proofs.TurnsOn.{IsOpenedAs, sends_of}
+use Rattle.pc_session.proofs.Wanted.{awaited_kind}
+use Rattle.pc_session.proofs.WaveTurns.{sent_none}
+use Rattle.pc_session.specs.InCall.{HasAsideInCall, HasGoneInside, HasOpenCall, IsApartNow, IsBetweenWaves, IsHeardOrAway, IsOfOpenEpoch, IsWaitedFor}
+use Rattle.pc_session.specs.InTurn.{KeepsTurn, WaitsForReplies}
+use Rattle.pc_session.specs.Session.{HasLeft, SessionMeaning, waits_aside, session_knows}
 use Rattle.pc_turns.specs.Order.{IsInBetween}
 use Rattle.pc_wave.specs.Messages.{first_changed, is_to_send, sent_under}
-use Rattle.pc_follows.specs.CallMessages.{IsForCall}
+use Rattle.std.specs.List.{list_any}
 use Rattle.pc_follows.specs.FinishingJobs.{jobs_of, without_first}
-use Rattle.pc_follows.specs.WaveOrder.{EndsWaves}
-use Rattle.pc_world.specs.Known.{Known, known_of, learn, next_number}
+use Rattle.pc_follows.specs.WaveOrder.{EndsPutWaves, EndsWaves}
+use Rattle.pc_world.specs.Known.{Known, call_of, known_of, learn, next_number}
 use Rattle.pc_world.specs.Known.Statements.{Statement}
-use Rattle.pc_world.specs.Known.Traffic.{Sent, request_sent}
+use Rattle.pc_world.specs.Known.Traffic.{Sent}
+use Rattle.pc_world.specs.Known.Transactions.{txn_sent}
 use Rattle.pc_world.specs.MaySend.{MaySendRow}
 use Rattle.pc_world.specs.RangeOf.{IsForOne}
+use Rattle.pc_world.specs.Tell.Refusal.{is_heard}
+use Rattle.pc_base.specs.declared.entry.Entry.{Entry}
+use Rattle.pc_history.specs.declared.view.Part.{Part}
+use Rattle.pc_history.specs.Parts.{knowledge, told_entries}
+use Rattle.pc_session.proofs.Behind.{behind_sending}
+use Rattle.pc_session.specs.Behind.{WaitsBehindHeard}
+use Rattle.pc_history.specs.Own.{entries_of}
+use Rattle.pc_lists.proofs.Lists.{all_from_contains, contains_map}
+use Rattle.pc_world.specs.Local.{is_outside}
+use Rattle.pc_coord.specs.Ranged.{GoesWhereItWent}
 
-module _ {C : Type 0} (old : SessionMeaning C) (reading : ℕ) (request : Request) (calls : HasOpenCall old reading) (due : next_of old.coordinator ≡ nexts.Send request)
-    (may : IsSendable old.coordinator.splits old.coordinator.session (session_knows old) request) (none : AwaitsNone old.coordinator (session_knows old) request) (one-range : IsForOne old.coordinator.splits request) (ends : EndsWaves old.desk.log.part.own) where
+-- a step above all that is known is above the own entries
+all_above : (part : Part Event) (step : ℕ) → All (λ (e : Entry Event). e.step < step) (knowledge part) → All (λ (q : Pair Event). q.entry.step < step) part.own
+all_above part step above =
+    all_from_contains (λ (q : Pair Event). q.entry.step < step) part.own (λ q there.
+    All-contains (λ (e : Entry Event). e.step < step) (knowledge part) q.entry above (Contains-append_left (entries_of part.own) (told_entries part.known) q.entry (contains_map (λ (q : Pair Event). q.entry) part.own q there)))
+
+module _ {C : Type 0} (old : SessionMeaning C) (reading : ℕ) (request : Request) (calls : HasOpenCall old reading) (due : request_next (next_of old.coordinator) ≡ Some request)
+    (may : IsSendable (setting_of false old.coordinator) old.coordinator.session (session_knows old) request) (one-range : IsForOne old.coordinator.splits request) (between : IsBetweenWaves old.desk) where
   abbrev k : Known
   k = session_knows old
 
@@ -58,10 +90,8 @@ module _ {C : Type 0} (old : SessionMeaning C) (reading : ℕ) (request : Reques
         allowed = record { row = subst (λ id. MaySendRow old.desk.log.head.splits id k request) (sym calls.one.whose) mine; stamps = may.stamps };
         one = subst (λ splits. IsForOne splits request) calls.one.splits one-range;
         keeps = λ number range.
-            keeps_as old.desk.log.part.id old.coordinator.session old.desk.log.head.splits old.desk.log.pipelining old.desk.log.part.own (events.Send number range request) None calls.one.whose calls.one.unpiped
-            (keeps_sent old.desk.log.head.splits old.desk.log.part.own number range request old.coordinator.splits old.coordinator.session may
-            (answered_now old.desk calls.track old.coordinator request calls.apart calls.way none) (over_now old.coordinator k request calls.one.knows due calls.turn)
-            (next_piece old reading request calls due may) ends);
+            keeps_as old.desk.log.part.id old.coordinator.session old.desk.log.head.splits old.desk.log.pipelining old.coordinator.pipelining old.desk.log.part.own (events.Send number range request) None calls.one.whose calls.one.piped
+            (keeps_sent old.desk.log.head.splits old.desk.log.part.own number range request old.coordinator may (goes_in_turn old reading request calls due may) between.ends between.puts);
       }
 
   module _ (d : DeskMeaning C) (c : Coordination) (number : ℕ) (sent : HasSentNext old.desk d number request) where
@@ -71,84 +101,78 @@ module _ {C : Type 0} (old : SessionMeaning C) (reading : ℕ) (request : Reques
     abbrev p : Pair Event
     p = added old.desk.log sent.sent event sent.entered
 
+    abbrev m : Sent
+    m = record { number = number; range = sent.range; request = request }
+
     -- The session after it.
     abbrev pub sent_then : SessionMeaning C
     sent_then = record old { desk = d; coordinator = c }
 
+    abbrev now : Known
+    now = known_of d.log.part.own
+
     own-is : d.log.part.own ≡ sent.sent.part.own
     own-is = ap (λ (l : LogMeaning C). l.part.own) sent.noted
 
-    known_is : known_of d.log.part.own ≡ with_sent number sent.range request k
+    pub known_is : now ≡ with_sent number sent.range request k
     known_is = ap known_of own-is ∙ known_sent old.desk.log sent.sent number sent.range request sent.entered
 
-    grown_sent : HasGrownBy old.desk.log d.log (p ∷ [])
+    pub grown_sent : HasGrownBy old.desk.log d.log (p ∷ [])
     grown_sent =
         grows_both old.desk.log sent.sent d.log (p ∷ []) [] (grows_entered old.desk.log sent.sent event sent.entered refl)
         (grows_else sent.sent d.log d.log.part.given sent.sent.part.known (sent.noted ∙ ap (λ given. record sent.sent { part = record sent.sent.part { given = given } }) (sym (ap (λ (l : LogMeaning C). l.part.given) sent.noted))) (λ x there. there))
 
-    learnt : known_of d.log.part.own ≡ learn p k
+    pub learnt : now ≡ learn p k
     learnt = ap known_of own-is ∙ known_after_it old.desk.log sent.sent event sent.entered
 
-    sends-due : SendsDue old.coordinator number sent.range request k p
-    sends-due = record { due = due; is = of_send old.desk.log sent.sent number sent.range request sent.entered; next = sent.next ∙ next-is }
+    pub sends_due : SendsDue old.coordinator number sent.range request k p
+    sends_due = record { due = due; is = of_send old.desk.log sent.sent number sent.range request sent.entered; next = sent.next ∙ next-is }
 
-    left_on : HasLeft d.log.part.own old.jobs
-    left_on =
+    pub left_of : HasLeft d.log.part.own old.jobs
+    left_of =
         let puts = puts_open k request may.own in
-        let has : HasJobs old.jobs (learn p k) = jobs_sent old.jobs k p number sent.range request refl (sym learnt ∙ known_is) puts (record { numbers = calls.waiting.numbers; left = calls.waiting.each }) in
+        let alone : (job : Job) → IsFinishable k job → LeavesAlone job.meta.id request =
+        λ job left. next_alone false old.coordinator k calls.one.knows job.meta.id left.other (sends_of old.coordinator k request calls.one.knows due).o.call request (sends_of old.coordinator k request calls.one.knows due).due due in
+        let has : HasJobs old.jobs (learn p k) =
+        jobs_sent old.jobs k p (setting_of false old.coordinator) old.coordinator.session number sent.range request may refl (sym learnt ∙ known_is) puts alone (record { numbers = calls.waiting.numbers; left = calls.waiting.each }) in
         let now : HasJobs old.jobs (known_of d.log.part.own) = subst (HasJobs old.jobs) (sym learnt) has in
         let none_left : jobs_of d.log.part.own ≡ jobs_of old.desk.log.part.own = ap jobs_of own-is ∙ (jobs_then old.desk.log sent.sent event sent.entered
         ∙ ap (λ (o : Option Statement). if is_some o then jobs_of old.desk.log.part.own else without_first (jobs_of old.desk.log.part.own)) calls.opened) in
         record { left = none_left ∙ calls.waiting.left; numbers = now.numbers; each = now.left }
 
-    kinds_on : (n : ℕ) (q : Request) → is_on_way n d ≡ true → request_sent n (known_of d.log.part.own).sent ≡ Some q → IsForCall (known_of d.log.part.own) q
-    kinds_on n q on said = by (number == n) refl
-      where
-        m : Sent
-        m = record { number = number; range = sent.range; request = request }
+    pub apart_of : IsApartNow now
+    apart_of = let fresh = none_heard_next old.desk calls.track number sent.next in subst IsApartNow (sym known_is) (apart_sent number sent.range request k fresh.0 fresh.1 calls.apart)
 
-        said_is : request_sent n (k.sent ++ m ∷ []) ≡ Some q
-        said_is = ap (λ (x : Known). request_sent n x.sent) (sym known_is) ∙ said
+    opened_then : now.statement ≡ k.statement
+    opened_then = ap (λ (k : Known). k.statement) known_is
 
-        lift : IsForCall k q → IsForCall (known_of d.log.part.own) q
-        lift is = record { s = is.s; opened = ap (λ (x : Known). x.statement) known_is ∙ is.opened; kind = is.kind }
+    open_then : now.is_open ≡ k.is_open
+    open_then = ap (λ (k : Known). k.is_open) known_is
 
-        by : (b : Bool) → (number == n) ≡ b → IsForCall (known_of d.log.part.own) q
-        by true is =
-            let here : number ≡ n = eqb-true number n is in
-            let new : request_sent number (k.sent ++ m ∷ []) ≡ Some request = said_new k.sent m (none_heard_next old.desk calls.track number sent.next).1 in
-            let both : Some request ≡ Some q = sym new ∙ (ap (λ i. request_sent i (k.sent ++ m ∷ [])) here ∙ said_is) in
-            let same : request ≡ q = cc in
-            lift (subst (IsForCall k) same may.kind)
-        by false is =
-            let was : is_on_way n old.desk ≡ true = sym (ap (λ b. b || is_on_way n old.desk) is) ∙ (sym (sent.way n) ∙ on) in
-            lift (calls.kinds n q was (sym (said_before n k.sent m is) ∙ said_is))
+    -- the message is not aside yet
+    fresh-aside : waits_aside number old.desk ≡ false
+    fresh-aside = next_not_aside old.desk calls.track number sent.next
 
-    -- the call goes on
-    pub sent_open : ((k : Known) (p : Pair Event) (range : ℕ) (request : Request) → Knows old.coordinator k → SendsDue old.coordinator number range request k p → Knows c (learn p k))
-        → ((other : ℕ) → awaits_number other c.due ≡ (number == other || awaits_number other old.coordinator.due)) → c.session ≡ old.coordinator.session → c.splits ≡ old.coordinator.splits
-        → ((o : Opened) → opened_by old.coordinator.txn old.coordinator.due ≡ Some o → c.due ≡ dues.Call (record o.call { wave = first_changed is_to_send (sent_under number) o.call.wave }))
-        → HasOpenCall sent_then reading
-    sent_open learns waits session splits comes = record {
-      track = sent.track;
-      one = one_on old.desk d old.coordinator c (p ∷ []) grown_sent calls.one session splits (subst (Knows c) (sym learnt) (learns k p sent.range request calls.one.knows sends-due));
-      way = λ n. waits n ∙ (ap (λ b. number == n || b) (calls.way n) ∙ sym (sent.way n));
-      call = calls.call;
-      opened = ap (λ (k : Known). k.statement) known_is ∙ calls.opened;
-      apart = (let fresh = none_heard_next old.desk calls.track number sent.next in subst IsApartNow (sym known_is) (apart_sent number sent.range request k fresh.0 fresh.1 calls.apart));
-      kinds = kinds_on;
-      waiting = left_on;
-      goes_out = λ ends. sent_goes_out old.coordinator k request calls.one.knows due calls.turn c number comes;
-      turn =
-          sent_turn old.coordinator k request calls.one.knows due calls.turn (known_of d.log.part.own) c number sent.range (ap (λ (x : Known). x.sent_now) known_is) (ap (λ (x : Known). x.heard_now) known_is)
-          (no_goal request (plain_kind may.kind.s.call request may.kind.kind)) (sent.next ∙ next-is) comes;
-    }
+    -- what was set aside is of the open epoch still
+    pub epoch_of : (n : ℕ) → waits_aside n old.desk ≡ true → IsOfOpenEpoch now n
+    epoch_of n aside =
+        subst (λ k. IsOfOpenEpoch k n) (sym known_is)
+        (epoch_sent k (with_sent number sent.range request k) n m (txn_sent request) (λ t. (refl, refl)) refl (λ t opened. first_mapped (txn_sent request) k.is_open k.txns t opened)
+        (λ same. absurd (let e : true ≡ false = sym aside ∙ (ap (λ i. waits_aside i old.desk) (sym same) ∙ fresh-aside) in cc e)) (calls.aside.epoch n aside))
 
-    -- and no wave is half heard
+    -- and no wave is half heard, nor one of puts
     pub sent_ends : EndsWaves d.log.part.own
     sent_ends =
         let is : d.log.part.own ≡ old.desk.log.part.own ++ p ∷ [] = grown_sent.own in
-        subst EndsWaves (sym is) (ends_on old.desk.log.part.own p (λ hears. hears) (ap (λ (own : List (Pair Event)). (known_of own).heard) (sym is) ∙ ap (λ (k : Known). k.heard) known_is) ends)
+        subst EndsWaves (sym is) (ends_on old.desk.log.part.own p (λ hears. hears) (ap (λ (own : List (Pair Event)). (known_of own).heard) (sym is) ∙ ap (λ (k : Known). k.heard) known_is) between.ends)
+
+    pub sent_puts : EndsPutWaves d.log.part.own
+    sent_puts = subst EndsPutWaves (sym grown_sent.own) (puts_sent old.desk calls.track old.coordinator calls.one.knows request due number sent.range p refl (ap known_of (sym grown_sent.own) ∙ known_is) sent.next between.puts)
+
+    pub sent_behind : (Waits : ℕ → Type 0) → WaitsBehindHeard Waits d.log.part.own
+    sent_behind Waits =
+        subst (WaitsBehindHeard Waits) (sym grown_sent.own)
+        (behind_sending old.desk.log.part.own p Waits calls.track.wave.heard (all_above old.desk.log.part sent.entered.step sent.entered.above) tt (ap (λ (own : List (Pair Event)). (known_of own).heard) (sym grown_sent.own) ∙ ap (λ (k : Known). k.heard) known_is))
 
     pub sent_goes : c.session ≡ old.coordinator.session → HasGoneInside old sent_then
     sent_goes session = record {
@@ -157,5 +181,93 @@ module _ {C : Type 0} (old : SessionMeaning C) (reading : ℕ) (request : Reques
       within = All-cons IsInBetween event [] tt (All-nil IsInBetween);
       limit = sent.limit;
       session = session;
-      statement = ap (λ (k : Known). k.statement) known_is;
+      statement = opened_then;
     }
+
+    -- ---- it goes with the next wave
+
+    module _ (at_once : next_of old.coordinator ≡ nexts.Send request)
+        (learns : (loses : Bool) (k : Known) (p : Pair Event) (range : ℕ) (request : Request) → Knows loses old.coordinator k → SendsDue old.coordinator number range request k p → (loses ≡ true → GoesWhereItWent range request k.sent) → Knows loses c (learn p k))
+        (waits : (other : ℕ) → awaits_number other c.due ≡ (number == other || awaits_number other old.coordinator.due)) (kept : c.later ≡ old.coordinator.later) (session : c.session ≡ old.coordinator.session) (splits : c.splits ≡ old.coordinator.splits)
+        (pipelines : c.pipelining ≡ old.coordinator.pipelining)
+        (comes : (o : Opened) → opened_by old.coordinator.txn old.coordinator.due ≡ Some o → c.due ≡ dues.Call (record o.call { wave = first_changed is_to_send (sent_under number) o.call.wave })) where
+      knows_then : Knows false c now
+      knows_then = subst (Knows false c) (sym learnt) (learns false k p sent.range request calls.one.knows sends_due (λ lossy. let e : false ≡ true = lossy in absurd cc))
+
+      abbrev o : IsOpenedAs old.coordinator k
+      o = sends_of old.coordinator k request calls.one.knows due
+
+      due_then : c.due ≡ dues.Call (record o.o.call { wave = first_changed is_to_send (sent_under number) o.o.call.wave })
+      due_then = comes o.o o.opened
+
+      aside_same : (n : ℕ) → waits_aside n d ≡ waits_aside n old.desk
+      aside_same n = ap (list_any (λ m. m.number == n)) sent.later
+
+      way_is : (n : ℕ) → is_on_way n d ≡ (awaits_number n c.due && not (waits_aside n d))
+      way_is n =
+          sent.way n ∙ (ap (λ b. number == n || b) (calls.way n) ∙ (by (number == n) refl ∙ sym (ap (λ b. b && not (waits_aside n d)) (waits n) ∙ ap (λ b. (number == n || awaits_number n old.coordinator.due) && not b) (aside_same n))))
+        where
+          a : Bool
+          a = awaits_number n old.coordinator.due
+
+          by : (b : Bool) → (number == n) ≡ b → (number == n || (a && not (waits_aside n old.desk))) ≡ ((number == n || a) && not (waits_aside n old.desk))
+          by true is =
+              let none : waits_aside n old.desk ≡ false = ap (λ i. waits_aside i old.desk) (sym (eqb-true number n is)) ∙ fresh-aside in
+              ap (λ b. b || (a && not (waits_aside n old.desk))) is ∙ sym (ap (λ b. (b || a) && not (waits_aside n old.desk)) is ∙ ap (λ b. not b) none)
+          by false is = ap (λ b. b || (a && not (waits_aside n old.desk))) is ∙ sym (ap (λ b. (b || a) && not (waits_aside n old.desk)) is)
+
+      no_written : old.coordinator.due ≡ dues.Tell answers.Written → ⊥
+      no_written told = let e : dues.Call o.o.call ≡ dues.Tell answers.Written = sym o.due ∙ told in cc e
+
+      heard_or_away : All (IsHeardOrAway sent_then) now.sent_now
+      heard_or_away =
+          subst (All (IsHeardOrAway sent_then)) (sym (ap (λ (k : Known). k.sent_now) known_is))
+          (All-push (IsHeardOrAway sent_then) k.sent_now m (All-weaker (IsHeardOrAway old) (IsHeardOrAway sent_then) on k.sent_now calls.sent)
+          (inr (inl (sent.way number ∙ ap (λ b. b || is_on_way number old.desk) (eq-eqb number number refl)))))
+        where
+          or_right : (a b : Bool) → b ≡ true → (a || b) ≡ true
+          or_right true b e = refl
+          or_right false b e = e
+
+          on : (x : Sent) → IsHeardOrAway old x → IsHeardOrAway sent_then x
+          on x (inl heard) = inl (ap (λ (k : Known). is_heard k.heard_now x) known_is ∙ heard)
+          on x (inr (inl way)) = inr (inl (sent.way x.number ∙ or_right (number == x.number) (is_on_way x.number old.desk) way))
+          on x (inr (inr told)) = absurd (no_written told.1)
+
+      outside_then : is_outside calls.call ≡ true → now.is_open ≡ false
+      outside_then = λ outside. open_then ∙ calls.outside outside
+
+      aside_then : HasAsideInCall sent_then
+      aside_then = record {
+        waits = λ n waiting. elim (calls.aside.waits n (ap (has_waited n) (sym kept) ∙ waiting)) [
+          | inl aside ↦ inl (aside_same n ∙ aside)
+          | inr rolls ↦ inr (ap call_of known_is ∙ rolls)
+        ];
+        why = λ n aside. aside_why sent_then sent.track knows_then (record { call = calls.call; reading = reading }) (opened_then ∙ calls.opened) outside_then apart_of heard_or_away n aside (epoch_of n (sym (aside_same n) ∙ aside));
+        epoch = λ n aside. epoch_of n (sym (aside_same n) ∙ aside);
+      }
+
+      -- the call goes on
+      pub sent_open : HasOpenCall sent_then reading
+      sent_open = record {
+        track = sent.track;
+        one = one_on old.desk d old.coordinator c (p ∷ []) grown_sent calls.one session splits pipelines knows_then;
+        way = way_is;
+        aside = aside_then;
+        sent = heard_or_away;
+        call = calls.call;
+        opened = opened_then ∙ calls.opened;
+        outside = outside_then;
+        apart = apart_of;
+        kinds = λ n q on said. awaited_kind c now n q knows_then (and_first (awaits_number n c.due) (not (waits_aside n d)) (sym (way_is n) ∙ on)) said;
+        waiting = left_of;
+        goes_out = λ ends. subst WaitsForReplies (sym due_then) (λ out. sent_none number o.o.call.wave (unmet_sends old.coordinator k request calls.one.knows due calls.turn));
+        joins = λ silent n on aside. subst EndsUnheard (sym grown_sent.own) (unheard_push old.desk.log.part.own p (λ hears. hears));
+        behind = sent_behind (IsWaitedFor c);
+        turn =
+            subst (λ now. KeepsTurn c.pipelining now c.due) (sym known_is)
+            (sent_turn old.coordinator k request calls.one.knows due calls.turn number sent.range (sent.next ∙ next-is) (no_push old.coordinator.pipelining k request may.kind) c pipelines due_then);
+      }
+
+      pub sent_between : IsBetweenWaves d
+      sent_between = record { ends = sent_ends; puts = sent_puts; none_waits = sent.replies ∙ between.none_waits }

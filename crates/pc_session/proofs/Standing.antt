@@ -1,30 +1,33 @@
 -- A session rests where it begins, and rests or has stopped after what it does.
-use Rattle.std.proofs.Common.{◌≡◌, ℕ, Bool, true, false, All, IsTrue, IfErr, IfOk, List, [], Result, Ok, Err, ◌≤◌, is_some, refl, sym, ap, subst, ◌∙◌}
+use Rattle.std.proofs.Common.{◌≡◌, ℕ, Bool, true, false, ◌==◌, All, IfErr, IfOk, List, [], Result, Ok, Err, ◌≤◌, is_some, refl, sym, ap, subst, ◌∙◌, Contains}
 use Rattle.std.proofs.lemmas.List.Elements.{All-nil}
 use Rattle.pc_base.specs.declared.actor.ActorId.TheVariants as actors
+use Rattle.std.specs.List.{list_any}
+use Rattle.pc_call.specs.Outbox.{has_waited}
 use Rattle.pc_coord.specs.Coordination.{Coordination, new_coordination}
 use Rattle.pc_coord.specs.Knows.{Knows}
 use Rattle.pc_desk.specs.declared.halt.Halt.{Halt}
-use Rattle.pc_desk.specs.Desk.{DeskMeaning, HasHalted, KeepsTrack}
+use Rattle.pc_desk.specs.Desk.{DeskMeaning, HasHalted, KeepsTrack, Posted}
 use Rattle.pc_exchange.specs.Jobs.{IsFinishable}
+use Rattle.pc_follows.specs.WaveOrder.{IsHeardOrPut}
+use Rattle.pc_history.specs.declared.view.Known.{Known as KnownEntry}
 use Rattle.pc_history.specs.declared.view.Part.{Part}
 use Rattle.pc_history.specs.Parts.{newcomer, told}
-use Rattle.pc_history.specs.declared.view.Known.{Known as KnownEntry}
 use Rattle.pc_proto.specs.declared.answer.Answer.{Answer}
 use Rattle.pc_proto.specs.declared.call.Call.{Call}
 use Rattle.pc_proto.specs.declared.event.Event.{Event}
 use Rattle.pc_session.specs.Calls.{HasCalled}
-use Rattle.pc_session.specs.Session.{AreOfOneSession, HasLeft, IsAtRest, RestsOrStopped, SessionMeaning}
+use Rattle.pc_session.specs.Session.{AreOfOneSession, HasLeft, IsAtRest, RestsOrStopped, SessionMeaning, waits_aside}
 use Rattle.pc_session.specs.Steps.{HasStepped}
 use Rattle.pc_world.specs.Known.{Known, known_of, nothing_known}
 use Rattle.pc_world.specs.Known.Transactions.{Txn}
-use Rattle.pc_world.specs.Known.Traffic.{Sent}
-use Rattle.pc_world.specs.Tell.Refusal.{is_heard}
+use Rattle.pc_lists.proofs.Lists.{contains_nil}
+use Rattle.pc_session.specs.Behind.{WaitsBehindHeard}
 
 -- before its first call
-pub begun_rests : {C : Type 0} (s : SessionMeaning C) (session : ℕ) → s.desk.log.part ≡ newcomer (actors.Session session) → KeepsTrack s.desk → s.coordinator ≡ new_coordination session s.desk.log.head.splits → Knows s.coordinator nothing_known
-    → s.desk.log.pipelining ≡ false → s.desk.posted ≡ [] → s.desk.replies ≡ [] → s.jobs ≡ [] → IsAtRest s
-begun_rests s session fresh track made knows unpiped posted replies jobs =
+pub begun_rests : {C : Type 0} (s : SessionMeaning C) (session tries : ℕ) (pipelining : Bool) → s.desk.log.part ≡ newcomer (actors.Session session) → KeepsTrack s.desk → s.coordinator ≡ new_coordination session tries pipelining s.desk.log.head.splits
+    → Knows false s.coordinator nothing_known → s.desk.log.pipelining ≡ pipelining → s.desk.posted ≡ [] → s.desk.replies ≡ [] → s.desk.later ≡ [] → s.jobs ≡ [] → IsAtRest s
+begun_rests s session tries pipelining fresh track made knows piped posted replies later jobs =
     let own : s.desk.log.part.own ≡ [] = ap (λ (p : Part Event). p.own) fresh in
     let known : known_of s.desk.log.part.own ≡ nothing_known = ap known_of own in
     record {
@@ -32,17 +35,19 @@ begun_rests s session fresh track made knows unpiped posted replies jobs =
       one = record {
         whose = ap (λ (p : Part Event). p.id) fresh ∙ ap (λ n. actors.Session n) (sym (ap (λ (c : Coordination). c.session) made));
         splits = ap (λ (c : Coordination). c.splits) made;
-        unpiped = unpiped;
-        knows = subst (Knows s.coordinator) (sym known) knows;
+        piped = piped ∙ sym (ap (λ (c : Coordination). c.pipelining) made);
+        knows = subst (Knows false s.coordinator) (sym known) knows;
       };
       posted = posted;
       replies = replies;
-      heard = subst (λ (k : Known). All (λ m. IsTrue (is_heard k.heard m)) k.sent) (sym known) (All-nil (λ (m : Sent). IsTrue (is_heard [] m)));
+      heard = subst (λ (k : Known). All (IsHeardOrPut k.heard) k.sent) (sym known) (All-nil (IsHeardOrPut []));
+      aside = λ number. ap (list_any (λ (m : Posted). m.number == number)) later ∙ sym (ap (λ (c : Coordination). has_waited number c.later) made);
       closed = ap (λ (k : Known). k.statement) known;
       handed = ap (λ (c : Coordination). c.job) made;
       holds = ap (λ (c : Coordination). is_some c.txn) made ∙ sym (ap (λ (k : Known). k.is_open) known);
       waiting = subst (λ js. HasLeft s.desk.log.part.own js) (sym jobs) (subst (λ own. HasLeft own []) (sym own)
           (record { left = refl; numbers = All-nil (λ (t : Txn). t.id.number ≤ 0); each = All-nil (IsFinishable nothing_known) }));
+      behind = λ number request waits said g there. absurd (contains_nil g (subst (λ (k : Known). Contains k.heard g) known there));
     }
 
 stopped_not : {C : Type 0} (s : SessionMeaning C) → s.desk.log.stopped ≡ true → RestsOrStopped s
@@ -72,14 +77,16 @@ followed_rests {C} old new note same took track rests = λ going.
       one = subst (λ x. AreOfOneSession new.desk x) (sym c) (record {
         whose = ap (λ (d : DeskMeaning C). d.log.part.id) took ∙ rest.one.whose;
         splits = rest.one.splits ∙ sym (ap (λ (d : DeskMeaning C). d.log.head.splits) took);
-        unpiped = ap (λ (d : DeskMeaning C). d.log.pipelining) took ∙ rest.one.unpiped;
-        knows = subst (λ own. Knows old.coordinator (known_of own)) (sym own) rest.one.knows;
+        piped = ap (λ (d : DeskMeaning C). d.log.pipelining) took ∙ rest.one.piped;
+        knows = subst (λ own. Knows false old.coordinator (known_of own)) (sym own) rest.one.knows;
       });
       posted = ap (λ (d : DeskMeaning C). d.posted) took ∙ rest.posted;
       replies = ap (λ (d : DeskMeaning C). d.replies) took ∙ rest.replies;
-      heard = subst (λ own. All (λ m. IsTrue (is_heard (known_of own).heard m)) (known_of own).sent) (sym own) rest.heard;
+      heard = subst (λ own. All (IsHeardOrPut (known_of own).heard) (known_of own).sent) (sym own) rest.heard;
+      aside = λ number. ap (λ (d : DeskMeaning C). waits_aside number d) took ∙ (rest.aside number ∙ sym (ap (λ (x : Coordination). has_waited number x.later) c));
       closed = ap (λ own. (known_of own).statement) own ∙ rest.closed;
       handed = ap (λ (x : Coordination). x.job) c ∙ rest.handed;
       holds = ap (λ (x : Coordination). is_some x.txn) c ∙ (rest.holds ∙ sym (ap (λ own. (known_of own).is_open) own));
       waiting = subst (λ js. HasLeft new.desk.log.part.own js) (sym jobs) (subst (λ own. HasLeft own old.jobs) (sym own) rest.waiting);
+      behind = subst (λ own. WaitsBehindHeard (λ number. has_waited number new.coordinator.later ≡ true) own) (sym own) (subst (λ (x : Coordination). WaitsBehindHeard (λ number. has_waited number x.later ≡ true) old.desk.log.part.own) (sym c) rest.behind);
     }

@@ -1,17 +1,17 @@
 -- A session once it did its oldest job.
-use Rattle.std.proofs.Common.{◌≡◌, ℕ, ◌≤◌, max, All, Contains, IsTrue, List, ◌∷◌, drop, map, None, sym, ap, subst, ◌∙◌}
-use Rattle.std.proofs.lemmas.List.Elements.{All-contains, All-head, All-tail, All-weaker, Contains-append_right}
+use Rattle.std.proofs.Common.{◌≡◌, ℕ, ◌≤◌, max, All, Contains, IsTrue, List, ◌∷◌, drop, map, None, sym, ap, subst, ◌∙◌, false, ◌==◌, ◌⊎◌, inl, inr, true, ◌++◌, Some}
+use Rattle.std.proofs.lemmas.List.Elements.{All-contains, All-head, All-tail, All-weaker, Contains-append_right, All-map, Contains-append_cases}
 use Rattle.pc_base.specs.declared.actor.ActorId.TheVariants as actors
 use Rattle.pc_coord.specs.Coordination.{Coordination, with_clock}
 use Rattle.pc_coord.specs.declared.job.Job.{Job}
 use Rattle.pc_coord.specs.Knows.{Knows, messages_of_job}
 use Rattle.pc_coord.specs.Laws.{CoordinatingGoesOn}
-use Rattle.pc_desk.specs.Desk.{DeskMeaning}
+use Rattle.pc_desk.specs.Desk.{DeskMeaning, Posted}
 use Rattle.pc_desk.specs.OwnLog.{IsOwnLog, LogMeaning}
 use Rattle.pc_exchange.specs.Growing.{HasGrownBy}
 use Rattle.pc_exchange.specs.Jobs.{HasFinishedJob, IsFinishable, MayFinishNow}
 use Rattle.pc_history.specs.declared.pair.Pair.{Pair}
-use Rattle.pc_lists.proofs.Lists.{all_from_contains}
+use Rattle.pc_lists.proofs.Lists.{all_from_contains, contains_map}
 use Rattle.pc_proto.specs.declared.event.Event.{Event}
 use Rattle.pc_session.proofs.Due.{holds, idle}
 use Rattle.pc_session.proofs.Inside.{id_same, one_on}
@@ -21,6 +21,24 @@ use Rattle.pc_follows.specs.FinishingJobs.{jobs_of}
 use Rattle.pc_world.specs.Known.{Known, known_of}
 use Rattle.pc_world.specs.Known.Transactions.{Txn}
 use Rattle.pc_world.specs.Tell.Refusal.{is_heard}
+use Rattle.std.specs.List.{list_any}
+use Rattle.pc_call.specs.Outbox.{has_waited}
+use Rattle.pc_exchange.specs.Aside.{IsLaterAside, lasting_of}
+use Rattle.pc_world.specs.Known.Traffic.{Sent, request_sent}
+use Rattle.std.proofs.lemmas.Option.{same_Some}
+use Rattle.pc_desk.proofs.Counting.{said_more}
+use Rattle.pc_proto.specs.declared.request.Request.{Request}
+use Rattle.pc_session.proofs.AsideInCall.{rest_puts}
+use Rattle.pc_session.proofs.KeepsBehind.{behind_aside}
+use Rattle.pc_session.specs.Behind.{WaitsBehindHeard}
+
+-- messages beside it leave the numbers of its transactions
+pub numbers_aside : (session : ℕ) (start k : Known) (ts : ℕ) → IsLaterAside session start k ts → All (λ (t : Txn). t.id.number ≤ start.begun) start.txns → All (λ (t : Txn). t.id.number ≤ k.begun) k.txns
+numbers_aside session start k ts aside were =
+    let P : Txn → Type 0 = λ t. t.id.number ≤ k.begun in
+    let same : All P start.txns = subst (λ n. All (λ (t : Txn). t.id.number ≤ n) start.txns) (sym aside.begun) were in
+    all_from_contains P k.txns (λ t there.
+    All-contains P (map lasting_of start.txns) (lasting_of t) (All-map P lasting_of start.txns same) (subst (λ ts. Contains ts (lasting_of t)) aside.lasting (contains_map lasting_of k.txns t there)))
 
 -- what an actor's list grew by is the actor's
 pub part_whose : {C : Type 0} (old new : LogMeaning C) (part : List (Pair Event)) (session : ℕ) → HasGrownBy old new part → IsOwnLog new → old.part.id ≡ actors.Session session → All (λ p. p.entry.actor ≡ actors.Session session) part
@@ -68,28 +86,49 @@ module _ {C : Type 0} (old : SessionMeaning C) (job : Job) (jobs : List Job) (re
     closed : now.statement ≡ None
     closed = made.made.aside.statement ∙ rest.closed
 
-    knows : Knows c now
+    knows : Knows false c now
     knows =
         let beside = made.made.beside old.coordinator same-session rest.one.knows in
-        let on = goes-on old.coordinator k now rest.one.knows (idle old.coordinator k rest.one.knows rest.closed) rest.handed beside.later in
-        subst (λ x. Knows x now) (sym (raised ∙ ap (λ n. with_clock n old.coordinator) beside.clock)) on
+        let on = goes-on false old.coordinator k now rest.one.knows (idle old.coordinator k rest.one.knows rest.closed) rest.handed beside.later in
+        subst (λ x. Knows false x now) (sym (raised ∙ ap (λ n. with_clock n old.coordinator) beside.clock)) on
+
+    waits_before : (number : ℕ) → has_waited number c.later ≡ true → has_waited number old.coordinator.later ≡ true
+    waits_before number waits = ap (λ (x : Coordination). has_waited number x.later) (sym raised) ∙ waits
+
+    said_still : (number : ℕ) (request : Request) → has_waited number old.coordinator.later ≡ true → request_sent number (known_of (old.desk.log.part.own ++ made.part)).sent ≡ Some request → request_sent number k.sent ≡ Some request
+    said_still number request waits said =
+        let put = rest_puts old rest.track rest.one.knows rest.closed number waits in
+        let longer : (known_of (old.desk.log.part.own ++ made.part)).sent ≡ k.sent ++ made.made.aside.sent_more = ap (λ own. (known_of own).sent) (sym made.goes.grown.own) ∙ made.made.aside.sent in
+        let told : request_sent number (known_of (old.desk.log.part.own ++ made.part)).sent ≡ Some put.0 = ap (request_sent number) longer ∙ said_more number k.sent made.made.aside.sent_more put.0 put.1 in
+        put.1 ∙ ap Some (same_Some put.0 request (sym told ∙ said))
 
     rests : IsAtRest finished_then
     rests = record {
       track = made.goes.back.track;
-      one = one_on old.desk d old.coordinator c made.part made.goes.grown rest.one (ap (λ (x : Coordination). x.session) raised) (ap (λ (x : Coordination). x.splits) raised) knows;
+      one = one_on old.desk d old.coordinator c made.part made.goes.grown rest.one (ap (λ (x : Coordination). x.session) raised) (ap (λ (x : Coordination). x.splits) raised) (ap (λ (x : Coordination). x.pipelining) raised) knows;
       posted = made.goes.back.posted;
       replies = made.goes.back.replies;
       heard = made.heard;
+      aside = λ number. ap (λ (x : List Posted). list_any (λ (m : Posted). m.number == number) x) made.goes.later ∙ (rest.aside number ∙ ap (λ (x : Coordination). has_waited number x.later) (sym raised));
       closed = closed;
       handed = ap (λ (x : Coordination). x.job) raised ∙ rest.handed;
       holds = holds c now knows closed;
       waiting = record {
         left = left-is;
-        numbers = subst (λ n. All (λ (t : Txn). t.id.number ≤ n) now.txns) (sym made.made.aside.begun) (subst (All (λ (t : Txn). t.id.number ≤ k.begun)) (sym made.made.aside.txns) rest.waiting.numbers);
+        numbers = numbers_aside made.session k now ts made.made.aside rest.waiting.numbers;
         each = All-weaker (IsFinishable k) (IsFinishable now) made.made.left jobs (All-tail (IsFinishable k) job jobs all_finishable);
       };
+      behind = subst (WaitsBehindHeard (λ number. has_waited number c.later ≡ true)) (sym made.goes.grown.own)
+          (behind_aside old.desk.log.part.own made.part made.session ts (λ number. has_waited number old.coordinator.later ≡ true) (λ number. has_waited number c.later ≡ true) rest.behind waits_before (λ number waits. rest_puts old rest.track rest.one.knows rest.closed number (waits_before number waits))
+          (subst (λ own. IsLaterAside made.session k (known_of own) ts) made.goes.grown.own made.made.aside) (λ number request waits said. said_still number request (waits_before number waits) said));
     }
+
+    -- each message was heard, or was sent before
+    heard_whole : All (λ m. IsTrue (is_heard now.heard m) ⊎ Contains k.sent m) now.sent
+    heard_whole = all_from_contains (λ m. IsTrue (is_heard now.heard m) ⊎ Contains k.sent m) now.sent (λ m there. elim (Contains-append_cases k.sent made.made.aside.sent_more m (subst (λ ms. Contains ms m) made.made.aside.sent there)) [
+      | inl before ↦ inr before
+      | inr since ↦ inl (All-contains (λ (m : Sent). IsTrue (is_heard now.heard m)) made.made.aside.sent_more m made.made.aside.sent_heard since)
+    ])
 
     -- the job was done whole
     pub finished_step : HasMadeStep old finished_then
@@ -100,7 +139,7 @@ module _ {C : Type 0} (old : SessionMeaning C) (job : Job) (jobs : List Job) (re
         whose = part_whose old.desk.log d.log made.part old.coordinator.session made.goes.grown made.goes.back.track.log rest.one.whose;
         within = made.goes.within;
         done = ap jobs_of (sym made.goes.grown.own) ∙ (left-is ∙ sym (ap (drop 1) waiting_is));
-        heard = subst (λ own. All (λ m. IsTrue (is_heard (known_of own).heard m)) (known_of own).sent) made.goes.grown.own made.heard;
+        heard = subst (λ own. All (λ m. IsTrue (is_heard (known_of own).heard m) ⊎ Contains k.sent m) (known_of own).sent) made.goes.grown.own heard_whole;
       };
       job = job;
       oldest = listed;

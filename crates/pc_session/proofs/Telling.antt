@@ -1,5 +1,5 @@
 -- A session once its call was told its answer.
-use Rattle.std.proofs.Common.{◌≡◌, ℕ, false, List, [], ◌∷◌, ◌++◌, map, Option, None, IfSome, refl, sym, ap, subst, ◌∙◌}
+use Rattle.std.proofs.Common.{◌≡◌, ℕ, false, List, [], ◌∷◌, ◌++◌, map, Option, None, IfSome, refl, sym, ap, subst, ◌∙◌, Bool, true, ◌&&◌, not, ◌⊎◌, inl, inr, IsTrue, Some, cond}
 use Rattle.std.specs.Option.{option_to_list}
 use Rattle.pc_base.specs.declared.actor.ActorId.{ActorId}
 use Rattle.pc_base.specs.declared.actor.ActorId.TheVariants as actors
@@ -22,7 +22,7 @@ use Rattle.pc_proto.specs.declared.answer.Answer.{Answer}
 use Rattle.pc_proto.specs.declared.answer.Answer.TheVariants as answers
 use Rattle.pc_proto.specs.declared.event.Event.{Event}
 use Rattle.pc_proto.specs.declared.event.Event.TheVariants as events
-use Rattle.pc_session.proofs.Away.{all_heard, all_heard_now, none_answered, none_posted}
+use Rattle.pc_session.proofs.Away.{all_heard, none_answered, none_posted}
 use Rattle.pc_session.proofs.Due.{holds, quiet_tell, tell_due}
 use Rattle.pc_session.proofs.Inside.{one_on}
 use Rattle.pc_session.proofs.Jobs.{HasJobs}
@@ -30,15 +30,30 @@ use Rattle.pc_session.proofs.JobsTold.{BeginsNext, jobs_after_told, jobs_told}
 use Rattle.pc_session.proofs.Keeping.{keeps_as, keeps_told}
 use Rattle.pc_session.proofs.Knowing.{jobs_then, known_told, of_tell, with_told}
 use Rattle.pc_session.proofs.Lost.{row_by}
-use Rattle.pc_session.specs.InCall.{HasOpenCall, HasTold}
+use Rattle.pc_session.specs.InCall.{HasOpenCall, HasTold, IsHeardOrAway, IsWaitedFor}
 use Rattle.pc_session.specs.InTurn.{KeepsTurn}
-use Rattle.pc_session.specs.Session.{HasLeft, IsAtRest, SessionMeaning, session_knows}
+use Rattle.pc_session.specs.Session.{HasLeft, IsAtRest, SessionMeaning, session_knows, waits_aside}
 use Rattle.pc_follows.specs.FinishingJobs.{left_by, with_job}
-use Rattle.pc_world.specs.Known.{Known, known_of, learn}
-use Rattle.pc_world.specs.Known.Statements.{Statement}
+use Rattle.pc_world.specs.Known.{Known, known_of, learn, open_txn, first_if, told_first}
+use Rattle.pc_world.specs.Known.Statements.{Statement, is_open_told}
 use Rattle.pc_world.specs.MayTell.{MayTell, MayTellIn}
 use Rattle.pc_world.specs.Run.{protocol}
 use Rattle.pc_world.specs.Tell.Begin.{MayTellBegun}
+use Rattle.std.proofs.lemmas.List.Elements.{All-weaker}
+use Rattle.pc_call.specs.Outbox.{has_waited}
+use Rattle.pc_desk.specs.Hearing.{HearsAll, MayStayUnheard}
+use Rattle.pc_follows.specs.FirstBlock.{TellsFirstBlock}
+use Rattle.pc_follows.specs.WaveOrder.{EndsPutWaves}
+use Rattle.pc_session.proofs.Wanted.{tells_eighth}
+use Rattle.pc_world.specs.Tell.Refusal.{is_heard}
+use Rattle.pc_session.proofs.Behind.{behind_still}
+use Rattle.pc_session.specs.Behind.{WaitsBehindHeard}
+use Rattle.pc_world.specs.Known.Transactions.{Txn, txn_told}
+use Rattle.std.proofs.lemmas.Option.{same_Some}
+use Rattle.pc_base.specs.declared.transaction.TxnId.{TxnId}
+use Rattle.pc_session.proofs.AsideInCall.{no_begin}
+use Rattle.pc_session.proofs.Strays.{is_open_by, txns_plain}
+use Rattle.pc_world.specs.Known.Traffic.{Heard, replies_to}
 
 -- a transaction that an answer begins is the session's next one
 begins_next : (answer : Answer) (splits : List (List ℕ)) (session : ℕ) (k : Known) (s : Statement) → MayTellIn splits (actors.Session session) k s answer → BeginsNext k.begun answer
@@ -48,7 +63,32 @@ begins_next (answers.Begun id ts) splits session k s may =
     row.next.1
 begins_next answer splits session k s may = tt
 
-module _ {C : Type 0} (old : SessionMeaning C) (reading : ℕ) (answer : Answer) (calls : HasOpenCall old reading) (due : next_of old.coordinator ≡ nexts.Tell answer) (may : IsTellable old.coordinator (session_knows old) answer) where
+-- what is closed stays so, unless the answer begins a transaction
+closed_stays : (answer : Answer) → ((id : TxnId) (ts : ℕ) → answer ≡ answers.Begun id ts → ⊥) → is_open_told answer false ≡ false
+closed_stays (answers.Begun id ts) none = absurd (none id ts refl)
+closed_stays (answers.Committed id ts) none = refl
+closed_stays (answers.RolledBack id why) none = refl
+closed_stays (answers.Aborted why) none = refl
+closed_stays (answers.Unknown id) none = refl
+closed_stays answer none = refl
+
+-- where an answer begins no transaction, what is open then was open
+told_back : (answer : Answer) (replied : List Heard) → ((id : TxnId) (ts : ℕ) → answer ≡ answers.Begun id ts → ⊥) → (b : Bool) (txns : List Txn) (t : Txn) → first_if (is_open_told answer b) (cond b (told_first answer replied txns) txns) ≡ Some t
+    → (u : Txn) × (first_if b txns ≡ Some u) × (t.id ≡ u.id)
+told_back answer replied none true (x ∷ xs) t is = (x, refl, by (is_open_told answer true) is)
+  where
+    by : (b : Bool) → first_if b (txn_told answer replied x ∷ xs) ≡ Some t → t.id ≡ x.id
+    by true e = ap (λ (t : Txn). t.id) (sym (same_Some (txn_told answer replied x) t e))
+    by false e = absurd cc
+told_back answer replied none true [] t is = absurd cc
+told_back answer replied none false txns t is = absurd (let e : None ≡ Some t = sym (ap (λ b. first_if b txns) (closed_stays answer none) ∙ none_first txns) ∙ is in cc e)
+  where
+    none_first : (txns : List Txn) → first_if false txns ≡ None
+    none_first [] = refl
+    none_first (x ∷ xs) = refl
+
+module _ {C : Type 0} (old : SessionMeaning C) (reading : ℕ) (answer : Answer) (calls : HasOpenCall old reading) (due : next_of old.coordinator ≡ nexts.Tell answer) (may : IsTellable false old.coordinator (session_knows old) answer) (puts : EndsPutWaves old.desk.log.part.own)
+    (aside : (number : ℕ) → waits_aside number old.desk ≡ has_waited number old.coordinator.later) where
   abbrev k : Known
   k = session_knows old
 
@@ -56,7 +96,20 @@ module _ {C : Type 0} (old : SessionMeaning C) (reading : ℕ) (answer : Answer)
   event = events.Tell answer
 
   away : (number : ℕ) → is_on_way number old.desk ≡ false
-  away number = sym (calls.way number) ∙ quiet_tell old.coordinator answer due number
+  away number = calls.way number ∙ ap (λ b. b && not (waits_aside number old.desk)) (quiet_tell old.coordinator answer due number)
+
+  first_told : (b : Bool) → KeepsTurn b k (dues.Tell answer) → TellsFirstBlock b k answer
+  first_told true first = first
+  first_told false first = first
+
+  -- each message of the call was heard, but for its own put where it is told written at once
+  wire : HearsAll old.coordinator.pipelining k event
+  wire =
+      All-weaker (IsHeardOrAway old) (λ m. IsTrue (is_heard k.heard_now m) ⊎ MayStayUnheard old.coordinator.pipelining k m) (λ m out. elim out [
+        | inl heard ↦ inl heard
+        | inr (inl on) ↦ absurd (let e : true ≡ false = sym on ∙ away m.number in cc e)
+        | inr (inr told) ↦ inr told.2
+      ]) k.sent_now calls.sent
 
   -- the answer may be told
   pub may_tell : MayEnter old.desk.log event
@@ -68,13 +121,13 @@ module _ {C : Type 0} (old : SessionMeaning C) (reading : ℕ) (answer : Answer)
         caused = tt;
         free = refl;
         no_ask = refl;
-        keeps = keeps_as l.part.id old.coordinator.session l.head.splits l.pipelining l.part.own event None calls.one.whose calls.one.unpiped
-            (keeps_told l.head.splits l.part.own old.coordinator answer may (subst (KeepsTurn k) (tell_due old.coordinator answer due) calls.turn) (all_heard_now old.desk calls.track calls.apart away) (all_heard old.desk calls.track away));
+        keeps = keeps_as l.part.id old.coordinator.session l.head.splits l.pipelining old.coordinator.pipelining l.part.own event None calls.one.whose calls.one.piped
+            (keeps_told l.head.splits l.part.own old.coordinator answer may (first_told old.coordinator.pipelining (subst (KeepsTurn old.coordinator.pipelining k) (tell_due old.coordinator answer due) calls.turn)) (λ s opened. tells_eighth old.coordinator k answer may s opened) wire puts);
       }
 
   module _ (d : DeskMeaning C) (c e : Coordination) (jobs : List Job) (done : HasDone old.desk d event) (told : c ≡ with_nothing_due old.coordinator) (handed : e ≡ without_job c) (kept : jobs ≡ old.jobs ++ option_to_list c.job)
-      (learns : (k : Known) (p : Pair Event) (answer : Answer) → Knows old.coordinator k → IsTold old.coordinator answer p → Knows c (learn p k))
-      (knowing : (k : Known) → Knows c k → c.due ≡ dues.Nothing → Knows e k) (finish : (k : Known) → Knows c k → c.due ≡ dues.Nothing → IfSome c.job (MayFinishJob k)) where
+      (learns : (loses : Bool) (k : Known) (p : Pair Event) (answer : Answer) → Knows loses old.coordinator k → IsTold old.coordinator answer p → Knows loses c (learn p k))
+      (knowing : (k : Known) → Knows false c k → c.due ≡ dues.Nothing → Knows false e k) (finish : (k : Known) → Knows false c k → c.due ≡ dues.Nothing → IfSome c.job (MayFinishJob k)) where
     abbrev p : Pair Event
     p = added old.desk.log d.log event done.entered
 
@@ -97,10 +150,10 @@ module _ {C : Type 0} (old : SessionMeaning C) (reading : ℕ) (answer : Answer)
     job_is : c.job ≡ old.coordinator.job
     job_is = ap (λ (c : Coordination). c.job) told
 
-    knows-c : Knows c (known_of d.log.part.own)
-    knows-c = subst (Knows c) (sym learnt) (learns k p answer calls.one.knows (record { due = due; is = of_tell old.desk.log d.log answer done.entered }))
+    knows-c : Knows false c (known_of d.log.part.own)
+    knows-c = subst (Knows false c) (sym learnt) (learns false k p answer calls.one.knows (record { due = due; is = of_tell old.desk.log d.log answer done.entered }))
 
-    knows-e : Knows e (known_of d.log.part.own)
+    knows-e : Knows false e (known_of d.log.part.own)
     knows-e = knowing (known_of d.log.part.own) knows-c nothing_due
 
     away_then : (number : ℕ) → is_on_way number d ≡ false
@@ -111,6 +164,12 @@ module _ {C : Type 0} (old : SessionMeaning C) (reading : ℕ) (answer : Answer)
 
     e-splits : e.splits ≡ old.coordinator.splits
     e-splits = ap (λ (c : Coordination). c.splits) handed ∙ ap (λ (c : Coordination). c.splits) told
+
+    e-pipelining : e.pipelining ≡ old.coordinator.pipelining
+    e-pipelining = ap (λ (c : Coordination). c.pipelining) handed ∙ ap (λ (c : Coordination). c.pipelining) told
+
+    e-later : e.later ≡ old.coordinator.later
+    e-later = ap (λ (c : Coordination). c.later) handed ∙ ap (λ (c : Coordination). c.later) told
 
     e-txn : e.txn ≡ old.coordinator.txn
     e-txn = ap (λ (c : Coordination). c.txn) handed ∙ ap (λ (c : Coordination). c.txn) told
@@ -134,17 +193,31 @@ module _ {C : Type 0} (old : SessionMeaning C) (reading : ℕ) (answer : Answer)
           each = now.left;
         }
 
+    -- a transaction that is open then was open
+    told_open : (w : Txn) → open_txn k ≡ Some w → (t : Txn) → open_txn (known_of (old.desk.log.part.own ++ p ∷ [])) ≡ Some t → (u : Txn) × (open_txn k ≡ Some u) × (t.id ≡ u.id)
+    told_open w open_w t opened =
+        told_back answer (replies_to k.sent_now k.heard_now) none_begins k.is_open k.txns t
+        (ap (λ ts. first_if (is_open_told answer k.is_open) ts) (sym (txns_plain answer k none_begins)) ∙ (ap open_txn (sym (ap known_of (sym grown_told.own) ∙ known_is)) ∙ opened))
+      where
+        none_begins : (id : TxnId) (ts : ℕ) → answer ≡ answers.Begun id ts → ⊥
+        none_begins id ts is =
+            no_begin old.coordinator.splits old.coordinator.session k (record { call = calls.call; reading = reading }) id ts (subst (λ a. MayTell old.coordinator.splits (actors.Session old.coordinator.session) k a) is may.may) calls.opened calls.outside (is_open_by k.is_open k.txns w open_w)
+
     pub told_rests : IsAtRest told_then
     told_rests = record {
       track = done.track;
-      one = one_on old.desk d old.coordinator e (p ∷ []) grown_told calls.one e-session e-splits knows-e;
+      one = one_on old.desk d old.coordinator e (p ∷ []) grown_told calls.one e-session e-splits e-pipelining knows-e;
       posted = none_posted d away_then;
       replies = none_answered d away_then;
       heard = all_heard d done.track away_then;
+      aside = λ number. ap (λ (x : DeskMeaning C). waits_aside number x) done.rest ∙ (aside number ∙ ap (has_waited number) (sym e-later));
       closed = closed_then;
       handed = ap (λ (c : Coordination). c.job) handed;
       holds = holds e (known_of d.log.part.own) knows-e closed_then;
       waiting = left_on;
+      behind = subst (WaitsBehindHeard (λ number. has_waited number e.later ≡ true)) (sym grown_told.own)
+          (λ number request waits. let of = calls.aside.epoch number (aside number ∙ (ap (has_waited number) (sym e-later) ∙ waits)) in behind_still old.desk.log.part.own (p ∷ []) (IsWaitedFor old.coordinator) (λ number. has_waited number e.later ≡ true) calls.behind (λ number waits. inr (ap (has_waited number) (sym e-later) ∙ waits))
+          (ap (λ own. (known_of own).sent) (sym grown_told.own) ∙ ap (λ (k : Known). k.sent) known_is) (ap (λ own. (known_of own).heard) (sym grown_told.own) ∙ ap (λ (k : Known). k.heard) known_is) (told_open of.t of.opened) number request waits);
     }
 
     -- the call was told
@@ -155,6 +228,6 @@ module _ {C : Type 0} (old : SessionMeaning C) (reading : ℕ) (answer : Answer)
       whole = refl;
       limit = ap (λ (d : DeskMeaning C). d.range_limit) done.rest;
       session = e-session;
-      suits = λ s opened. subst (SuitsNext answer s.call) (sym e-txn) (may.suits s opened);
+      suits = λ s opened. subst (λ b. SuitsNext b answer s.call e.txn) (sym e-pipelining) (subst (SuitsNext old.coordinator.pipelining answer s.call) (sym e-txn) (may.suits s opened));
       rest = told_rests;
     }

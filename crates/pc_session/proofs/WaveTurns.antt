@@ -1,5 +1,5 @@
 -- How the messages of a wave stand in turn: they go out, come back, and are sent again, each time from the first on.
-use Rattle.std.proofs.Common.{◌≡◌, ℕ, ◌<◌, ◌≤◌, Bool, true, false, cond, nat_le, ◌||◌, List, [], ◌∷◌, ◌++◌, All, find, Option, Some, None, refl, sym, ap, subst, ◌∙◌, arith}
+use Rattle.std.proofs.Common.{◌≡◌, ℕ, ◌<◌, ◌≤◌, Bool, true, false, cond, if◌then◌else◌, nat_le, nat_lt, ◌||◌, ◌&&◌, List, [], ◌∷◌, ◌++◌, All, find, Option, Some, None, refl, sym, ap, subst, ◌∙◌, arith}
 use Rattle.std.proofs.lemmas.Bool.{eq-eqb, leb-true}
 use Rattle.std.proofs.lemmas.List.{append-nil, append_assoc}
 use Rattle.std.proofs.lemmas.List.Elements.{All-cons, All-contains, All-head, All-nil, All-tail}
@@ -7,7 +7,6 @@ use Rattle.std.proofs.lemmas.List.Folds.{list_any_none}
 use Rattle.std.specs.List.{list_all, list_any}
 use Rattle.pc_base.specs.declared.limits.TheConstants.{MOST_CONFLICTS}
 use Rattle.pc_base.specs.declared.transaction.TxnId.{TxnId}
-use Rattle.pc_coord.specs.Coming.{AreUnsent}
 use Rattle.pc_lists.proofs.Lists.{all_from_contains}
 use Rattle.pc_proto.specs.declared.reply.Reply.{Reply}
 use Rattle.pc_proto.specs.declared.request.Request.{Request}
@@ -20,7 +19,7 @@ use Rattle.pc_wave.specs.declared.message.Message.{Message}
 use Rattle.pc_wave.specs.declared.message.Progress.{Progress}
 use Rattle.pc_wave.specs.declared.message.Progress.TheVariants as progresses
 use Rattle.pc_wave.specs.declared.step.Step.TheVariants as steps
-use Rattle.pc_wave.specs.Messages.{awaits_at, back_with, back_with_by, conflict_by, conflicts_at, first_changed, first_in_conflict, goes_again, has_answer, is_in_conflict, is_out, is_to_send, progress_conflicts, progress_in_conflict, progress_out, progress_to_send, sent_under, step_by, step_in, step_of, wave_awaits}
+use Rattle.pc_wave.specs.Messages.{awaits_at, back_with, back_with_by, conflict_by, conflicts_at, first_changed, first_in_conflict, goes_again, has_answer, is_in_conflict, is_out, is_pending, is_to_send, progress_conflicts, progress_in_conflict, progress_out, progress_to_send, sent_under, step_by, step_in, step_of, wave_awaits}
 use Rattle.pc_wave.specs.Standing.{Pairwise}
 
 or_parts : (a b : Bool) → (a || b) ≡ false → (a ≡ false) × (b ≡ false)
@@ -91,22 +90,26 @@ unsent_idle p is = ap progress_out (is_unsent p is)
 abbrev U : Message → Type 0
 U m = is_to_send m ≡ true
 
-pub unsent_none : (ms : List Message) → AreUnsent ms → list_any is_in_conflict ms ≡ false
+-- All of these are to be sent.
+abbrev pub AreAllToSend : List Message → Type 0
+AreAllToSend ms = All U ms
+
+pub unsent_none : (ms : List Message) → AreAllToSend ms → list_any is_in_conflict ms ≡ false
 unsent_none [] all = refl
 unsent_none (m ∷ ms) all = ap (λ b. b || list_any is_in_conflict ms) (unsent_unmet m.progress (All-head U m ms all)) ∙ unsent_none ms (All-tail U m ms all)
 
-unsent_out : (ms : List Message) → AreUnsent ms → list_any is_out ms ≡ false
+unsent_out : (ms : List Message) → AreAllToSend ms → list_any is_out ms ≡ false
 unsent_out [] all = refl
 unsent_out (m ∷ ms) all = ap (λ b. b || list_any is_out ms) (unsent_idle m.progress (All-head U m ms all)) ∙ unsent_out ms (All-tail U m ms all)
 
-pub order_unsent : (ms : List Message) → AreUnsent ms → Pairwise GoesBefore ms
+pub order_unsent : (ms : List Message) → AreAllToSend ms → Pairwise GoesBefore ms
 order_unsent [] all = tt
 order_unsent (m ∷ ms) all = (
   all_from_contains (GoesBefore m) ms (λ y there. subst (MayStandBehind m.progress) (sym (is_unsent y.progress (All-contains U ms y (All-tail U m ms all) there))) (before_unsent m.progress)),
   order_unsent ms (All-tail U m ms all),
 )
 
-pub apart_unsent : (ms : List Message) → AreUnsent ms → AreApart ms
+pub apart_unsent : (ms : List Message) → AreAllToSend ms → AreApart ms
 apart_unsent ms all out met = absurd (let e : false ≡ true = sym (unsent_out ms all) ∙ out in cc e)
 
 -- ---- one goes out
@@ -156,7 +159,7 @@ module _ (n : ℕ) where
       by : (b : Bool) → is_to_send m ≡ b → Pairwise GoesBefore (first_changed is_to_send (sent_under n) ms) → Pairwise GoesBefore (cond b (sent_under n m ∷ ms) (m ∷ first_changed is_to_send (sent_under n) ms))
       by true is later = (
         all_both (GoesBefore m) (λ y. is_in_conflict y ≡ false) (GoesBefore (sent_under n m))
-            (λ y may no. sent_first y.progress (subst (λ p. MayStandBehind p y.progress) (is_unsent m.progress is) may) no) ms order.0 (any_none is_in_conflict ms rest.1),
+            (λ y may isnt. sent_first y.progress (subst (λ p. MayStandBehind p y.progress) (is_unsent m.progress is) may) isnt) ms order.0 (any_none is_in_conflict ms rest.1),
         order.1,
       )
       by false not later = (
@@ -167,7 +170,7 @@ module _ (n : ℕ) where
   pub sent_none : (ms : List Message) → list_any is_in_conflict ms ≡ false → list_any is_in_conflict (first_changed is_to_send (sent_under n) ms) ≡ false
   sent_none ms none =
       list_any_none is_in_conflict (first_changed is_to_send (sent_under n) ms)
-      (all_changed is_to_send (sent_under n) (λ m. is_in_conflict m ≡ false) (λ m no is. refl) ms (any_none is_in_conflict ms none))
+      (all_changed is_to_send (sent_under n) (λ m. is_in_conflict m ≡ false) (λ m isnt is. refl) ms (any_none is_in_conflict ms none))
 
 -- ---- one comes back
 
@@ -251,7 +254,7 @@ module _ (n : ℕ) (reply : Reply) where
   pub sends_no_more : (ms : List Message) → All (λ m. is_to_send m ≡ false) ms → All (λ m. is_to_send m ≡ false) (first_changed (awaits_at n) (back_with n reply) ms)
   sends_no_more ms none =
       all_changed (awaits_at n) (back_with n reply) (λ m. is_to_send m ≡ false)
-      (λ m no is. elim (is_conflict reply) as (λ b. is_to_send (back_with_by b n reply m) ≡ false) [ true ↦ refl | false ↦ refl ]) ms none
+      (λ m isnt is. elim (is_conflict reply) as (λ b. is_to_send (back_with_by b n reply m) ≡ false) [ true ↦ refl | false ↦ refl ]) ms none
 
 -- ---- one is sent again
 
@@ -278,8 +281,8 @@ module _ (n : ℕ) where
           let yes : conflicts_at n y ≡ true = ap (progress_conflicts n) at ∙ eq-eqb n n refl in
           ap (λ ns. ns ++ numbers_met ms) (ap number_met at) ∙ ap (λ ns. n ∷ ns) (sym (ap F yes))
       by false not on there =
-          let no : conflicts_at n y ≡ false = met_conflicts n y.progress not in
-          ap (λ ns. ns ++ numbers_met ms) (unmet_number y.progress not) ∙ (on there ∙ ap (λ ns. n ∷ ns) (sym (ap F no ∙ ap (λ ns. ns ++ numbers_met (first_changed (conflicts_at n) goes_again ms)) (unmet_number y.progress not))))
+          let isnt : conflicts_at n y ≡ false = met_conflicts n y.progress not in
+          ap (λ ns. ns ++ numbers_met ms) (unmet_number y.progress not) ∙ (on there ∙ ap (λ ns. n ∷ ns) (sym (ap F isnt ∙ ap (λ ns. ns ++ numbers_met (first_changed (conflicts_at n) goes_again ms)) (unmet_number y.progress not))))
 
   again_first : (p : Progress) → progress_out p ≡ false → MayStandBehind progresses.ToSend p
   again_first progresses.ToSend none = tt
@@ -302,7 +305,7 @@ module _ (n : ℕ) where
   apart_again ms none out met =
       let still : list_any is_out (first_changed (conflicts_at n) goes_again ms) ≡ false =
       list_any_none is_out (first_changed (conflicts_at n) goes_again ms)
-      (all_changed (conflicts_at n) goes_again (λ m. is_out m ≡ false) (λ m no is. refl) ms (any_none is_out ms none)) in
+      (all_changed (conflicts_at n) goes_again (λ m. is_out m ≡ false) (λ m isnt is. refl) ms (any_none is_out ms none)) in
       absurd (let e : false ≡ true = sym still ∙ out in cc e)
 
 -- ---- what is due
@@ -317,24 +320,41 @@ in_sends conflicts (progresses.Sent number) request e = cc
 in_sends conflicts (progresses.Met number conflict) request e = conflict_sends (cond (nat_le MOST_CONFLICTS conflicts) (holder_in conflict) None) number conflict request e
 in_sends conflicts (progresses.Answered number reply) request e = cc
 
--- where a message is to be sent next, no conflict waits for its round
-pub sends_none : (ms : List Message) (request : Request) → step_of ms ≡ steps.Send request → AreApart ms → list_any is_in_conflict ms ≡ false
-sends_none ms request due apart = by (first_in_conflict ms) (find is_to_send ms) (list_all has_answer ms) refl refl due
+-- No sending of the message was lost.
+abbrev pub IsUnlost : Message → Type 0
+IsUnlost m = m.lost ≡ 0
+
+pending_out : (m : Message) → IsUnlost m → is_pending m ≡ is_out m
+pending_out m none = ap (λ n. is_out m || (is_to_send m && nat_lt 0 n)) none ∙ by (is_out m) (is_to_send m)
   where
-    none_met : (out : Bool) → list_any is_out ms ≡ out → cond out None (find is_in_conflict ms) ≡ None → (m : Message) → find is_to_send ms ≡ Some m → list_any is_in_conflict ms ≡ false
+    by : (a b : Bool) → (a || (b && false)) ≡ a
+    by true b = refl
+    by false true = refl
+    by false false = refl
+
+-- where nothing is lost, what is pending is out
+pending_all : (ms : List Message) → All IsUnlost ms → list_any is_pending ms ≡ list_any is_out ms
+pending_all [] none = refl
+pending_all (m ∷ ms) none = ap (λ b. b || list_any is_pending ms) (pending_out m (All-head IsUnlost m ms none)) ∙ ap (λ b. is_out m || b) (pending_all ms (All-tail IsUnlost m ms none))
+
+-- where a message is to be sent next, no conflict waits for its round
+pub sends_none : (ms : List Message) (request : Request) → All IsUnlost ms → step_of ms ≡ steps.Send request → AreApart ms → list_any is_in_conflict ms ≡ false
+sends_none ms request unlost due apart = by (first_in_conflict ms) (find is_to_send ms) (list_all has_answer ms) refl refl due
+  where
+    none_met : (out : Bool) → list_any is_out ms ≡ out → (if out then None else find is_in_conflict ms) ≡ None → (m : Message) → find is_to_send ms ≡ Some m → list_any is_in_conflict ms ≡ false
     none_met true out first m next = by_met (list_any is_in_conflict ms) refl
       where
         by_met : (b : Bool) → list_any is_in_conflict ms ≡ b → list_any is_in_conflict ms ≡ false
         by_met false is = is
         by_met true is =
-            let no : is_to_send m ≡ false = found_all is_to_send (λ (m : Message). is_to_send m ≡ false) ms m next (apart out is) in
+            let isnt : is_to_send m ≡ false = found_all is_to_send (λ (m : Message). is_to_send m ≡ false) ms m next (apart out is) in
             let yes : is_to_send m ≡ true = found_passes is_to_send ms m next in
-            absurd (let e : true ≡ false = sym yes ∙ no in cc e)
+            absurd (let e : true ≡ false = sym yes ∙ isnt in cc e)
     none_met false out first m next = list_any_none is_in_conflict ms (found_none is_in_conflict ms first)
 
     by : (first next : Option Message) (b : Bool) → first_in_conflict ms ≡ first → find is_to_send ms ≡ next → step_by first next b ≡ steps.Send request → list_any is_in_conflict ms ≡ false
     by (Some m) next b f n e = absurd (in_sends m.conflicts m.progress request e)
-    by None (Some m) b f n e = none_met (list_any is_out ms) refl f m n
+    by None (Some m) b f n e = none_met (list_any is_out ms) refl (sym (ap (λ b. if b then None else find is_in_conflict ms) (pending_all ms unlost)) ∙ f) m n
     by None None true f n e = absurd cc
     by None None false f n e = absurd cc
 

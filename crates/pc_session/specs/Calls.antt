@@ -15,7 +15,7 @@ use Rattle.pc_world.specs.Local.{is_outside, is_round}
 pub record MayBeCalled {C : Type 0} (s : SessionMeaning C) (call : Call) : Type 0 where
   pub no_round : is_round call ≡ false
   pub outside : is_outside call ≡ true → (session_knows s).is_open ≡ false
-  pub suits : Suits call s.coordinator.txn
+  pub suits : Suits s.coordinator.pipelining call s.coordinator.txn
 
 -- The session asked the call and was told this answer; between the two it sent and heard the call's messages, and did nothing else. It rests
 -- again; and which calls suit its transaction now.
@@ -26,5 +26,5 @@ pub record HasCalled {C : Type 0} (old new : SessionMeaning C) (call : Call) (an
   pub told : whole.answer ≡ answer
   pub limit : new.desk.range_limit ≡ old.desk.range_limit
   pub session : new.coordinator.session ≡ old.coordinator.session
-  pub suits : SuitsNext answer call new.coordinator.txn
+  pub suits : SuitsNext new.coordinator.pipelining answer call new.coordinator.txn
   pub rest : IsAtRest new

@@ -1,16 +1,20 @@
 -- The conflicts of an open call have their rounds in the order in which they were heard, which is that of the call's messages.
-use Rattle.std.specs.Prelude.{◌≡◌, ℕ, ◌<◌, true, false, List, [], ◌∷◌, ◌++◌, length, map, All, ⊤}
+use Rattle.std.specs.Prelude.{◌≡◌, ℕ, ◌<◌, ◌==◌, Bool, None, true, false, List, [], ◌∷◌, ◌++◌, length, map, All, ⊤}
 use Rattle.std.specs.List.{flat_map, list_any}
+use Rattle.pc_call.specs.declared.call.OpenCall.{OpenCall}
+use Rattle.pc_call.specs.Met.{AreMetBy}
+use Rattle.pc_coord.specs.Coming.{goes_by_sequence}
 use Rattle.pc_coord.specs.declared.due.Due.{Due}
 use Rattle.pc_coord.specs.declared.due.Due.TheVariants as dues
 use Rattle.pc_exchange.specs.InTurn.{pushes_answered}
 use Rattle.pc_wave.specs.declared.message.Message.{Message}
 use Rattle.pc_wave.specs.declared.message.Progress.{Progress}
 use Rattle.pc_wave.specs.declared.message.Progress.TheVariants as progresses
-use Rattle.pc_wave.specs.Messages.{is_in_conflict, is_out, is_to_send}
+use Rattle.pc_wave.specs.Messages.{awaits_at, is_in_conflict, is_out, is_to_send}
 use Rattle.pc_wave.specs.Standing.{Pairwise}
 use Rattle.pc_follows.specs.FirstBlock.{TellsFirstBlock}
 use Rattle.pc_follows.specs.Rounds.{AreRoundsOver, conflicts_now, rounds_begun}
+use Rattle.pc_follows.specs.RoundsMade.{rounds_made}
 use Rattle.pc_world.specs.Known.{Known}
 use Rattle.pc_world.specs.Known.Traffic.{Heard}
 
@@ -51,18 +55,36 @@ pub record HasRoundsInTurn (k : Known) (messages : List Message) : Type 0 where
   pub order : Pairwise GoesBefore messages
   pub apart : AreApart messages
 
+-- Of the conflicts that wait for their rounds none was pushed, and they are the ones that the call's messages have met, in the order of the messages.
+pub record HasRoundsWaiting (k : Known) (messages : List Message) : Type 0 where
+  pub unpushed : (rounds_made k).push ≡ None
+  pub met : AreMetBy messages (rounds_made k).waiting
+
+-- So it is, but where the call goes by sequence: there its coordinator knows which conflicts wait.
+abbrev pub WaitsUnless : Bool → Known → List Message → Type 0
+WaitsUnless true k messages = ⊤
+WaitsUnless false k messages = HasRoundsWaiting k messages
+
+-- Where the first is still to be sent, the other is not out that stands behind it, unless it was sent before the call.
+abbrev pub GoesOutFirst : Known → Message → Message → Type 0
+GoesOutFirst k one other = is_to_send one ≡ true → (number : ℕ) → awaits_at number other ≡ true → list_any (λ m. m.number == number) k.sent_now ≡ false
+
+-- The messages of an open call where writes are pipelined: they go out in their order, but for those that waited in the outbox; the conflicts that they
+-- met have their rounds in that order; and none of them was recovered meanwhile.
+pub record HasRoundsPiped (k : Known) (call : OpenCall) : Type 0 where
+  pub waits : WaitsUnless (goes_by_sequence call.purpose) k call.wave
+  pub unrecovered : (rounds_made k).recovered ≡ None
+  pub order : Pairwise (GoesOutFirst k) call.wave
+  pub apart : AreApart call.wave
+
 -- Where a reply to a message of the call is waited for, none of its conflicts waits for its round.
 abbrev pub WaitsForReplies : Due → Type 0
 WaitsForReplies (dues.Call call) = list_any is_out call.wave ≡ true → list_any is_in_conflict call.wave ≡ false
 WaitsForReplies _ = ⊤
 
 -- The open call keeps that; or the answer that is due names the holder that blocks it first.
-abbrev pub KeepsTurn : Known → Due → Type 0
-KeepsTurn k dues.Nothing = ⊤
-KeepsTurn k (dues.Call call) = HasRoundsInTurn k call.wave
-KeepsTurn k (dues.Tell answer) = TellsFirstBlock k answer
-
--- No message of the call is to be sent.
-abbrev pub SendsNoMore : Due → Type 0
-SendsNoMore (dues.Call call) = All (λ m. is_to_send m ≡ false) call.wave
-SendsNoMore _ = ⊤
+abbrev pub KeepsTurn : Bool → Known → Due → Type 0
+KeepsTurn pipelining k dues.Nothing = ⊤
+KeepsTurn false k (dues.Call call) = HasRoundsInTurn k call.wave
+KeepsTurn true k (dues.Call call) = HasRoundsPiped k call
+KeepsTurn pipelining k (dues.Tell answer) = TellsFirstBlock pipelining k answer

@@ -7,3 +7,4 @@ pub mod Steps
 pub mod Ending
 pub mod Token
 pub mod Learning
+pub mod Behind

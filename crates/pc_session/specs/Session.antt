@@ -1,6 +1,8 @@
 -- A session between its calls.
-use Rattle.std.specs.Prelude.{◌≡◌, ◌≤◌, false, is_some, None, List, [], map, All, IsTrue}
+use Rattle.std.specs.Prelude.{◌≡◌, ℕ, ◌≤◌, ◌==◌, Bool, false, is_some, None, List, [], map, All, true}
+use Rattle.std.specs.List.{list_any}
 use Rattle.pc_base.specs.declared.actor.ActorId.TheVariants as actors
+use Rattle.pc_call.specs.Outbox.{has_waited}
 use Rattle.pc_coord.specs.Coordination.{Coordination}
 use Rattle.pc_coord.specs.declared.job.Job.{Job}
 use Rattle.pc_coord.specs.Knows.{Knows, messages_of_job}
@@ -9,8 +11,9 @@ use Rattle.pc_exchange.specs.Jobs.{IsFinishable}
 use Rattle.pc_history.specs.declared.pair.Pair.{Pair}
 use Rattle.pc_proto.specs.declared.event.Event.{Event}
 use Rattle.pc_follows.specs.FinishingJobs.{jobs_of}
+use Rattle.pc_follows.specs.WaveOrder.{IsHeardOrPut}
 use Rattle.pc_world.specs.Known.{Known, known_of}
-use Rattle.pc_world.specs.Tell.Refusal.{is_heard}
+use Rattle.pc_session.specs.Behind.{WaitsBehindHeard}
 
 -- A session: its own list and its messages on their way; its coordinator; and the jobs that its transactions left, the oldest first.
 pub record SessionMeaning (C : Type 0) : Type 0 where
@@ -22,12 +25,17 @@ pub record SessionMeaning (C : Type 0) : Type 0 where
 abbrev pub session_knows : {C : Type 0} → SessionMeaning C → Known
 session_knows s = known_of s.desk.log.part.own
 
--- The desk and the coordinator are of one session, which does not pipeline its writes, and the coordinator knows what the own list says.
+-- A message of this number was set aside, and was not evaluated since.
+abbrev pub waits_aside : {C : Type 0} → ℕ → DeskMeaning C → Bool
+waits_aside number d = list_any (λ m. m.number == number) d.later
+
+-- The desk and the coordinator are of one session: writes are pipelined for both, or for neither; and the coordinator knows what the own list says,
+-- over a wire that loses nothing.
 pub record AreOfOneSession {C : Type 0} (d : DeskMeaning C) (c : Coordination) : Type 0 where
   pub whose : d.log.part.id ≡ actors.Session c.session
   pub splits : c.splits ≡ d.log.head.splits
-  pub unpiped : d.log.pipelining ≡ false
-  pub knows : Knows c (known_of d.log.part.own)
+  pub piped : d.log.pipelining ≡ c.pipelining
+  pub knows : Knows false c (known_of d.log.part.own)
 
 -- These jobs wait after the own list, and each may be done; its transactions are numbered up to how many were begun.
 pub record HasLeft (own : List (Pair Event)) (jobs : List Job) : Type 0 where
@@ -35,18 +43,21 @@ pub record HasLeft (own : List (Pair Event)) (jobs : List Job) : Type 0 where
   pub numbers : All (λ t. t.id.number ≤ (known_of own).begun) (known_of own).txns
   pub each : All (IsFinishable (known_of own)) jobs
 
--- The session is between its calls: no call is open, all that it sent was heard, its last transaction's job was taken over, and its jobs
--- may be done. It has a transaction open exactly where its coordinator has one.
+-- The session is between its calls: no call is open, all that it sent was heard but for puts, and of those just the ones wait that its coordinator
+-- has wait in the outbox; its last transaction's job was taken over, and its jobs may be done. It has a transaction open exactly where its
+-- coordinator has one. What waits stands behind what was heard to queries of its writes.
 pub record IsAtRest {C : Type 0} (s : SessionMeaning C) : Type 0 where
   pub track : KeepsTrack s.desk
   pub one : AreOfOneSession s.desk s.coordinator
   pub posted : s.desk.posted ≡ []
   pub replies : s.desk.replies ≡ []
-  pub heard : All (λ m. IsTrue (is_heard (session_knows s).heard m)) (session_knows s).sent
+  pub heard : All (IsHeardOrPut (session_knows s).heard) (session_knows s).sent
+  pub aside : (number : ℕ) → waits_aside number s.desk ≡ has_waited number s.coordinator.later
   pub closed : (session_knows s).statement ≡ None
   pub handed : s.coordinator.job ≡ None
   pub holds : is_some s.coordinator.txn ≡ (session_knows s).is_open
   pub waiting : HasLeft s.desk.log.part.own s.jobs
+  pub behind : WaitsBehindHeard (λ number. has_waited number s.coordinator.later ≡ true) s.desk.log.part.own
 
 -- The session is between its calls, or has stopped and makes no more entries.
 abbrev pub RestsOrStopped : {C : Type 0} → SessionMeaning C → Type 0

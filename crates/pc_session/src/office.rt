@@ -1,6 +1,9 @@
 ghost use Rattle.std.specs.Prelude.{◌≡◌, ℕ, ◌+◌, ◌++◌, [], true, false, is_some, length, map, All, IfErr, IfOk, IfSome, OnOk, Some};
+ghost use Rattle.std.specs.List.Sorted.{IsStrictlySortedBy};
 ghost use Rattle.std.specs.Option.{option_to_list};
+ghost use Rattle.std.specs.Ordering.{nat_cmp};
 ghost use Rattle.pc_base.specs.declared.transaction.TxnId.{TxnId};
+ghost use Rattle.pc_call.specs.Outbox.{has_waited};
 ghost use Rattle.pc_coord.specs.Coordination.{next_of, without_job};
 ghost use Rattle.pc_coord.specs.declared.due.Due.TheVariants as dues;
 ghost use Rattle.pc_coord.specs.declared.next.Next.TheVariants as nexts;
@@ -8,20 +11,22 @@ ghost use Rattle.pc_coord.specs.Knows.{Knows, MayCome, MayFinishJob};
 ghost use Rattle.pc_desk.specs.Commits.{TellsCommitAt};
 ghost use Rattle.pc_desk.specs.declared.halt.Halt.TheVariants as halts;
 ghost use Rattle.pc_desk.specs.Desk.{HasHalted, IsReadyToGo};
-ghost use Rattle.pc_desk.specs.Ending.{EndsOnly};
+ghost use Rattle.pc_desk.specs.Ending.{EndsOnly, all_waiting};
 ghost use Rattle.pc_desk.specs.Keeping.{ReadsEach};
 ghost use Rattle.pc_desk.specs.OwnLog.{IsOwnLog};
 ghost use Rattle.pc_exchange.specs.Ending.{BreaksOff};
+ghost use Rattle.pc_follows.specs.WaveOrder.{EndsPutWaves};
 ghost use Rattle.pc_proto.specs.declared.answer.Answer.TheVariants as answers;
 ghost use Rattle.pc_proto.specs.declared.call.Call.TheVariants as calls;
 ghost use Rattle.pc_proto.specs.declared.event.Event.TheVariants as events;
 ghost use Rattle.pc_session.specs.Calls.{HasCalled, MayBeCalled};
 ghost use Rattle.pc_session.specs.Ending.{AreOfBrokenCall, AreOfOpenCall};
-ghost use Rattle.pc_session.specs.InCall.{GoesOnOrTold, HasAsked, HasGoneInside, HasOpenCall, IsBetweenWaves, IsWholeOut};
+ghost use Rattle.pc_session.specs.InCall.{ends_epoch, is_rollback, GoesOnOrTold, HasAsked, HasDroppedAtMost, HasGoneInside, HasJoinedIfAwaited, HasOpenCall, IsBetweenWaves, IsWholeOut};
 ghost use Rattle.pc_session.specs.Learning.{AreOfBrokenLearn, HasAskedToLearn, HasLearnt, HasMet, IsLearning};
-ghost use Rattle.pc_session.specs.Session.{IsAtRest, session_knows};
+ghost use Rattle.pc_session.specs.Session.{IsAtRest, waits_aside, session_knows};
 ghost use Rattle.pc_session.specs.Steps.{HasStepped};
 ghost use Rattle.pc_turns.specs.Order.{IsInBetween};
+ghost use Rattle.pc_wire.specs.Outbox.{first_from};
 ghost use Rattle.pc_world.specs.Known.{Known};
 
 use crate::token::{Token, commit_at};
@@ -113,7 +118,10 @@ impl<'a, N: Named<CommitWorld>, C: Clock, V: Wire, G: Gate> Office<'a, N, C, V, 
     fn meet(&mut self, reading: u64, token: Token<N>) -> Result<(), Halt>
         requires calls { HasOpenCall self.old reading }
         requires learning { IsLearning self.old token.id }
+        requires between { IsBetweenWaves self.old.desk }
         ensures calls { OnOk result (HasOpenCall self.new reading) }
+        ensures puts { OnOk result (EndsPutWaves self.new.desk.log.part.own) }
+        ensures aside { (number : ℕ) → OnOk result (waits_aside number self.new.desk ≡ has_waited number self.new.coordinator.later) }
         ensures due { OnOk result (self.new.coordinator.due ≡ dues.Tell answers.Learnt) }
         ensures met { OnOk result (HasMet self.old self.new token.id token.step) }
         ensures err { IfErr result (HasHalted self.old.desk self.new.desk) }
@@ -142,6 +150,7 @@ impl<'a, N: Named<CommitWorld>, C: Clock, V: Wire, G: Gate> Office<'a, N, C, V, 
         requires may { MayBeCalled self.old call }
         ensures calls { IfOk result (HasOpenCall self.new) }
         ensures between { OnOk result (IsBetweenWaves self.new.desk) }
+        ensures alone { OnOk result (self.new.desk.posted ≡ []) }
         ensures asked { IfOk result (HasAsked self.old self.new call) }
         ensures learns { (id : TxnId) → call ≡ calls.Learn id → IfOk result (HasAskedToLearn self.old self.new id) }
         ensures err { IfErr result (HasHalted self.old.desk self.new.desk) }
@@ -159,11 +168,30 @@ impl<'a, N: Named<CommitWorld>, C: Clock, V: Wire, G: Gate> Office<'a, N, C, V, 
         }
     }
 
+    /// Asks the call. Where it rolls its transaction back, the puts that still wait in the outbox are evaluated right behind.
+    fn begin_call<R: Wait>(&mut self, rt: &R, call: Call) -> Result<u64, Halt>
+        requires rest { IsAtRest self.old }
+        requires may { MayBeCalled self.old call }
+        ensures calls { IfOk result (HasOpenCall self.new) }
+        ensures between { OnOk result (IsBetweenWaves self.new.desk) }
+        ensures asked { IfOk result (HasAsked self.old self.new call) }
+        ensures err { IfErr result (HasHalted self.old.desk self.new.desk) }
+        ensures ended { IfErr result (λ halt. BreaksOff (AreOfBrokenCall call halt) self.old.desk self.new.desk halt) }
+        ensures rule { C.rule self.new.desk.log.clock ≡ C.rule self.old.desk.log.clock }
+    {
+        let rolls_back = is_rollback(&call);
+        let reading = self.ask(call)?;
+        if rolls_back {
+            self.desk.deliver_strays(rt)?;
+        }
+        Ok(reading)
+    }
+
     /// What is due in the call that was asked at this reading.
     fn due(&mut self, reading: u64) -> Result<Next, Halt>
         requires { HasOpenCall self.old reading }
         ensures due { IfOk result (λ next. next ≡ next_of self.new.coordinator) }
-        ensures may { IfOk result (MayCome self.new.coordinator (session_knows self.new)) }
+        ensures may { IfOk result (MayCome false self.new.coordinator (session_knows self.new)) }
         ensures calls { OnOk result (HasOpenCall self.new reading) }
         ensures same { OnOk result (self.new ≡ self.old) }
         ensures err { IfErr result (HasHalted self.old.desk self.new.desk) }
@@ -181,7 +209,7 @@ impl<'a, N: Named<CommitWorld>, C: Clock, V: Wire, G: Gate> Office<'a, N, C, V, 
         requires calls { HasOpenCall self.old reading }
         requires between { IsBetweenWaves self.old.desk }
         requires due { next_of self.old.coordinator ≡ nexts.Send request }
-        requires may { MayCome self.old.coordinator (session_knows self.old) (nexts.Send request) }
+        requires may { MayCome false self.old.coordinator (session_knows self.old) (nexts.Send request) }
         ensures ok { IfOk result (GoesOnOrTold self.old self.new reading) }
         ensures err { IfErr result (HasHalted self.old.desk self.new.desk) }
         ensures ended { IfErr result (BreaksOff (All IsInBetween) self.old.desk self.new.desk) }
@@ -192,6 +220,80 @@ impl<'a, N: Named<CommitWorld>, C: Clock, V: Wire, G: Gate> Office<'a, N, C, V, 
             Ok(()) => Ok(None),
             Err(NoMemory) => Err(self.want_memory()),
         }
+    }
+
+    /// Sends a put that the call is told written at once. It waits in the outbox until a wave waits for it.
+    fn send_later(&mut self, reading: u64, request: Request) -> Result<Option<Answer>, Halt>
+        requires calls { HasOpenCall self.old reading }
+        requires between { IsBetweenWaves self.old.desk }
+        requires due { next_of self.old.coordinator ≡ nexts.Later request }
+        requires may { MayCome false self.old.coordinator (session_knows self.old) (nexts.Later request) }
+        ensures ok { IfOk result (GoesOnOrTold self.old self.new reading) }
+        ensures err { IfErr result (HasHalted self.old.desk self.new.desk) }
+        ensures ended { IfErr result (BreaksOff (All IsInBetween) self.old.desk self.new.desk) }
+        ensures clock { self.new.desk.log.clock ≡ self.old.desk.log.clock }
+    {
+        let number = self.desk.send(request)?;
+        self.desk.set_aside(number)?;
+        match self.coordinator.sent(number) {
+            Ok(()) => Ok(None),
+            Err(NoMemory) => Err(self.want_memory()),
+        }
+    }
+
+    /// The puts in the outbox for which the wave waits go with it.
+    fn join_awaited(&mut self, reading: u64) -> Result<(), Halt>
+        requires calls { HasOpenCall self.old reading }
+        requires between { IsBetweenWaves self.old.desk }
+        requires due { next_of self.old.coordinator ≡ nexts.Wave }
+        ensures calls { OnOk result (HasOpenCall self.new reading) }
+        ensures whole { OnOk result (IsWholeOut self.new) }
+        ensures goes { OnOk result (HasGoneInside self.old self.new) }
+        ensures none_waits { OnOk result (self.new.desk.replies ≡ []) }
+        ensures err { IfErr result (HasHalted self.old.desk self.new.desk) }
+        ensures ended { IfErr result (BreaksOff (All IsInBetween) self.old.desk self.new.desk) }
+        ensures clock { self.new.desk.log.clock ≡ self.old.desk.log.clock }
+    {
+        let mut next = self.first_aside();
+        while let Some(number) = next {
+            self.join_if_awaited(reading, number)?;
+            next = self.aside_from(number + 1);
+        }
+        Ok(())
+    }
+
+    /// The least number at which a message was set aside.
+    fn first_aside(&self) -> Option<u64>
+        ensures first { result ≡ first_from 0 (map (λ m. m.number) self.now.desk.later) }
+        ensures in_order { IsStrictlySortedBy nat_cmp (map (λ m. m.number) self.now.desk.later) }
+    {
+        self.desk.next_aside(0)
+    }
+
+    /// The least number from this one on at which a message was set aside.
+    fn aside_from(&self, number: u64) -> Option<u64>
+        ensures first { result ≡ first_from number (map (λ m. m.number) self.now.desk.later) }
+        ensures in_order { IsStrictlySortedBy nat_cmp (map (λ m. m.number) self.now.desk.later) }
+    {
+        self.desk.next_aside(number)
+    }
+
+    /// The put of this number, which was set aside, goes with the wave if the wave waits for it.
+    fn join_if_awaited(&mut self, reading: u64, number: u64) -> Result<(), Halt>
+        requires calls { HasOpenCall self.old reading }
+        requires due { next_of self.old.coordinator ≡ nexts.Wave }
+        requires none_waits { self.old.desk.replies ≡ [] }
+        requires aside { waits_aside number self.old.desk ≡ true }
+        ensures calls { OnOk result (HasOpenCall self.new reading) }
+        ensures joined { OnOk result (HasJoinedIfAwaited self.old self.new number) }
+        ensures err { IfErr result (HasHalted self.old.desk self.new.desk) }
+        ensures ended { IfErr result (BreaksOff (All IsInBetween) self.old.desk self.new.desk) }
+        ensures clock { self.new.desk.log.clock ≡ self.old.desk.log.clock }
+    {
+        if self.coordinator.waits_for(number) {
+            self.desk.join(number)?;
+        }
+        Ok(())
     }
 
     /// Hears the reply that has waited longest. False where none waits.
@@ -233,7 +335,7 @@ impl<'a, N: Named<CommitWorld>, C: Clock, V: Wire, G: Gate> Office<'a, N, C, V, 
     ) -> Result<Option<Answer>, Halt>
         requires calls { HasOpenCall self.old reading }
         requires due { next_of self.old.coordinator ≡ nexts.Conflict number conflict reader }
-        requires may { MayCome self.old.coordinator (session_knows self.old) (nexts.Conflict number conflict reader) }
+        requires may { MayCome false self.old.coordinator (session_knows self.old) (nexts.Conflict number conflict reader) }
         ensures ok { IfOk result (GoesOnOrTold self.old self.new reading) }
         ensures err { IfErr result (HasHalted self.old.desk self.new.desk) }
         ensures ended { IfErr result (BreaksOff (All IsInBetween) self.old.desk self.new.desk) }
@@ -251,11 +353,50 @@ impl<'a, N: Named<CommitWorld>, C: Clock, V: Wire, G: Gate> Office<'a, N, C, V, 
         }
     }
 
+    /// The open call is to be told its answer. Where that ends its transaction's epoch, the puts that still wait in the outbox are evaluated first.
+    fn end<R: Wait>(&mut self, rt: &R, reading: u64, answer: Answer) -> Result<Option<Answer>, Halt>
+        requires calls { HasOpenCall self.old reading }
+        requires between { IsBetweenWaves self.old.desk }
+        requires due { next_of self.old.coordinator ≡ nexts.Tell answer }
+        requires may { MayCome false self.old.coordinator (session_knows self.old) (nexts.Tell answer) }
+        ensures ok { IfOk result (GoesOnOrTold self.old self.new reading) }
+        ensures told { IfOk result (λ told. told ≡ Some answer) }
+        ensures err { IfErr result (HasHalted self.old.desk self.new.desk) }
+        ensures ended { IfErr result (EndsOnly (λ made. made ≡ events.Tell answer) self.old.desk self.new.desk) }
+        ensures clock { self.new.desk.log.clock ≡ self.old.desk.log.clock }
+    {
+        self.drop_strays(rt, reading, &answer)?;
+        self.tell(reading, answer)
+    }
+
+    /// Where this answer, which is due, ends its transaction's epoch, the puts that still wait in the outbox are evaluated.
+    fn drop_strays<R: Wait>(&mut self, rt: &R, reading: u64, answer: &Answer) -> Result<(), Halt>
+        requires calls { HasOpenCall self.old reading }
+        requires between { IsBetweenWaves self.old.desk }
+        requires due { next_of self.old.coordinator ≡ nexts.Tell answer.now }
+        requires may { MayCome false self.old.coordinator (session_knows self.old) (nexts.Tell answer.now) }
+        ensures calls { OnOk result (HasOpenCall self.new reading) }
+        ensures puts { OnOk result (EndsPutWaves self.new.desk.log.part.own) }
+        ensures aside { (number : ℕ) → OnOk result (waits_aside number self.new.desk ≡ has_waited number self.new.coordinator.later) }
+        ensures may { OnOk result (MayCome false self.new.coordinator (session_knows self.new) (nexts.Tell answer.now)) }
+        ensures dropped { OnOk result (HasDroppedAtMost self.old self.new) }
+        ensures err { IfErr result (HasHalted self.old.desk self.new.desk) }
+        ensures ended { IfErr result (EndsOnly (λ made. ⊥) self.old.desk self.new.desk) }
+        ensures clock { self.new.desk.log.clock ≡ self.old.desk.log.clock }
+    {
+        if ends_epoch(answer) {
+            self.desk.deliver_strays(rt)?;
+        }
+        Ok(())
+    }
+
     /// The open call is told its answer; what its transaction left becomes the newest job.
     fn tell(&mut self, reading: u64, answer: Answer) -> Result<Option<Answer>, Halt>
         requires calls { HasOpenCall self.old reading }
+        requires puts { EndsPutWaves self.old.desk.log.part.own }
+        requires aside { (number : ℕ) → waits_aside number self.old.desk ≡ has_waited number self.old.coordinator.later }
         requires due { next_of self.old.coordinator ≡ nexts.Tell answer }
-        requires may { MayCome self.old.coordinator (session_knows self.old) (nexts.Tell answer) }
+        requires may { MayCome false self.old.coordinator (session_knows self.old) (nexts.Tell answer) }
         ensures ok { IfOk result (GoesOnOrTold self.old self.new reading) }
         ensures told { IfOk result (λ told. told ≡ Some answer) }
         ensures err { IfErr result (HasHalted self.old.desk self.new.desk) }
@@ -279,8 +420,8 @@ impl<'a, N: Named<CommitWorld>, C: Clock, V: Wire, G: Gate> Office<'a, N, C, V, 
         ensures desk { self.new.desk ≡ self.old.desk }
         ensures made { self.new.coordinator ≡ without_job self.old.coordinator }
         ensures jobs { OnOk result (self.new.jobs ≡ self.old.jobs ++ option_to_list self.old.coordinator.job) }
-        ensures knows { (k : Known) → Knows self.old.coordinator k → self.old.coordinator.due ≡ dues.Nothing → Knows self.new.coordinator k }
-        ensures may { (k : Known) → Knows self.old.coordinator k → self.old.coordinator.due ≡ dues.Nothing → IfSome self.old.coordinator.job (MayFinishJob k) }
+        ensures knows { (k : Known) → Knows false self.old.coordinator k → self.old.coordinator.due ≡ dues.Nothing → Knows false self.new.coordinator k }
+        ensures may { (k : Known) → Knows false self.old.coordinator k → self.old.coordinator.due ≡ dues.Nothing → IfSome self.old.coordinator.job (MayFinishJob k) }
     {
         if let Some(job) = self.coordinator.job() {
             self.jobs.push_back(job)?;
@@ -327,7 +468,7 @@ impl<'a, N: Named<CommitWorld> + Send + Sync, C: Clock, V: Wire, G: Gate + Sync>
         ensures ended { IfErr result (λ halt. BreaksOff (AreOfBrokenCall call halt) self.old.desk self.new.desk halt) }
         ensures rule { C.rule self.new.desk.log.clock ≡ C.rule self.old.desk.log.clock }
     {
-        let reading = self.ask(call)?;
+        let reading = self.begin_call(rt, call)?;
         for _ in rt.forever() {
             if let Some(answer) = self.go_on(rt, reading)? {
                 return Ok(answer);
@@ -351,13 +492,14 @@ impl<'a, N: Named<CommitWorld> + Send + Sync, C: Clock, V: Wire, G: Gate + Sync>
     {
         match self.due(reading)? {
             Next::Send(request) => self.send(reading, request),
+            Next::Later(request) => self.send_later(reading, request),
             Next::Wave => self.wave(rt, reading),
             Next::Conflict {
                 number,
                 conflict,
                 reader,
             } => self.round(rt, reading, number, conflict, reader),
-            Next::Tell(answer) => self.tell(reading, answer),
+            Next::Tell(answer) => self.end(rt, reading, answer),
             Next::Idle => unreachable!(),
         }
     }
@@ -376,6 +518,7 @@ impl<'a, N: Named<CommitWorld> + Send + Sync, C: Clock, V: Wire, G: Gate + Sync>
         ensures ended { IfErr result (BreaksOff (All IsInBetween) self.old.desk self.new.desk) }
         ensures clock { self.new.desk.log.clock ≡ self.old.desk.log.clock }
     {
+        self.join_awaited(reading)?;
         self.deliver(rt, reading)?;
         loop {
             if !self.hear(reading)? {
@@ -407,9 +550,30 @@ impl<'a, N: Named<CommitWorld>, C: Clock + Drop, V: Wire + Drop, G> Office<'a, N
         ensures actor { (result.0.world ≡ self.entry.desk.log.head) × (result.0.part ≡ self.entry.desk.log.part) }
         ensures log { IsOwnLog self.entry.desk.log }
         ensures reads { ReadsEach (C.rule self.entry.desk.log.clock) self.entry.desk.log.part.own }
-        ensures rest { map (λ w. w.posted) result.1 ≡ self.entry.desk.posted }
+        ensures rest { map (λ w. w.posted) result.1 ≡ all_waiting self.entry.desk }
         ensures ready { All (IsReadyToGo self.entry.desk.log.part.id self.entry.desk.log.head.splits) result.1 }
     {
         self.desk.finish()
     }
+}
+
+/// Whether the answer ends its transaction, or an epoch of it, whose puts may still wait in the outbox.
+fn ends_epoch(answer: &Answer) -> bool
+    ensures { result ≡ ends_epoch answer.now }
+{
+    matches!(
+        answer,
+        Answer::Restart { .. }
+            | Answer::Aborted { .. }
+            | Answer::Unknown { .. }
+            | Answer::Committed { .. }
+            | Answer::RolledBack { .. }
+    )
+}
+
+/// Whether the call rolls its transaction back.
+fn is_rollback(call: &Call) -> bool
+    ensures { result ≡ is_rollback call.now }
+{
+    matches!(call, Call::Rollback)
 }

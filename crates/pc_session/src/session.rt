@@ -3,6 +3,7 @@ ghost use Rattle.pc_base.specs.declared.actor.ActorId.TheVariants as actors;
 ghost use Rattle.pc_base.specs.Rising.{AreRising};
 ghost use Rattle.pc_desk.specs.Commits.{WasTold};
 ghost use Rattle.pc_desk.specs.Desk.{HasHalted, IsReadyToGo, new_desk};
+ghost use Rattle.pc_desk.specs.Ending.{all_waiting};
 ghost use Rattle.pc_desk.specs.Keeping.{ReadsEach};
 ghost use Rattle.pc_desk.specs.OwnLog.{IsOwnLog};
 ghost use Rattle.pc_exchange.specs.Ending.{BreaksOff};
@@ -70,12 +71,12 @@ impl<'a, N: Named<CommitWorld>, C: Clock, V: Wire, G: Gate> Session<'a, N, C, V,
         requires whose { actor.part ≡ newcomer (actors.Session number) }
         requires there { IsActorOf actor.world (actors.Session number) }
         requires unread { C.reads clock ≡ 0 }
+        requires tries { 1 ≤ tries }
         requires limit { limit < 2 ^ 32 }
         requires stop { IfSome stop (λ n. 1 ≤ n) }
         requires splits { ranges.now.splits ≡ actor.world.splits }
         requires rising { AreRising actor.world.splits }
         requires few { length actor.world.splits ≤ 31 }
-        requires unpiped { pipelining ≡ false }
         requires quiet { (number : ℕ) → V.rule wire number ≡ verdicts.Deliver }
         ensures made { result.desk ≡ new_desk actor.world actor.part actor.spare clock pipelining beside limit stop ranges.now.limit }
         ensures session { result.coordinator.session ≡ number }
@@ -214,7 +215,7 @@ impl<'a, N: Named<CommitWorld>, C: Clock + Drop, V: Wire + Drop, G> Session<'a, 
         ensures actor { (result.0.world ≡ self.entry.desk.log.head) × (result.0.part ≡ self.entry.desk.log.part) }
         ensures log { IsOwnLog self.entry.desk.log }
         ensures reads { ReadsEach (C.rule self.entry.desk.log.clock) self.entry.desk.log.part.own }
-        ensures rest { map (λ w. w.posted) result.1 ≡ self.entry.desk.posted }
+        ensures rest { map (λ w. w.posted) result.1 ≡ all_waiting self.entry.desk }
         ensures ready { All (IsReadyToGo self.entry.desk.log.part.id self.entry.desk.log.head.splits) result.1 }
         ensures rests { RestsOrStopped self.entry }
     {

@@ -24,7 +24,7 @@ use Rattle.pc_staging.specs.declared.stage_out.StageOut.{StageOut}
 use Rattle.pc_staging.specs.Hearing.{HasGrown}
 use Rattle.pc_staging.specs.Kept.{Evidence}
 use Rattle.pc_staging.specs.Laws.{LeavesStages, ProvesOn, SendsNothingNew, StagingIsKept, StagingStandsOn, StaysOrIsFree}
-use Rattle.pc_staging.specs.Standing.{AreEvidence, HasUnproved, IsBehind, IsCommitOut, IsLastStep, IsRefusedCommitBelow, AreRefutedBelow, IsUnprovedAt, ListsUnproved, StagingStands, WasStagedAt, WasStageSent}
+use Rattle.pc_staging.specs.Standing.{AreEvidence, HasUnproved, IsBehind, IsCommitOut, IsLastStep, IsPastStageBelow, IsRefusedCommitBelow, AreRefutedBelow, IsUnprovedAt, ListsUnproved, StagingStands, WasStagedAt, WasStageSent}
 use Rattle.pc_world.specs.Known.{Known}
 use Rattle.pc_world.specs.Known.Traffic.{Heard, Sent}
 use Rattle.pc_world.specs.Known.Transactions.{Txn, lists_write}
@@ -206,6 +206,13 @@ module _ (k now : Known) (stages : List SentStage) (commit : Option SentCommit) 
       (All-append (IsRefusedCommitBelow t.id to) k.heard heard_more
       (All-weaker (IsRefusedCommitBelow t.id t.write_ts) (IsRefusedCommitBelow t.id to) (λ h r c whose refuses. let below : c.ts < t.write_ts = r c whose refuses in omega (arith, below, low)) k.heard st.passed) new)
 
+  -- and what shows no record that went another way leaves the stages of those that did below
+  pub went_past_on : (to : ℕ) → t.write_ts ≤ to → All (IsPastStageBelow t.id to) heard_more → All (IsPastStageBelow t.id to) now.heard
+  went_past_on to low new =
+      subst (λ hs. All (IsPastStageBelow t.id to) hs) (sym grown.heard)
+      (All-append (IsPastStageBelow t.id to) k.heard heard_more
+      (All-weaker (IsPastStageBelow t.id t.write_ts) (IsPastStageBelow t.id to) (λ h r s whose past. let below : s.ts < t.write_ts = r s whose past in omega (arith, below, low)) k.heard st.went_past) new)
+
   pub staged_on : (staged : Option ℕ) → IfSome staged (WasStagedAt k.heard t) → IfSome staged (WasStagedAt now.heard t)
   staged_on None h = tt
   staged_on (Some ts) h =
@@ -313,6 +320,9 @@ module _ (k now : Known) (stages : List SentStage) (commit : Option SentCommit) 
         passed = subst (λ n. All (IsRefusedCommitBelow later.id n) now.heard) (sym at)
             (subst (λ i. All (IsRefusedCommitBelow i to) now.heard) (sym same)
             (passed_on k now stages commit t x st sent_more heard_more grown to low (All-weaker Leaves (IsRefusedCommitBelow t.id to) (λ h l c whose r. absurd (l.1 (refused_open t.id c h whose r))) heard_more leave)));
+        went_past = subst (λ n. All (IsPastStageBelow later.id n) now.heard) (sym at)
+            (subst (λ i. All (IsPastStageBelow i to) now.heard) (sym same)
+            (went_past_on k now stages commit t x st sent_more heard_more grown to low (All-weaker Leaves (IsPastStageBelow t.id to) (λ h l s whose r. absurd (l.1 (past_open t.id s h whose r))) heard_more leave)));
         refused = subst (λ i. EachCommit i now.sent (λ c. (commit ≡ Some c) ⊎ WasCommitRefused now.heard c)) (sym same) refused;
         commit_at = st.commit_at;
         out = subst (λ i. IfSome commit (IsCommitOut now.sent now.heard i)) (sym same)

@@ -6,7 +6,7 @@ use Rattle.std.proofs.lemmas.List.Elements.{All-contains, All-cons, All-nil}
 use Rattle.pc_base.specs.declared.transaction.TxnId.{TxnId}
 use Rattle.pc_base.specs.Transaction.{same_txn}
 use Rattle.pc_lists.proofs.Anywhere.{any_last}
-use Rattle.pc_lists.proofs.Lists.{all_from_contains, contains_filter, contains_in_filter}
+use Rattle.pc_lists.proofs.Lists.{all_from_contains, contains_cons, contains_filter, contains_in_filter, contains_nil}
 use Rattle.pc_lists.proofs.Same.{same_txn-self}
 use Rattle.pc_proto.specs.declared.reply.Reply.{Reply}
 use Rattle.pc_proto.specs.declared.reply.Reply.TheVariants as replies
@@ -19,13 +19,13 @@ use Rattle.pc_proto.specs.Requests.{is_about, is_commit, is_stage_or_commit}
 use Rattle.pc_proto.specs.Views.{is_final_view, is_staging_at, undecided_ts}
 use Rattle.pc_staging.proofs.Evidenced.{evidence_elsewhere, evidence_on, evidence_step, map_same, ShowsOpen}
 use Rattle.pc_staging.proofs.Fates.{one_commit, one_stage, past_behind, same_id}
-use Rattle.pc_staging.proofs.Going.{all_late_on, each_on, goes_on, late_on, out_on, passed_on, reached_on, refused_on, reply_proves, sent_on, staged_on, undecided_on, timely_on}
+use Rattle.pc_staging.proofs.Going.{all_late_on, each_on, goes_on, late_on, out_on, passed_on, reached_on, refused_on, reply_proves, sent_on, staged_on, undecided_on, timely_on, went_past_on}
 use Rattle.pc_staging.proofs.Steps.{first_on, first_push, last_push}
 use Rattle.pc_staging.specs.declared.stage_out.StageOut.{StageOut}
 use Rattle.pc_staging.specs.Hearing.{HasGrown, HearsBeat, HearsCommit, HearsMissing, HearsStage, HearsWritten}
 use Rattle.pc_staging.specs.Kept.{Evidence, after_commit, after_stage, after_view, later_step, refuted_above, refuted_at, refuted_by, seen_undecided, stages_elsewhere, with_stages, without_stage}
 use Rattle.pc_staging.specs.Laws.{SendsNothingNew}
-use Rattle.pc_staging.specs.Standing.{AreEvidence, AreRefutedBelow, IsBehind, IsCommitOut, IsEvidenceOf, IsLastStep, IsRefusedCommitBelow, StagingStands, WasStagedAt, WasStageSent, commit_after, stages_after}
+use Rattle.pc_staging.specs.Standing.{AreEvidence, AreRefutedBelow, IsBehind, IsCommitOut, IsEvidenceOf, IsLastStep, IsPastStageBelow, IsRefusedCommitBelow, StagingStands, WasStagedAt, WasStageSent, commit_after, stages_after}
 use Rattle.pc_world.specs.Known.{Known}
 use Rattle.pc_world.specs.Known.Traffic.{Heard}
 use Rattle.pc_world.specs.Known.Transactions.{Txn, has_staged, lists_write, missing_ts, raised_to, txn_heard}
@@ -94,6 +94,16 @@ own_all heard t (s ∷ ss) (o ∷ os) e = All-cons (IsOwnStage t) s ss (e.0.whos
 pub own_each : (heard : List Heard) (t : Txn) (ss : List SentStage) (os : List StageOut) → AreEvidence heard t ss os → (s : SentStage) → Contains ss s → IsOwnStage t s
 own_each heard t ss os e s there = All-contains (IsOwnStage t) ss s (own_all heard t ss os e) there
 
+-- what is kept of one of the stages
+pub evidence_of : (heard : List Heard) (t : Txn) (ss : List SentStage) (os : List StageOut) → AreEvidence heard t ss os → (s : SentStage) → Contains ss s → (o : StageOut) × IsEvidenceOf heard t s o
+evidence_of heard t [] os e s there = absurd (contains_nil s there)
+evidence_of heard t (y ∷ ss) [] e s there = absurd e
+evidence_of heard t (y ∷ ss) (o ∷ os) e s there =
+    elim (contains_cons y ss s there) [
+      | inl is ↦ (o, subst (λ y. IsEvidenceOf heard t y o) is e.0)
+      | inr later ↦ evidence_of heard t ss os e.1 s later
+    ]
+
 module _ (k now : Known) (stages : List SentStage) (commit : Option SentCommit) (t : Txn) (x : Evidence) (st : StagingStands k stages commit t x) (h : Heard) (grown : HasGrown k now [] (h ∷ [])) where
   abbrev pub after : Txn
   after = txn_heard k.sent (Some h) t
@@ -115,7 +125,7 @@ module _ (k now : Known) (stages : List SentStage) (commit : Option SentCommit) 
   module _ (kept : List SentStage) (os : List StageOut) (out : Option SentCommit) (staged at : Option ℕ) (quiet : TellsNoWrite h.request) (shows : ShowsOpen t.id h)
       (drop : (s : SentStage) → Contains stages s → IsLateByRecord (k.heard ++ h ∷ []) s ⊎ Contains kept s) (subset : (s : SentStage) → Contains kept s → Contains stages s) (e : AreEvidence k.heard t kept os)
       (not_past : (s : SentStage) → Contains kept s → RefutesRecord s h → ⊥) (staged_is : IfSome staged (WasStagedAt now.heard t))
-      (commits : (c : SentCommit) → commit ≡ Some c → (out ≡ Some c) ⊎ WasCommitRefused (k.heard ++ h ∷ []) c) (at_is : at ≡ option_map (λ c. c.ts) out) (out_is : IfSome out (IsCommitOut now.sent now.heard t.id)) (staged_kept : IfSome staged (λ ts. Any (λ s. s.ts ≡ ts) kept)) (out_old : (c : SentCommit) → out ≡ Some c → commit ≡ Some c) (past : IsRefusedCommitBelow t.id after.write_ts h) where
+      (commits : (c : SentCommit) → commit ≡ Some c → (out ≡ Some c) ⊎ WasCommitRefused (k.heard ++ h ∷ []) c) (at_is : at ≡ option_map (λ c. c.ts) out) (out_is : IfSome out (IsCommitOut now.sent now.heard t.id)) (staged_kept : IfSome staged (λ ts. Any (λ s. s.ts ≡ ts) kept)) (out_old : (c : SentCommit) → out ≡ Some c → commit ≡ Some c) (past : IsRefusedCommitBelow t.id after.write_ts h) (gone : IsPastStageBelow t.id after.write_ts h) where
     -- a view that is not final was heard
     pub hears_open : StagingStands now kept out after (record { stages = os; staged = staged; undecided = Some (later_step x.undecided h.step); commit = at })
     hears_open = record {
@@ -145,6 +155,7 @@ module _ (k now : Known) (stages : List SentStage) (commit : Option SentCommit) 
       last_undecided = subst (λ hs. IsLastStep (ShowsOpen t.id) hs (Some (later_step x.undecided h.step))) (sym grown.heard) (last_push (ShowsOpen t.id) x.undecided k.heard h st.last_undecided shows);
       refused = refused_on k now stages commit t x st [] (h ∷ []) grown out commits (All-nil (λ m. OnCommit t.id (λ c. (out ≡ Some c) ⊎ WasCommitRefused (k.heard ++ h ∷ []) c) m.request));
       passed = passed_on k now stages commit t x st [] (h ∷ []) grown after.write_ts rises (All-cons (IsRefusedCommitBelow t.id after.write_ts) h [] past (All-nil (IsRefusedCommitBelow t.id after.write_ts)));
+      went_past = went_past_on k now stages commit t x st [] (h ∷ []) grown after.write_ts rises (All-cons (IsPastStageBelow t.id after.write_ts) h [] gone (All-nil (IsPastStageBelow t.id after.write_ts)));
       commit_at = at_is;
       out = out_is;
     }
@@ -183,6 +194,17 @@ module _ (k now : Known) (stages : List SentStage) (commit : Option SentCommit) 
     refuses_none : IsRefusedCommitBelow t.id after.write_ts h
     refuses_none c whose r = let same : stage_request s ≡ commit_request c = sym hears.asked ∙ r.asked in let bad : false ≡ true = ap is_commit same in absurd cc
 
+    -- where its record went another way, the write timestamp rises to where that stands, above it
+    gone_below : is_past_stage s view ≡ true → IsPastStageBelow t.id after.write_ts h
+    gone_below past y whose r =
+        let at : y.ts ≡ s.ts = ap (λ (z : SentStage). z.ts) (shown_past y r).0 in
+        let low : s.ts < undecided_ts view = hears.past past in
+        let up : raised_to t.id k.sent h.request h.reply ≡ undecided_ts view =
+        ap (λ r. raised_to t.id k.sent r h.reply) hears.asked ∙ ap (λ p. raised_to t.id k.sent (stage_request s) p) hears.told
+        ∙ ap (λ b. cond b (undecided_ts view) 0) (same_id s.meta.id t.id own.0) in
+        let goal : y.ts < max t.write_ts (raised_to t.id k.sent h.request h.reply) = omega (arith, at, low, up) in
+        goal
+
     abbrev P : SentStage → Bool
     P y = not (y.ts == s.ts)
 
@@ -206,6 +228,7 @@ module _ (k now : Known) (stages : List SentStage) (commit : Option SentCommit) 
         let p = shown_past y r in
         staged_not_past s view (ap (λ epoch. is_staging_at epoch s.ts view) own.1 ∙ staging) p.1)
         (staged_here staging) (λ c is. inl is) st.commit_at (out_on k now stages commit t x st [] (h ∷ []) grown no_refusal) (let (n, inside, at) = there in (n, s, inside, at, refl)) (λ c is. is) refuses_none
+        (λ y whose r. absurd (staged_not_past s view (ap (λ epoch. is_staging_at epoch s.ts view) own.1 ∙ staging) (shown_past y r).1))
     by_view false false unfinal other =
         let past : is_past_stage s view ≡ true = elsewhere_past s view unfinal (ap (λ epoch. is_staging_at epoch s.ts view) own.1 ∙ other) in
         let late : IsLateByRecord (k.heard ++ h ∷ []) s = any_last (RefutesRecord s) k.heard h (record { asked = hears.asked; past = ap (shows_past s) hears.told ∙ past }) in
@@ -218,7 +241,7 @@ module _ (k now : Known) (stages : List SentStage) (commit : Option SentCommit) 
         let away : not (y.ts == s.ts) ≡ true = (contains_filter P stages y on).1 in
         let here : (y.ts == s.ts) ≡ true = eq-eqb y.ts s.ts (ap (λ z. z.ts) same) in
         absurd cc)
-        tt (λ c is. inl is) st.commit_at (out_on k now stages commit t x st [] (h ∷ []) grown no_refusal) tt (λ c is. is) refuses_none
+        tt (λ c is. inl is) st.commit_at (out_on k now stages commit t x st [] (h ∷ []) grown no_refusal) tt (λ c is. is) refuses_none (gone_below past)
       where
         dropped : IsLateByRecord (k.heard ++ h ∷ []) s → (y : SentStage) → Contains stages y → (b : Bool) → (y.ts == s.ts) ≡ b → IsLateByRecord (k.heard ++ h ∷ []) y ⊎ Contains (filter P stages) y
         dropped late y on true is =
@@ -261,6 +284,7 @@ module _ (k now : Known) (stages : List SentStage) (commit : Option SentCommit) 
         (λ c is. All-cons (λ g. Refuses c g → ⊥) h [] (λ r. let bad : is_stage_or_commit h.request ≡ true = ap is_stage_or_commit r.asked in let none = beat_decides in absurd cc) (All-nil (λ g. Refuses c g → ⊥))))
         st.staged_by (λ c is. is)
         (λ c whose r. let bad : is_stage_or_commit h.request ≡ true = ap is_stage_or_commit r.asked in let none = beat_decides in absurd cc)
+        (λ s whose r. let bad : is_stage_or_commit h.request ≡ true = ap is_stage_or_commit r.asked in let none = beat_decides in absurd cc)
 
     pub beat_heard : (step : ℕ) (made : Evidence) → h.step ≡ step → made ≡ after_view step view x → StagingStands now stages commit after made
     beat_heard step made at is =
@@ -305,7 +329,7 @@ module _ (k now : Known) (stages : List SentStage) (t : Txn) (x : Evidence) (c :
         asked = hears.asked ∙ ap commit_request same;
         unsettled = ap is_undecided_status hears.told ∙ ap not unfinal;
       })))
-      refl tt st.staged_by (λ d is. let bad : None ≡ Some d = is in absurd cc) (below_now unfinal)
+      refl tt st.staged_by (λ d is. let bad : None ≡ Some d = is in absurd cc) (below_now unfinal) (λ s whose r. absurd (is_no_stage s r))
 
   -- it was refused
   pub commit_refused : is_final_view view ≡ false → (step : ℕ) → h.step ≡ step → StagingStands now stages None then (record (seen_undecided step x) { commit = None })
@@ -397,6 +421,10 @@ module _ (k now : Known) (stages : List SentStage) (commit : Option SentCommit) 
         (All-cons (IsRefusedCommitBelow t.id since.write_ts) h []
         (λ c whose r. let bad : is_stage_or_commit h.request ≡ true = ap is_stage_or_commit r.asked in let none = decides in absurd cc)
         (All-nil (IsRefusedCommitBelow t.id since.write_ts)));
+    went_past = went_past_on k now stages commit t x st [] (h ∷ []) grown since.write_ts no_earlier
+        (All-cons (IsPastStageBelow t.id since.write_ts) h []
+        (λ s whose r. let bad : is_stage_or_commit h.request ≡ true = ap is_stage_or_commit r.asked in let none = decides in absurd cc)
+        (All-nil (IsPastStageBelow t.id since.write_ts)));
     commit_at = st.commit_at;
     out = out_on k now stages commit t x st [] (h ∷ []) grown
         (λ c is.
@@ -425,6 +453,10 @@ module _ (k now : Known) (stages : List SentStage) (commit : Option SentCommit) 
         ∙ all_hold (same_txn w.meta.id s.meta.id) (w.meta.epoch == s.meta.epoch) (lists_write w.key w.seq s.writes) (nat_lt s.ts ts) (same_id w.meta.id s.meta.id (w.whose ∙ sym e.whose))
         (same_epoch w.meta.epoch s.meta.epoch (w.epoch_now ∙ sym e.epoch_now)) (e.lists w.key w.seq w.waiting)
         ∙ ap (λ n. nat_lt n ts) (sym e.at)
+
+    -- a stage that is kept is refuted exactly where the write was written above it
+    pub refutes_above : (s : SentStage) → Contains stages s → is_write_refuted s h.request h.reply ≡ nat_lt s.ts ts
+    refutes_above s there = let e = evidence_of k.heard t stages x.stages st.kept s there in put_refutes s e.0 there e.1 ∙ ap (λ n. nat_lt n ts) e.1.at
 
     put_raises : raised_to t.id k.sent h.request h.reply ≡ ts
     put_raises =
@@ -466,6 +498,10 @@ module _ (k now : Known) (stages : List SentStage) (commit : Option SentCommit) 
         ∙ swap_last (same_txn t.id s.meta.id) (t.epoch == s.meta.epoch) (lists_write w.key w.seq s.writes) (ts == s.ts) (same_id t.id s.meta.id (sym e.whose)) (same_epoch t.epoch s.meta.epoch (sym e.epoch_now))
         (e.lists w.key w.seq w.waiting)
         ∙ turn ts s.ts ∙ ap (λ n. n == ts) (sym e.at)
+
+    -- a stage that is kept is refuted exactly where the query was at its timestamp
+    pub refutes_at : (s : SentStage) → Contains stages s → is_write_refuted s h.request h.reply ≡ (s.ts == ts)
+    refutes_at s there = let e = evidence_of k.heard t stages x.stages st.kept s there in query_refutes s e.0 there e.1 ∙ ap (λ n. n == ts) e.1.at
 
     query_raises : raised_to t.id k.sent h.request h.reply ≡ ts + 1
     query_raises =

@@ -15,16 +15,16 @@ use Rattle.pc_proto.specs.Requests.{is_about}
 use Rattle.pc_staging.proofs.Deciding.{late_stages, none_out, over_yes, passed_yes}
 use Rattle.pc_staging.proofs.Evidenced.{both_true, evidence_on, evidence_push, evidence_step, map_same, ShowsOpen}
 use Rattle.pc_staging.proofs.Fates.{commit_new, commit_no_stage, each_commit-more, none_more, stage_new, stage_no_commit}
-use Rattle.pc_staging.proofs.Going.{each_on, late_on, lists_in_flight, out_on, passed_on, reached_on, refused_on, sent_on, staged_on, undecided_on}
+use Rattle.pc_staging.proofs.Going.{each_on, late_on, lists_in_flight, out_on, passed_on, reached_on, refused_on, sent_on, staged_on, undecided_on, went_past_on}
 use Rattle.pc_staging.proofs.Steps.{first_on}
 use Rattle.pc_staging.specs.declared.stage_out.StageOut.{StageOut}
 use Rattle.pc_staging.specs.Hearing.{HasSentNothing, SendsCommit, SendsStage}
 use Rattle.pc_staging.specs.Kept.{Evidence, is_dead_by, is_over, is_passed_by, is_refuted, is_step_before, nothing_kept, with_stages, without_stages}
-use Rattle.pc_staging.specs.Standing.{AreEvidence, AreRefutedBelow, IsBehind, IsEvidenceOf, IsRefusedCommitBelow, StagingStands, WasStageSent}
+use Rattle.pc_staging.specs.Standing.{AreEvidence, AreRefutedBelow, IsBehind, IsEvidenceOf, IsPastStageBelow, IsRefusedCommitBelow, StagingStands, WasStageSent}
 use Rattle.pc_world.specs.Known.{Known}
 use Rattle.pc_world.specs.Known.Traffic.{Heard, Sent}
 use Rattle.pc_world.specs.Known.Transactions.{Txn, txn_sent}
-use Rattle.pc_world.specs.StageFate.{EachStage, IsDead, IsLate, OnCommit, OnStage, RefutesRecord, RefutesWrite, Refuses, SentCommit, SentStage, WasCommitRefused, commit_request, stage_request}
+use Rattle.pc_world.specs.StageFate.{EachStage, IsDead, IsLate, IsLateByRecord, OnCommit, OnStage, RefutesRecord, RefutesWrite, Refuses, SentCommit, SentStage, WasCommitRefused, commit_request, stage_request}
 use Rattle.pc_world.specs.Send.Stage.{IsPassed}
 
 -- ---- nothing was sent
@@ -39,6 +39,9 @@ no_commit id P request none = tt
 
 refused_about : (id : TxnId) (c : SentCommit) (h : Heard) → c.meta.id ≡ id → Refuses c h → is_about id h.request ≡ true
 refused_about id c h whose r = ap (is_about id) r.asked ∙ ap (λ i. same_txn i id) whose ∙ same_txn-self id
+
+past_about : (id : TxnId) (s : SentStage) (h : Heard) → s.meta.id ≡ id → RefutesRecord s h → is_about id h.request ≡ true
+past_about id s h whose r = ap (is_about id) r.asked ∙ ap (λ i. same_txn i id) whose ∙ same_txn-self id
 
 unseen : (id : TxnId) (h : Heard) → is_about id h.request ≡ false → ShowsOpen id h → ⊥
 unseen id h none shows = let is : is_about id h.request ≡ true = (both_true (is_about id h.request) _ shows).0 in absurd cc
@@ -59,6 +62,8 @@ nothing_stands k t none = record {
   refused = All-weaker (λ m. is_about t.id m.request ≡ false) (λ m. OnCommit t.id (λ c. (None ≡ Some c) ⊎ WasCommitRefused k.heard c) m.request) (λ m no. no_commit t.id (λ c. (None ≡ Some c) ⊎ WasCommitRefused k.heard c) m.request no) k.sent none.none_sent;
   passed = All-weaker (λ h. is_about t.id h.request ≡ false) (IsRefusedCommitBelow t.id t.write_ts)
       (λ h no c whose r. let is : is_about t.id h.request ≡ true = refused_about t.id c h whose r in absurd cc) k.heard none.none_heard;
+  went_past = All-weaker (λ h. is_about t.id h.request ≡ false) (IsPastStageBelow t.id t.write_ts)
+      (λ h no s whose r. let is : is_about t.id h.request ≡ true = past_about t.id s h whose r in absurd cc) k.heard none.none_heard;
   commit_at = refl;
   out = tt;
 }
@@ -84,6 +89,14 @@ module _ (k now : Known) (stages : List SentStage) (commit : Option SentCommit) 
       (λ h r w. let below : s.ts < t.write_ts = r s sends.whose w.refuted in let at : s.ts ≡ t.write_ts = sends.at_write_ts in absurd (omega arith))
       k.heard st.reached
 
+  -- a stage whose record went another way lies below the write timestamp
+  not_past : IsLateByRecord k.heard s → ⊥
+  not_past (i, h, there, is, r) =
+      let below : IsPastStageBelow t.id t.write_ts h = All-contains (IsPastStageBelow t.id t.write_ts) k.heard h st.went_past (i, there, is) in
+      let low : s.ts < t.write_ts = below s sends.whose r in
+      let at : s.ts ≡ t.write_ts = sends.at_write_ts in
+      absurd (omega (arith, low, at))
+
   own : IsEvidenceOf (k.heard ++ []) later s o0
   own = record {
     whose = sends.whose;
@@ -91,7 +104,7 @@ module _ (k now : Known) (stages : List SentStage) (commit : Option SentCommit) 
     lists = lists_in_flight s t.writes sends.in_flight;
     at = refl;
     first_refuted = first_on (RefutesWrite s) None k.heard [] unrefuted (All-nil (λ h. RefutesWrite s h → ⊥));
-    not_past = none_more (RefutesRecord s) k.heard [] sends.not_past (All-nil (λ h. RefutesRecord s h → ⊥));
+    not_past = none_more (RefutesRecord s) k.heard [] not_past (All-nil (λ h. RefutesRecord s h → ⊥));
   }
 
   older : AreEvidence (k.heard ++ []) later stages x.stages
@@ -174,6 +187,7 @@ module _ (k now : Known) (stages : List SentStage) (commit : Option SentCommit) 
         refused = refused_on k now stages commit t x st (m0 ∷ []) [] grown commit (λ c is. inl is)
             (All-cons (λ m. OnCommit t.id C m.request) m0 [] (stage_no_commit t.id C s m0.request sends.sends.said) (All-nil (λ m. OnCommit t.id C m.request)));
         passed = passed_on k now stages commit t x st (m0 ∷ []) [] grown t.write_ts same_time (All-nil (IsRefusedCommitBelow t.id t.write_ts));
+        went_past = went_past_on k now stages commit t x st (m0 ∷ []) [] grown t.write_ts same_time (All-nil (IsPastStageBelow t.id t.write_ts));
         commit_at = st.commit_at;
         out = out_on k now stages commit t x st (m0 ∷ []) [] grown (λ c is. All-nil (λ h. Refuses c h → ⊥));
       }
@@ -239,6 +253,7 @@ module _ (k now : Known) (stages : List SentStage) (commit : Option SentCommit) 
         refused = refused_on k now stages commit t x st (m1 ∷ []) [] grown (Some c) (λ d is. let bad : None ≡ Some d = sym none_before ∙ is in absurd cc)
             (All-cons (λ m. OnCommit t.id D m.request) m1 [] (commit_new t.id D c m1.request sends.sends.said (inl refl)) (All-nil (λ m. OnCommit t.id D m.request)));
         passed = passed_on k now stages commit t x st (m1 ∷ []) [] grown t.write_ts as_late (All-nil (IsRefusedCommitBelow t.id t.write_ts));
+        went_past = went_past_on k now stages commit t x st (m1 ∷ []) [] grown t.write_ts as_late (All-nil (IsPastStageBelow t.id t.write_ts));
         commit_at = refl;
         out = record {
           went_out = went;
@@ -297,6 +312,7 @@ forgets k stages commit t x st over =
       behind_commit = λ c is. let bad : None ≡ Some c = is in absurd cc;
       reached = st.reached;
       passed = st.passed;
+      went_past = st.went_past;
       last_staged = tt;
       last_undecided = st.last_undecided;
       refused = each_commit-more t.id (WasCommitRefused k.heard) P (λ c refused. inr refused) k.sent dead.commits;

@@ -13,7 +13,7 @@ use Rattle.pc_world.specs.Known.{Known}
 use Rattle.pc_world.specs.Known.Traffic.{Heard, Sent}
 use Rattle.pc_world.specs.Known.Transactions.{Txn, has_staged}
 use Rattle.pc_world.specs.Known.Writes.{listed_as, unproved}
-use Rattle.pc_world.specs.StageFate.{IsLateByRecord, SentCommit, SentStage, commit_request, stage_request}
+use Rattle.pc_world.specs.StageFate.{SentCommit, SentStage, commit_request, is_past_stage, stage_request}
 
 -- The session has sent and heard nothing of the transaction's record, nor of its writes.
 pub record HasSentNothing (k : Known) (t : Txn) : Type 0 where
@@ -32,15 +32,13 @@ pub record SendsRequest (k now : Known) (request : Request) : Type 0 where
   pub grown : HasGrown k now (m ∷ []) []
   pub said : m.request ≡ request
 
--- The session sent a stage of the transaction's epoch, at its write timestamp, which lists the writes in flight and was not told before
--- that its record went another way.
+-- The session sent a stage of the transaction's epoch, at its write timestamp, which lists the writes in flight.
 pub record SendsStage (k now : Known) (t : Txn) (s : SentStage) : Type 0 where
   pub sends : SendsRequest k now (stage_request s)
   pub whose : s.meta.id ≡ t.id
   pub epoch_now : s.meta.epoch ≡ t.epoch
   pub at_write_ts : s.ts ≡ t.write_ts
   pub in_flight : s.writes ≡ listed_as (unproved t.writes)
-  pub not_past : IsLateByRecord k.heard s → ⊥
 
 -- The session sent a commit of the transaction, at its write timestamp.
 pub record SendsCommit (k now : Known) (t : Txn) (c : SentCommit) : Type 0 where
@@ -48,11 +46,12 @@ pub record SendsCommit (k now : Known) (t : Txn) (c : SentCommit) : Type 0 where
   pub whose : c.meta.id ≡ t.id
   pub at_write_ts : c.ts ≡ t.write_ts
 
--- The stage was told this view.
+-- The stage was told this view: a record that is not final, and does not stage so, stands above it.
 pub record HearsStage (k now : Known) (s : SentStage) (view : View) (h : Heard) : Type 0 where
   pub grown : HasGrown k now [] (h ∷ [])
   pub asked : h.request ≡ stage_request s
   pub told : h.reply ≡ replies.Status view
+  pub past : is_past_stage s view ≡ true → s.ts < undecided_ts view
 
 -- The commit was told this view: a record that is not final stands above it.
 pub record HearsCommit (k now : Known) (c : SentCommit) (view : View) (h : Heard) : Type 0 where

@@ -11,7 +11,7 @@ use Rattle.pc_world.specs.Known.Traffic.{Heard, Sent}
 use Rattle.pc_world.specs.Known.Transactions.{Txn, lists_write}
 use Rattle.pc_world.specs.Known.Writes.{Write, is_proved}
 use Rattle.pc_world.specs.Send.Stage.{IsPassed}
-use Rattle.pc_world.specs.StageFate.{EachCommit, EachStage, IsDead, IsLate, IsLateByRecord, RefutesWrite, Refuses, SentCommit, SentStage, WasCommitRefused, commit_request, is_write_refuted, stage_request}
+use Rattle.pc_world.specs.StageFate.{EachCommit, EachStage, IsDead, IsLate, IsLateByRecord, RefutesRecord, RefutesWrite, Refuses, SentCommit, SentStage, WasCommitRefused, commit_request, is_write_refuted, stage_request}
 use Rattle.pc_world.specs.Tell.End.{shows_staging}
 use Rattle.pc_world.specs.Views.{shows_undecided}
 
@@ -85,9 +85,14 @@ WasStagedAt heard t ts = Any (λ h. IsTrue (shows_staging t.id t.epoch ts h)) he
 abbrev pub IsRefusedCommitBelow : TxnId → ℕ → Heard → Type 0
 IsRefusedCommitBelow id ts h = (c : SentCommit) → c.meta.id ≡ id → Refuses c h → c.ts < ts
 
+-- If the reply shows that the record went another way than a stage of the transaction, that stage lies below this timestamp: its record stood
+-- above it.
+abbrev pub IsPastStageBelow : TxnId → ℕ → Heard → Type 0
+IsPastStageBelow id ts h = (s : SentStage) → s.meta.id ≡ id → RefutesRecord s h → s.ts < ts
+
 -- Each stage that the transaction sent is dead and passed, or kept as its session knows it, no two of these at one timestamp; all but the
--- last of these are late, and the last one too where a commit is out; each commit was refused but for that one, below the write timestamp;
--- and what was seen of its record last is as its session heard it.
+-- last of these are late, and the last one too where a commit is out; each commit was refused but for that one, below the write timestamp,
+-- and so is each stage whose record went another way; and what was seen of its record last is as its session heard it.
 pub record StagingStands (k : Known) (stages : List SentStage) (commit : Option SentCommit) (t : Txn) (x : Evidence) : Type 0 where
   pub each : EachStage t.id k.sent (λ s. IsBehind k.heard t.write_ts s ⊎ Contains stages s)
   pub sent : All (WasStageSent k.sent t.id) stages
@@ -101,6 +106,7 @@ pub record StagingStands (k : Known) (stages : List SentStage) (commit : Option 
   pub last_undecided : IsLastStep (λ h. IsTrue (shows_undecided t.id h.request h.reply)) k.heard x.undecided
   pub refused : EachCommit t.id k.sent (λ c. (commit ≡ Some c) ⊎ WasCommitRefused k.heard c)
   pub passed : All (IsRefusedCommitBelow t.id t.write_ts) k.heard
+  pub went_past : All (IsPastStageBelow t.id t.write_ts) k.heard
   pub commit_at : x.commit ≡ option_map (λ c. c.ts) commit
   pub out : IfSome commit (IsCommitOut k.sent k.heard t.id)
   pub behind_commit : (c : SentCommit) → commit ≡ Some c → All (IsLate k.heard) stages

@@ -4,7 +4,7 @@ ghost use Rattle.pc_flight.specs.InFlight.{FlightStands};
 ghost use Rattle.pc_proto.specs.declared.view.View.{View};
 ghost use Rattle.pc_proto.specs.Views.{is_final_view, is_staging_at};
 ghost use Rattle.pc_staging.specs.Hearing.{HasSentNothing, HearsBeat, HearsCommit, HearsMissing, HearsStage, HearsWritten, SendsCommit, SendsStage};
-ghost use Rattle.pc_staging.specs.Kept.{Evidence, after_commit, after_stage, after_view, is_dead_by, is_live_at, is_over, is_passed_by, is_refuted, is_staged_and_proved, later_step, nothing_kept, refuted_above, refuted_at, seen_undecided, with_stages, without_stages, without_stage};
+ghost use Rattle.pc_staging.specs.Kept.{Evidence, after_commit, after_stage, after_view, is_dead_by, is_just, is_live_at, is_over, is_passed_by, is_refuted, is_staged_and_proved, later_step, nothing_kept, refuted_above, refuted_at, seen_undecided, with_stages, without_stages, without_stage};
 ghost use Rattle.pc_staging.specs.Standing.{IsPassedAll, StagingStands, commit_after, stages_after};
 ghost use Rattle.pc_world.specs.Known.{Known};
 ghost use Rattle.pc_world.specs.Known.Traffic.{Heard};
@@ -88,6 +88,7 @@ impl Staging {
 
     /// Whether the stage at this timestamp may be sent again: it is not late.
     pub fn is_live(&self, ts: Timestamp) -> bool
+        ensures made { result ≡ is_live_at ts self.now }
         ensures exactly { (k : Known) (stages : List SentStage) (commit : Option SentCommit) (t : Txn) (s : SentStage) → StagingStands k stages commit t self.now → Contains stages s → s.ts ≡ ts → IsTrue result ↔ (IsLate k.heard s → ⊥) }
     {
         self.has_live(ts)
@@ -99,6 +100,13 @@ impl Staging {
         self.stages
             .iter()
             .any(|stage| stage.ts == ts && !stage.is_late())
+    }
+
+    /// Whether the stage at this timestamp is where the record was last heard to stage.
+    pub fn is_staged_at(&self, ts: Timestamp) -> bool
+        ensures { result ≡ is_just ts self.now.staged }
+    {
+        self.staged.is_some_and(|staged| staged == ts)
     }
 
     /// Whether the transaction is committed by its stage: no write is in flight any more, and it was heard to be staged at its write

@@ -39,6 +39,7 @@ runner_went work index old new part runner by =
       script = runner.script ∙ sym same.script;
       reruns = runner.reruns ∙ sym same.reruns;
       head = same.head ∙ runner.head;
+      piped = same.piped ∙ runner.piped;
       beside = same.beside ∙ runner.beside;
       limit = same.limit ∙ runner.limit;
       stop = same.stop ∙ runner.stop;

@@ -6,10 +6,14 @@ use rand_core::{Rng, SeedableRng};
 use rand_pcg::Pcg32;
 use std::alloc::Global;
 
-/// What a workload begins with: on one range; with an opening; on three ranges with little room, where a transaction soon gives up.
-const FRONTS: [&str; 3] = [
+/// What a workload begins with: on one range; with an opening; on three ranges with little room, where a transaction soon gives up. Its writes are
+/// pipelined, or not.
+const FRONTS: [&str; 6] = [
+    r#"{"version":1,"sessions":["#,
     r#"{"version":1,"pipelining":false,"sessions":["#,
+    r#"{"version":1,"splits":["b"],"opening":1,"sessions":["#,
     r#"{"version":1,"pipelining":false,"splits":["b"],"opening":1,"sessions":["#,
+    r#"{"version":1,"splits":["b","d"],"limit":64,"reruns":1,"sessions":["#,
     r#"{"version":1,"pipelining":false,"splits":["b","d"],"limit":64,"reruns":1,"sessions":["#,
 ];
 

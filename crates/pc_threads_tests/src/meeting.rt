@@ -18,6 +18,10 @@ const TWO: &str =
 const ONE: &str =
     r#"{"version":1,"pipelining":false,"splits":["m"],"sessions":[{"clock":{"start":10,"step":1},"script":[{"do":[{"scan":["",""]}]}]}]}"#;
 
+/// One session whose commit stages on the first of two ranges, in the wave in which its two puts are delivered.
+const STAGED: &str =
+    r#"{"version":1,"splits":["m"],"sessions":[{"clock":{"start":10,"step":1},"script":[{"do":[{"put":["a","x"]},{"put":["n","y"]}]}]}]}"#;
+
 const REPORT: &[u8] =
     b"\nreport\ncommitted 1.1 10.0 a=x\ncommitted 2.1 20.0 n=y\nmap a=x\nmap n=y\nend\n";
 
@@ -88,6 +92,18 @@ fn one_session_is_inside_two_ranges_at_once(rt: HostRuntime) -> Result<(), Fail>
     assert!(rt;
         out.as_slice()
             .ends_with(b"\nreport\ncommitted 1.1 10.0 -\nend\n")
+    );
+    Ok(())
+}
+
+/// The same where the wave has the puts of two calls and a stage.
+#[test]
+fn a_stage_and_its_puts_are_inside_two_ranges_at_once(rt: HostRuntime) -> Result<(), Fail> {
+    let gate = Meeting::new(&rt);
+    let out = output(&rt, rt.alloc(), STAGED, &gate).ok_or("an output")?;
+    assert!(rt; !gate.was_in_vain());
+    assert!(rt;
+        out.as_slice().ends_with(b"\nreport\ncommitted 1.1 10.0 a=x,n=y\nmap a=x\nmap n=y\nend\n")
     );
     Ok(())
 }

@@ -24,7 +24,7 @@ pub fn output<G: Gate + Sync, R: Wait + Threads + Sync>(
     text: &str,
     gate: &G,
 ) -> Option<Vec<u8>> {
-    let Ok(work) = Workload::read_accepted(alloc, text.as_bytes()) else {
+    let Ok(work) = Workload::read(alloc, text.as_bytes()) else {
         return None;
     };
     if work.turns.is_some() {
@@ -44,7 +44,7 @@ pub fn output_in_turns<R: Wait + Threads + Sync>(
     alloc: Global,
     text: &[u8],
 ) -> Option<Vec<u8>> {
-    let Ok(work) = Workload::read_accepted(alloc, text) else {
+    let Ok(work) = Workload::read(alloc, text) else {
         return None;
     };
     if work.turns.is_none() {

@@ -1,6 +1,6 @@
 -- In which order sessions ask their calls and do their finishing jobs, and recoverers make their rounds: each by itself, in stated turns, or on
 -- threads behind an opening. Read from the clients' entries alone. Own profile.
-use Rattle.std.specs.Prelude.{◌≡◌, ℕ, zero, suc, ◌+◌, ◌≤◌, nat_lt, Bool, true, false, is_some, not, ◌⊎◌, Option, None, Some, List, [], ◌∷◌, ◌++◌, count_by, drop, map, All, IsTrue, ⊤}
+use Rattle.std.specs.Prelude.{◌≡◌, ℕ, zero, suc, ◌+◌, ◌≤◌, nat_lt, Bool, true, false, is_some, not, ◌⊎◌, Option, None, Some, List, [], ◌∷◌, ◌++◌, count_by, drop, map, All, Contains, IsTrue, ⊤}
 use Rattle.pc_base.specs.declared.actor.ActorId.TheVariants as actors
 use Rattle.pc_history.specs.declared.pair.Pair.{Pair}
 use Rattle.pc_proto.specs.declared.answer.Answer.{Answer}
@@ -37,12 +37,12 @@ pub record AsksWhole (number : ℕ) (call : Call) (part : List (Pair Event)) : T
   pub within : All IsInBetween between
 
 -- The part is the session's oldest job, whole: no call is asked in it, the job waits no more behind it, and each message that the session
--- sent was heard.
+-- sent in it was heard.
 pub record FinishesWhole (number : ℕ) (before part : List (Pair Event)) : Type 0 where
   pub whose : All (λ p. p.entry.actor ≡ actors.Session number) part
   pub within : All IsInBetween (events_of part)
   pub done : jobs_of (before ++ part) ≡ drop 1 (jobs_of before)
-  pub heard : All (λ m. IsTrue (is_heard (known_of (before ++ part)).heard m)) (known_of (before ++ part)).sent
+  pub heard : All (λ m. IsTrue (is_heard (known_of (before ++ part)).heard m) ⊎ Contains (known_of before).sent m) (known_of (before ++ part)).sent
 
 -- The part is this call of the session, broken off: it was asked, and not told its answer.
 pub record AsksPartly (number : ℕ) (call : Call) (part : List (Pair Event)) : Type 0 where

@@ -1,7 +1,7 @@
 -- A heartbeat of the open transaction goes out, and is heard.
-use Rattle.std.proofs.Common.{◌≡◌, ℕ, ◌≤◌, max, true, false, not, cond, ◌⊎◌, List, [], ◌∷◌, ◌++◌, Option, Some, refl, sym, ap, ◌∙◌, subst, arith, All, Any, IsTrue, inl}
+use Rattle.std.proofs.Common.{◌≡◌, ℕ, ◌≤◌, max, true, false, not, cond, ◌⊎◌, List, [], ◌∷◌, ◌++◌, Option, Some, refl, sym, ap, ◌∙◌, subst, arith, All, Any, inl}
 use Rattle.std.specs.Option.{option_map_or}
-use Rattle.std.proofs.lemmas.Bool.{and_parts}
+use Rattle.std.proofs.lemmas.Bool.{and_from}
 use Rattle.std.proofs.lemmas.List.{append-nil}
 use Rattle.std.proofs.lemmas.List.Elements.{All-cons, All-nil, All-push}
 use Rattle.pc_base.specs.declared.actor.ActorId.{ActorId}
@@ -25,22 +25,25 @@ use Rattle.pc_staging.proofs.Hears as hears
 use Rattle.pc_staging.specs.Kept.{Evidence, seen_undecided}
 use Rattle.pc_staging.specs.Laws.{LeavesStages, SendsNothingNew}
 use Rattle.pc_staging.specs.Standing.{StagingStands, WasStagedAt}
+use Rattle.pc_txn.proofs.Above.{StaysUp, reach_on, reach_raised, staged_or_above}
+use Rattle.pc_txn.proofs.Accounted.{accounted_up, no_message, one_message, shown_epoch, shown_known}
+use Rattle.pc_txn.proofs.Found.{finds_none_alone, found_same}
 use Rattle.pc_txn.proofs.Keeping.{staged_split}
-use Rattle.pc_txn.proofs.Late.{late_on, none_by_other}
+use Rattle.pc_txn.proofs.Late.{late_on, none_by_other, none_live, still_late}
 use Rattle.pc_txn.proofs.Same.{if_true}
 use Rattle.pc_txn.proofs.Shown.{shown-beat}
 use Rattle.pc_txn.proofs.Written.{writes_on}
 use Rattle.pc_txn.specs.declared.txn.OpenTxn.{OpenTxn}
 use Rattle.pc_txn.specs.Silence.{own_beat, raised_at, shown_at}
-use Rattle.pc_txn.specs.Standing.{AreLateByWrites, HasMovedOn, IsProvedAbove, IsUndecidedOf, TxnStands}
-use Rattle.pc_txn.specs.Writing.{IsNotWritten, PutsUpTo, WritesStand}
+use Rattle.pc_txn.specs.Standing.{AreLateByWrites, AreLiveHere, AreStagedThere, HasMovedOn, StandsAbove, IsUndecidedOf, TxnStands}
+use Rattle.pc_txn.specs.Writing.{IsFoundProved, IsNotWritten, PutsUpTo, WritesStand, finds}
 use Rattle.pc_world.specs.Known.{Known, open_txn, reading_of}
 use Rattle.pc_world.specs.Known.Traffic.{Heard, Sent}
 use Rattle.pc_world.specs.Known.Transactions.{Txn, txn_heard, txn_sent}
 use Rattle.pc_world.specs.Known.Writes.{last_seq_of}
 use Rattle.pc_world.specs.MaySend.{MaySendRow}
-use Rattle.pc_world.specs.StageFate.{RefutesRecord, RefutesWrite, SentCommit, SentStage}
-use Rattle.pc_world.specs.Tell.End.{shows_staging}
+use Rattle.pc_world.specs.StageFate.{IsLate, RefutesRecord, RefutesWrite, SentCommit, SentStage}
+use Rattle.pc_wave.specs.Shown.{ShowsSentStage}
 
 module _ (k now : Known) (stages : List SentStage) (commit : Option SentCommit) (t : Txn) (x : OpenTxn) (anchor : List ℕ) (reading number range : ℕ) (st : TxnStands k stages commit t x) where
   abbrev m0 : Sent
@@ -61,15 +64,18 @@ module _ (k now : Known) (stages : List SentStage) (commit : Option SentCommit) 
       begun = st.begun;
       behind = st.behind;
       at_begin = st.at_begin;
-      below = omega (arith, st.below, more.high);
+      below = reach_on k now (m0 ∷ []) [] more t t refl refl st.below;
       views = subst (λ hs. All (IsUndecidedOf t) hs) (sym heard-same) st.views;
       shown = sym (ap (last_shown t) more.sent ∙ shown-beat t k.sent number range (record { id = x.id; epoch = x.epoch; priority = x.priority; born = x.born; anchor = anchor }) x.write_ts reading same_own);
-      staged = λ ts was. st.staged ts (subst (λ hs. WasStagedAt hs t ts) heard-same was);
+      staged = subst (λ hs. AreStagedThere stages hs t) (sym heard-same) st.staged;
+      accounted = accounted_up k now (m0 ∷ []) [] more t t refl stages stages (record { id = refl; epoch = refl; up = omega arith }) refl refl (one_message t.id m0 (λ P. tt)) st.accounted;
       late = subst (λ hs. AreLateByWrites stages hs t) (sym heard-same) st.late;
+      live = subst (λ hs. AreLiveHere stages hs x.staging.staged t) (sym heard-same) st.live;
       puts =
           subst (λ ms. All (λ m. PutsUpTo t (last_seq_of t.writes) m.request) ms) (sym more.sent)
           (All-push (λ m. PutsUpTo t (last_seq_of t.writes) m.request) k.sent m0 st.puts (λ epoch seq put. absurd cc));
       put_heard = subst (λ hs. All (λ h. PutsUpTo t (last_seq_of t.writes) h.request) hs) (sym heard-same) st.put_heard;
+      found = subst (λ hs. All (IsFoundProved t) hs) (sym heard-same) st.found;
       writes =
           subst (λ ms. WritesStand ms now.heard t) (sym more.sent)
           (subst (λ hs. WritesStand (k.sent ++ m0 ∷ []) hs t) (sym more.heard) (writes_on k.sent (m0 ∷ []) k.heard [] t st.writes (All-nil (λ h. (seq : ℕ) → IsNotWritten t seq h))));
@@ -84,9 +90,8 @@ module _ (k now : Known) (stages : List SentStage) (commit : Option SentCommit) 
 
 module _ (k now : Known) (stages : List SentStage) (commit : Option SentCommit) (t : Txn) (x : OpenTxn) (meta : TxnMeta) (ts reading : ℕ) (view : View) (recorded : ℕ) (h : Heard) (st : TxnStands k stages commit t x) (whose : meta.id ≡ t.id)
     (anchored : t.anchor ≡ Some meta.anchor) (asked : h.request ≡ requests.Beat meta ts reading) (told : h.reply ≡ replies.Status view) (unfinal : is_final_view view ≡ false) (stands_at : undecided_ts view ≡ recorded)
-    (no_later : (epoch at : ℕ) → IsTrue (is_staging_at epoch at view) → epoch ≤ t.epoch)
-    (known : (at : ℕ) → IsTrue (is_staging_at t.epoch at view) → Any (λ s. s.ts ≡ at) stages ⊎ Any (IsProvedAbove at) t.writes)
-    (more : HasMovedOn k now [] (h ∷ [])) (low : recorded ≤ now.high) where
+    (is_shown : ShowsSentStage k t.id h)
+    (all_late : All (IsLate k.heard) stages) (more : HasMovedOn k now [] (h ∷ [])) (low : recorded ≤ now.high) where
   -- The transaction once its record was heard to stand there.
   abbrev raised : Txn
   raised = record t { write_ts = max t.write_ts recorded }
@@ -115,12 +120,10 @@ module _ (k now : Known) (stages : List SentStage) (commit : Option SentCommit) 
       let w : WritesStand (k.sent ++ []) (k.heard ++ h ∷ []) t =
       writes_on k.sent [] k.heard (h ∷ []) t st.writes (All-push (λ h. (seq : ℕ) → IsNotWritten t seq h) [] h (All-nil (λ h. (seq : ℕ) → IsNotWritten t seq h)) none) in
       let v : WritesStand now.sent now.heard t = subst (λ ms. WritesStand ms now.heard t) (sym more.sent) (subst (λ hs. WritesStand (k.sent ++ []) hs t) (sym more.heard) w) in
-      record { by_sequence = v.by_sequence; each_sent = v.each_sent; unwritten = v.unwritten; locked = v.locked; unanchored = v.unanchored }
+      record { by_sequence = v.by_sequence; each_sent = v.each_sent; unwritten = v.unwritten; heard_proved = v.heard_proved; locked = v.locked; unanchored = v.unanchored }
 
-  shows_it : (epoch at : ℕ) → IsTrue (shows_staging t.id epoch at h) → IsTrue (is_staging_at epoch at view)
-  shows_it epoch at shows =
-      let parts = and_parts (is_about t.id h.request) (option_map_or (is_staging_at epoch at) (view_in h.reply) false) shows in
-      sym (ap (λ reply. option_map_or (is_staging_at epoch at) (view_in reply) false) told) ∙ parts.1
+  rises : StaysUp t raised
+  rises = record { id = refl; epoch = refl; up = omega arith }
 
   raised_by : TxnStands now stages commit raised (raised_at recorded h.step x)
   raised_by =
@@ -131,27 +134,32 @@ module _ (k now : Known) (stages : List SentStage) (commit : Option SentCommit) 
         begun = st.begun;
         behind = omega (arith, st.behind);
         at_begin = st.at_begin;
-        below = omega (arith, st.below, more.high, low);
+        below = reach_raised k now [] (h ∷ []) more t raised refl recorded refl low st.below;
         views =
             subst (λ hs. All (IsUndecidedOf t) hs) (sym more.heard)
             (All-push (IsUndecidedOf t) k.heard h st.views (λ about. record {
               anchored = ap subject_anchor asked ∙ sym anchored;
               undecided = ap is_undecided_status told ∙ ap not unfinal;
-              no_later = λ epoch at is. no_later epoch at (sym (ap (λ reply. option_map_or (is_staging_at epoch at) (view_in reply) false) told) ∙ is);
+              no_later = λ epoch at is. shown_epoch k stages t st.accounted h is_shown epoch at (and_from (is_about t.id h.request) (option_map_or (is_staging_at epoch at) (view_in h.reply) false) about is);
             }));
         shown = st.shown ∙ sym (ap (last_shown t) sent-same);
-        staged = λ at was. staged_split k.heard h t stages at st.staged (λ shows. known at (shows_it t.epoch at shows)) (subst (λ hs. WasStagedAt hs t at) more.heard was);
+        staged = λ at was.
+            subst (λ hs. Any (λ s. s.ts ≡ at) stages ⊎ Any (StandsAbove hs raised at) t.writes) (sym more.heard)
+            (staged_or_above k.heard (h ∷ []) t raised rises stages at t.writes (staged_split k.heard h t stages at st.staged (shown_known k stages t st.accounted h is_shown at) (subst (λ hs. WasStagedAt hs t at) more.heard was)));
         late =
-            subst (λ hs. AreLateByWrites stages hs t) (sym more.heard)
-            (late_on k.heard (h ∷ []) t stages st.late
+            subst (λ hs. AreLateByWrites stages hs raised) (sym more.heard)
+            (late_on k.heard (h ∷ []) t raised stages rises refl st.late
             (λ s there.
             All-cons (λ h. RefutesWrite s h ⊎ RefutesRecord s h → ⊥) h [] (none_by_other s h (requests.Beat meta ts reading) asked (λ reply. refl) (λ e. absurd cc))
             (All-nil (λ h. RefutesWrite s h ⊎ RefutesRecord s h → ⊥))));
+        accounted = accounted_up k now [] (h ∷ []) more t raised refl stages stages rises refl refl (no_message t.id) st.accounted;
+        live = none_live now.heard x.staging.staged raised stages (subst (λ hs. All (IsLate hs) stages) (sym more.heard) (still_late k.heard (h ∷ []) stages all_late));
         puts = subst (λ ms. All (λ m. PutsUpTo t (last_seq_of t.writes) m.request) ms) (sym sent-same) st.puts;
         put_heard =
             let P : Heard → Type 0 = λ h. PutsUpTo t (last_seq_of t.writes) h.request in
             subst (λ hs. All P hs) (sym more.heard)
             (All-push P k.heard h st.put_heard (subst (λ r. PutsUpTo t (last_seq_of t.writes) r) (sym asked) (λ epoch seq put. absurd cc)));
+        found = subst (λ hs. All (IsFoundProved raised) hs) (sym more.heard) (found_same k.heard (h ∷ []) t raised refl refl refl st.found (finds_none_alone raised h (λ epoch seq. ap (λ r. finds t.id epoch seq r h.reply) asked)));
         writes = writes2;
         flight = flights_hold.on x.in_flight t raised st.flight refl (omega arith);
         staging = staging2;

@@ -1,7 +1,7 @@
 -- A commit of the open transaction goes out, and is refused.
 use Rattle.std.proofs.Common.{◌≡◌, ℕ, ◌<◌, ◌≤◌, max, true, false, not, ◌⊎◌, List, [], ◌∷◌, ◌++◌, Option, Some, None, refl, sym, ap, ◌∙◌, subst, arith, All, Any, IsTrue}
 use Rattle.std.specs.Option.{option_map_or}
-use Rattle.std.proofs.lemmas.Bool.{and_parts}
+use Rattle.std.proofs.lemmas.Bool.{and_from}
 use Rattle.std.proofs.lemmas.List.{append-nil}
 use Rattle.std.proofs.lemmas.List.Elements.{All-cons, All-nil, All-push}
 use Rattle.pc_base.specs.declared.span.Span.{Span}
@@ -24,21 +24,25 @@ use Rattle.pc_staging.proofs.Hears as hears
 use Rattle.pc_staging.proofs.Sending.{commit_stands}
 use Rattle.pc_staging.specs.Kept.{Evidence, is_passed_by, seen_undecided}
 use Rattle.pc_staging.specs.Standing.{StagingStands, WasStagedAt}
+use Rattle.pc_txn.proofs.Above.{StaysUp, reach_on, reach_raised, staged_or_above}
+use Rattle.pc_txn.proofs.Accounted.{accounted_up, no_message, one_message, shown_epoch, shown_known}
+use Rattle.pc_txn.proofs.Found.{finds_none_alone, found_same}
 use Rattle.pc_txn.proofs.Keeping.{staged_split}
-use Rattle.pc_txn.proofs.Late.{late_on, none_by_other}
+use Rattle.pc_txn.proofs.Late.{late_on, live_on, none_by_other, none_live, still_late}
 use Rattle.pc_txn.proofs.Same.{if_true}
 use Rattle.pc_txn.proofs.Shown.{shown-one}
 use Rattle.pc_txn.proofs.Written.{writes_on}
 use Rattle.pc_txn.specs.declared.txn.OpenTxn.{OpenTxn}
 use Rattle.pc_txn.specs.Opened.{with_commit, opened_as, own_commit, refused_at}
-use Rattle.pc_txn.specs.Standing.{AreLateByWrites, HasMovedOn, IsProvedAbove, IsUndecidedOf, TxnStands}
-use Rattle.pc_txn.specs.Writing.{IsNotWritten, PutsUpTo, WritesStand}
+use Rattle.pc_txn.specs.Standing.{AreLateByWrites, AreLiveHere, HasMovedOn, StandsAbove, IsUndecidedOf, TxnStands}
+use Rattle.pc_txn.specs.Writing.{IsFoundProved, IsNotWritten, PutsUpTo, WritesStand, finds}
 use Rattle.pc_world.specs.Known.{Known}
 use Rattle.pc_world.specs.Known.Reads.{IsGoodAt}
 use Rattle.pc_world.specs.Known.Traffic.{Heard, Sent}
 use Rattle.pc_world.specs.Known.Transactions.{Txn, meta_of, txn_heard, txn_sent}
 use Rattle.pc_world.specs.Known.Writes.{last_seq_of}
-use Rattle.pc_world.specs.StageFate.{RefutesRecord, RefutesWrite, SentCommit, SentStage, commit_request}
+use Rattle.pc_world.specs.StageFate.{IsLate, RefutesRecord, RefutesWrite, SentCommit, SentStage, commit_request}
+use Rattle.pc_wave.specs.Shown.{ShowsSentStage}
 use Rattle.pc_world.specs.Tell.End.{shows_staging}
 
 -- The commit of the transaction, with this anchor.
@@ -73,7 +77,10 @@ module _ (k now : Known) (stages : List SentStage) (commit : Option SentCommit) 
     writes2 =
         let w : WritesStand (k.sent ++ m0 ∷ []) (k.heard ++ []) t = writes_on k.sent (m0 ∷ []) k.heard [] t st.writes (All-nil (λ h. (seq : ℕ) → IsNotWritten t seq h)) in
         let v : WritesStand now.sent now.heard t = subst (λ ms. WritesStand ms now.heard t) (sym more.sent) (subst (λ hs. WritesStand (k.sent ++ m0 ∷ []) hs t) (sym more.heard) w) in
-        record { by_sequence = v.by_sequence; each_sent = v.each_sent; unwritten = v.unwritten; locked = v.locked; unanchored = v.unanchored }
+        record { by_sequence = v.by_sequence; each_sent = v.each_sent; unwritten = v.unwritten; heard_proved = v.heard_proved; locked = v.locked; unanchored = v.unanchored }
+
+    reads_up : StaysUp t (read_on t)
+    reads_up = record { id = refl; epoch = refl; up = omega arith }
 
     committing_by : TxnStands now stages (Some c0) (read_on t) (with_commit x0)
     committing_by = record {
@@ -82,15 +89,20 @@ module _ (k now : Known) (stages : List SentStage) (commit : Option SentCommit) 
       begun = omega (arith, st.begun, st.behind);
       behind = omega arith;
       at_begin = λ none. let e : Some anchor ≡ None = sym anchored ∙ none in absurd cc;
-      below = omega (arith, st.below, more.high);
+      below = reach_on k now (m0 ∷ []) [] more t (read_on t) refl refl st.below;
       views = subst (λ hs. All (IsUndecidedOf t) hs) (sym heard-same) st.views;
       shown = st.shown ∙ sym (ap (last_shown t) more.sent ∙ shown-one t k.sent m0 refl);
-      staged = λ ts was. st.staged ts (subst (λ hs. WasStagedAt hs t ts) heard-same was);
-      late = subst (λ hs. AreLateByWrites stages hs t) (sym heard-same) st.late;
+      staged = λ ts was. subst (λ hs. Any (λ s. s.ts ≡ ts) stages ⊎ Any (StandsAbove hs (read_on t) ts) t.writes) (sym more.heard) (staged_or_above k.heard [] t (read_on t) reads_up stages ts t.writes (st.staged ts (subst (λ hs. WasStagedAt hs t ts) heard-same was)));
+      accounted = accounted_up k now (m0 ∷ []) [] more t (read_on t) refl stages stages reads_up refl refl (one_message t.id m0 (λ P. tt)) st.accounted;
+      late = subst (λ hs. AreLateByWrites stages hs (read_on t)) (sym more.heard) (late_on k.heard [] t (read_on t) stages reads_up refl st.late (λ s there. All-nil (λ h. RefutesWrite s h ⊎ RefutesRecord s h → ⊥)));
+      live =
+          subst (λ hs. AreLiveHere stages hs evidence.staged (read_on t)) (sym more.heard)
+          (live_on k.heard [] evidence.staged t (read_on t) stages refl refl refl (All-nil (λ h. (ts : ℕ) → IsTrue (shows_staging t.id t.epoch ts h) → ⊥)) st.live);
       puts =
           subst (λ ms. All (λ m. PutsUpTo t (last_seq_of t.writes) m.request) ms) (sym more.sent)
           (All-push (λ m. PutsUpTo t (last_seq_of t.writes) m.request) k.sent m0 st.puts (λ epoch seq put. absurd cc));
       put_heard = subst (λ hs. All (λ h. PutsUpTo t (last_seq_of t.writes) h.request) hs) (sym heard-same) st.put_heard;
+      found = subst (λ hs. All (IsFoundProved (read_on t)) hs) (sym heard-same) st.found;
       writes = writes2;
       flight = flights_hold.on flight t (read_on t) st.flight refl (omega arith);
       staging =
@@ -117,8 +129,7 @@ commit_sent k now stages commit t x anchor number range st passed anchored good 
 
 module _ (k now : Known) (stages : List SentStage) (t : Txn) (x : OpenTxn) (c : SentCommit) (view : View) (recorded : ℕ) (h : Heard) (st : TxnStands k stages (Some c) t x) (anchored : t.anchor ≡ Some c.meta.anchor)
     (asked : h.request ≡ commit_request c) (told : h.reply ≡ replies.Status view) (unfinal : is_final_view view ≡ false) (stands_at : undecided_ts view ≡ recorded) (past : c.ts < recorded)
-    (no_later : (epoch ts : ℕ) → IsTrue (is_staging_at epoch ts view) → epoch ≤ t.epoch)
-    (known : (ts : ℕ) → IsTrue (is_staging_at t.epoch ts view) → Any (λ s. s.ts ≡ ts) stages ⊎ Any (IsProvedAbove ts) t.writes)
+    (is_shown : ShowsSentStage k t.id h)
     (more : HasMovedOn k now [] (h ∷ [])) (low : recorded ≤ now.high) where
   -- The transaction once its record was heard to stand there.
   abbrev risen : Txn
@@ -150,12 +161,10 @@ module _ (k now : Known) (stages : List SentStage) (t : Txn) (x : OpenTxn) (c : 
       let w : WritesStand (k.sent ++ []) (k.heard ++ h ∷ []) t =
       writes_on k.sent [] k.heard (h ∷ []) t st.writes (All-push (λ h. (seq : ℕ) → IsNotWritten t seq h) [] h (All-nil (λ h. (seq : ℕ) → IsNotWritten t seq h)) none) in
       let v : WritesStand now.sent now.heard t = subst (λ ms. WritesStand ms now.heard t) (sym more.sent) (subst (λ hs. WritesStand (k.sent ++ []) hs t) (sym more.heard) w) in
-      record { by_sequence = v.by_sequence; each_sent = v.each_sent; unwritten = v.unwritten; locked = v.locked; unanchored = v.unanchored }
+      record { by_sequence = v.by_sequence; each_sent = v.each_sent; unwritten = v.unwritten; heard_proved = v.heard_proved; locked = v.locked; unanchored = v.unanchored }
 
-  shown : (epoch ts : ℕ) → IsTrue (shows_staging t.id epoch ts h) → IsTrue (is_staging_at epoch ts view)
-  shown epoch ts shows =
-      let parts = and_parts (is_about t.id h.request) (option_map_or (is_staging_at epoch ts) (view_in h.reply) false) shows in
-      sym (ap (λ reply. option_map_or (is_staging_at epoch ts) (view_in reply) false) told) ∙ parts.1
+  rises : StaysUp t risen
+  rises = record { id = refl; epoch = refl; up = omega arith }
 
   refused_by : TxnStands now stages None risen (refused_at recorded h.step x)
   refused_by =
@@ -166,27 +175,32 @@ module _ (k now : Known) (stages : List SentStage) (t : Txn) (x : OpenTxn) (c : 
         begun = st.begun;
         behind = omega (arith, st.behind);
         at_begin = st.at_begin;
-        below = omega (arith, st.below, more.high, low);
+        below = reach_raised k now [] (h ∷ []) more t risen refl recorded refl low st.below;
         views =
             subst (λ hs. All (IsUndecidedOf t) hs) (sym more.heard)
             (All-push (IsUndecidedOf t) k.heard h st.views (λ about. record {
               anchored = ap subject_anchor asked ∙ sym anchored;
               undecided = ap is_undecided_status told ∙ ap not unfinal;
-              no_later = λ epoch ts is. no_later epoch ts (sym (ap (λ reply. option_map_or (is_staging_at epoch ts) (view_in reply) false) told) ∙ is);
+              no_later = λ epoch ts is. shown_epoch k stages t st.accounted h is_shown epoch ts (and_from (is_about t.id h.request) (option_map_or (is_staging_at epoch ts) (view_in h.reply) false) about is);
             }));
         shown = st.shown ∙ sym (ap (last_shown t) sent-same);
-        staged = λ ts was. staged_split k.heard h t stages ts st.staged (λ shows. known ts (shown t.epoch ts shows)) (subst (λ hs. WasStagedAt hs t ts) more.heard was);
+        staged = λ ts was.
+            subst (λ hs. Any (λ s. s.ts ≡ ts) stages ⊎ Any (StandsAbove hs risen ts) t.writes) (sym more.heard)
+            (staged_or_above k.heard (h ∷ []) t risen rises stages ts t.writes (staged_split k.heard h t stages ts st.staged (shown_known k stages t st.accounted h is_shown ts) (subst (λ hs. WasStagedAt hs t ts) more.heard was)));
+        accounted = accounted_up k now [] (h ∷ []) more t risen refl stages stages rises refl refl (no_message t.id) st.accounted;
         late =
-            subst (λ hs. AreLateByWrites stages hs t) (sym more.heard)
-            (late_on k.heard (h ∷ []) t stages st.late
+            subst (λ hs. AreLateByWrites stages hs risen) (sym more.heard)
+            (late_on k.heard (h ∷ []) t risen stages rises refl st.late
             (λ s there.
             All-cons (λ h. RefutesWrite s h ⊎ RefutesRecord s h → ⊥) h [] (none_by_other s h (commit_request c) asked (λ reply. refl) (λ e. absurd cc))
             (All-nil (λ h. RefutesWrite s h ⊎ RefutesRecord s h → ⊥))));
+        live = none_live now.heard x.staging.staged risen stages (subst (λ hs. All (IsLate hs) stages) (sym more.heard) (still_late k.heard (h ∷ []) stages (st.staging.behind_commit c refl)));
         puts = subst (λ ms. All (λ m. PutsUpTo t (last_seq_of t.writes) m.request) ms) (sym sent-same) st.puts;
         put_heard =
             let P : Heard → Type 0 = λ h. PutsUpTo t (last_seq_of t.writes) h.request in
             subst (λ hs. All P hs) (sym more.heard)
             (All-push P k.heard h st.put_heard (subst (λ r. PutsUpTo t (last_seq_of t.writes) r) (sym asked) (λ epoch seq put. absurd cc)));
+        found = subst (λ hs. All (IsFoundProved risen) hs) (sym more.heard) (found_same k.heard (h ∷ []) t risen refl refl refl st.found (finds_none_alone risen h (λ epoch seq. ap (λ r. finds t.id epoch seq r h.reply) asked)));
         writes = writes3;
         flight = flights_hold.on x.in_flight t risen st.flight refl (omega arith);
         staging = staging3;

@@ -1,15 +1,23 @@
 -- Why the open transaction stands on.
+pub mod Above
+pub mod Accounted
+pub mod Again
 pub mod Alive
 pub mod Commits
+pub mod Forgetting
+pub mod Found
 pub mod Keeping
 pub mod Late
 pub mod Laying
 pub mod Lists
 pub mod Locks
+pub mod Proves
 pub mod Puts
+pub mod Querying
 pub mod Restarts
 pub mod Rows
 pub mod Same
+pub mod SentAgain
 pub mod Shown
 pub mod StagedWrites
 pub mod Writes

@@ -1,8 +1,9 @@
 -- What the open transaction may send.
-use Rattle.std.proofs.Common.{◌≡◌, ℕ, true, false, inl, inr, List, [], map, Option, Some, None, refl, sym, ◌∙◌, subst, arith, All, Any, Contains, IsTrue}
+use Rattle.std.proofs.Common.{◌≡◌, ℕ, ◌==◌, true, false, ◌⊎◌, inl, inr, List, [], ◌∷◌, map, length, Option, Some, None, refl, sym, ap, ◌∙◌, subst, arith, All, Any, Contains, IsTrue}
 use Rattle.std.specs.List.{list_any}
 use Rattle.std.specs.Option.{option_map_or}
-use Rattle.std.proofs.lemmas.Bool.{and_parts}
+use Rattle.std.proofs.lemmas.Bool.{and_from, and_parts, eq-eqb}
+use Rattle.std.proofs.lemmas.List.Elements.{All-contains}
 use Rattle.std.proofs.lemmas.Option.{same_Some}
 use Rattle.pc_base.specs.declared.actor.ActorId.{ActorId}
 use Rattle.pc_base.specs.declared.span.Span.{Span}
@@ -22,19 +23,22 @@ use Rattle.pc_proto.specs.Requests.{is_about}
 use Rattle.pc_proto.specs.Views.{is_committed_at}
 use Rattle.pc_staging.proofs.Allowing.{allows}
 use Rattle.pc_staging.proofs.Deciding.{over_yes}
-use Rattle.pc_staging.specs.Kept.{is_over, is_passed_by}
+use Rattle.pc_staging.specs.Kept.{is_just, is_over, is_passed_by, is_staged_and_proved}
+use Rattle.pc_staging.specs.Standing.{WasStagedAt}
 use Rattle.pc_txn.proofs.Keeping.{free_over}
 use Rattle.pc_txn.proofs.Late.{kept_above}
 use Rattle.pc_txn.proofs.Laying.{known_one, place_is, seq_is, value_is}
 use Rattle.pc_txn.specs.declared.txn.OpenTxn.{OpenTxn}
-use Rattle.pc_txn.specs.Opened.{next_put, own_abort, own_commit, own_get, own_put, own_scan}
-use Rattle.pc_txn.specs.Standing.{IsProvedAbove, IsUndecidedOf, TxnStands}
+use Rattle.pc_txn.specs.Opened.{next_put, own_abort, own_commit, own_get, own_scan, put_at}
+use Rattle.pc_txn.proofs.Written.{one_of_seq}
+use Rattle.pc_txn.specs.Standing.{StandsAbove, IsStageHere, IsUndecidedOf, TxnStands}
+use Rattle.pc_txn.specs.Writing.{WasAskedAt}
 use Rattle.pc_follows.specs.EarlyTell.{IsCommitKnown}
 use Rattle.pc_world.specs.Known.{Known, call_of, open_txn}
 use Rattle.pc_world.specs.Known.Reads.{IsGoodAt}
 use Rattle.pc_world.specs.Known.Traffic.{Heard}
 use Rattle.pc_world.specs.Known.Transactions.{Txn}
-use Rattle.pc_world.specs.Known.Writes.{IsProvedBy, last_seq_of}
+use Rattle.pc_world.specs.Known.Writes.{IsProvedBy, Write, last_seq_of}
 use Rattle.pc_world.specs.MaySend.{MaySendRow}
 use Rattle.pc_world.specs.RangeOf.{pieces}
 use Rattle.pc_world.specs.Send.Abort.{own_cause}
@@ -61,9 +65,9 @@ uncommitted t heard undecided ts was =
 -- where each stage that is kept is late, a transaction is not committed by a stage
 unstaged : (k : Known) (stages : List SentStage) (commit : Option SentCommit) (t : Txn) (x : OpenTxn) → TxnStands k stages commit t x → All (IsLate k.heard) stages → (ts : ℕ) → IsImplicit k t ts → ⊥
 unstaged k stages commit t x st late ts i =
-    let above : Any (IsProvedAbove ts) t.writes =
+    let above : Any (StandsAbove k.heard t ts) t.writes =
     elim (st.staged ts i.staging) [ inl kept ↦ kept_above k.heard t stages ts st.late late kept | inr above ↦ above ] in
-    let f = any_of (IsProvedBy ts) (IsProvedAbove ts) t.writes i.proved above in
+    let f = any_of (IsProvedBy ts) (StandsAbove k.heard t ts) t.writes i.proved above in
     f.2.above f.1
 
 -- an open transaction that stands, and of which each stage that is kept is late, is not decided
@@ -74,6 +78,37 @@ undecided k stages commit t x st late opened other ts decided =
     elim decided.why [
       | inl committed ↦ uncommitted other k.heard stands.views ts committed
       | inr implicit ↦ unstaged k stages commit other x stands late ts implicit
+    ]
+
+-- where it is committed by a stage, it was last heard to stage at its write timestamp, and nothing is in flight
+implicit_kept : (k : Known) (stages : List SentStage) (commit : Option SentCommit) (t : Txn) (x : OpenTxn) → TxnStands k stages commit t x → (ts : ℕ) → IsImplicit k t ts → is_staged_and_proved x.in_flight t.write_ts x.staging ≡ true
+implicit_kept k stages commit t x st ts i = and_from (length x.in_flight == 0) (is_just t.write_ts x.staging.staged) (none x.in_flight st.flight) (elim (st.staged ts i.staging) [ inl kept ↦ there kept | inr above ↦ absurd (refuted above) ])
+  where
+    refuted : Any (StandsAbove k.heard t ts) t.writes → ⊥
+    refuted above = let f = any_of (IsProvedBy ts) (StandsAbove k.heard t ts) t.writes i.proved above in f.2.above f.1
+
+    none : (ws : List WriteInFlight) → FlightStands ws t → (length ws == 0) ≡ true
+    none [] f = refl
+    none (w ∷ ws) f = absurd (allows.waits k t (w ∷ ws) ts f (λ e. absurd cc) i)
+
+    there : Any (λ (s : SentStage). s.ts ≡ ts) stages → is_just t.write_ts x.staging.staged ≡ true
+    there (n, s, inside, at, is) =
+        let late : IsLate k.heard s → Any (StandsAbove k.heard t s.ts) t.writes = All-contains (λ s. IsLate k.heard s → Any (StandsAbove k.heard t s.ts) t.writes) stages s st.late (n, inside, at) in
+        let here : IsStageHere k.heard x.staging.staged t s =
+        All-contains (λ s. (IsLate k.heard s → ⊥) → IsStageHere k.heard x.staging.staged t s) stages s st.live (n, inside, at)
+        (λ is_late. refuted (subst (λ n. Any (StandsAbove k.heard t n) t.writes) is (late is_late))) in
+        ap (is_just t.write_ts) (here.heard_last (subst (λ n. WasStagedAt k.heard t n) (sym is) i.staging)) ∙ eq-eqb s.ts t.write_ts here.at_write_ts
+
+-- so where that question is answered no, it is not decided
+pub untold : (k : Known) (stages : List SentStage) (commit : Option SentCommit) (t : Txn) (x : OpenTxn) → TxnStands k stages commit t x → is_staged_and_proved x.in_flight t.write_ts x.staging ≡ false → open_txn k ≡ Some t → (other : Txn) (ts : ℕ) → IsCommitKnown k other ts → ⊥
+untold k stages commit t x st none opened other ts decided =
+    let same : t ≡ other = same_Some t other (sym opened ∙ decided.opened) in
+    let stands : TxnStands k stages commit other x = subst (λ t. TxnStands k stages commit t x) same st in
+    elim decided.why [
+      | inl committed ↦ uncommitted other k.heard stands.views ts committed
+      | inr implicit ↦
+          let is : is_staged_and_proved x.in_flight t.write_ts x.staging ≡ true = implicit_kept k stages commit t x st ts (subst (λ t. IsImplicit k t ts) (sym same) implicit) in
+          absurd cc
     ]
 
 -- and nothing of it can have committed, where no stage is kept and no commit is out
@@ -146,11 +181,19 @@ module _ (splits : List (List ℕ)) (actor : ActorId) (k : Known) (stages : List
               }));
         })
 
-  -- a write that is in flight goes out again
-  pub may_again : (f : WriteInFlight) (anchor : List ℕ) → Contains k.txns t → Contains x.in_flight f → t.anchor ≡ Some anchor → MaySendRow splits actor k (own_put x anchor f)
-  may_again f anchor mine there anchored =
+  -- the timestamp is the write timestamp, or the write went out at it before
+  goes_at : (f : WriteInFlight) (there : Contains x.in_flight f) (ts : ℕ) → (ts ≡ t.write_ts) ⊎ WasAskedAt t f.seq ts → (ts ≡ t.write_ts) ⊎ Contains (known_one k stages commit t x st f there).w.asked ts
+  goes_at f there ts (inl now) = inl now
+  goes_at f there ts (inr (n, v, inside, at, before)) =
       let u = known_one k stages commit t x st f there in
-      subst (λ x. MaySendRow splits actor k (own_put x anchor f)) (sym st.same)
+      let same : v ≡ u.w = one_of_seq t.writes st.writes.by_sequence v u.w (n, inside, at) u.written (before.0 ∙ sym (seq_is k stages commit t x st f there)) in
+      inr (subst (λ (w : Write). Contains w.asked ts) same before.1)
+
+  -- a write that is in flight goes out again
+  pub may_again : (f : WriteInFlight) (anchor : List ℕ) (ts : ℕ) → Contains k.txns t → Contains x.in_flight f → t.anchor ≡ Some anchor → (ts ≡ t.write_ts) ⊎ WasAskedAt t f.seq ts → MaySendRow splits actor k (put_at x anchor ts f)
+  may_again f anchor ts mine there anchored when =
+      let u = known_one k stages commit t x st f there in
+      subst (λ x. MaySendRow splits actor k (put_at x anchor ts f)) (sym st.same)
       (inr (record {
         t = t;
         w = u.w;
@@ -161,5 +204,5 @@ module _ (splits : List (List ℕ)) (actor : ActorId) (k : Known) (stages : List
         same_sequence = sym (seq_is k stages commit t x st f there);
         same_place = sym (place_is k stages commit t x st f there);
         same_value = sym (value_is k stages commit t x st f there);
-        again_at = inl refl;
+        again_at = goes_at f there ts when;
       }))

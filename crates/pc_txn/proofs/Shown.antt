@@ -1,5 +1,5 @@
 -- When a transaction last showed that it is alive, as more messages go out.
-use Rattle.std.proofs.Common.{◌≡◌, ℕ, ◌≤◌, ◌<◌, Bool, true, false, if◌then◌else◌, List, [], ◌∷◌, ◌++◌, fold, Some, refl, ap, ◌∙◌, arith, All, IsTrue}
+use Rattle.std.proofs.Common.{◌≡◌, ℕ, ◌≤◌, ◌<◌, Bool, true, false, if◌then◌else◌, List, [], ◌∷◌, ◌++◌, fold, Some, refl, ap, ◌∙◌, arith, All}
 use Rattle.std.proofs.lemmas.Grind.{fold-append}
 use Rattle.std.proofs.lemmas.List.Elements.{All-head, All-tail}
 use Rattle.pc_base.specs.declared.transaction.TxnId.{TxnId}
@@ -20,7 +20,7 @@ pub shows_nothing : (id : TxnId) (last : ℕ) (r : Request) → is_heartbeat r �
 shows_nothing id last (requests.Beat meta ts now) e = absurd cc
 shows_nothing id last r e = refl
 
-plain_silent : (r : Request) → is_plain r ≡ true → is_heartbeat r ≡ false
+pub plain_silent : (r : Request) → is_plain r ≡ true → is_heartbeat r ≡ false
 plain_silent (requests.Beat meta ts now) e = absurd cc
 plain_silent r e = refl
 
@@ -35,16 +35,16 @@ shown-one t sent m silent = shown-last t sent m ∙ shows_nothing t.id (last_sho
 pub shown-beat : (t : Txn) (sent : List Sent) (number range : ℕ) (meta : TxnMeta) (ts now : ℕ) → same_txn meta.id t.id ≡ true → last_shown t (sent ++ record { number = number; range = range; request = requests.Beat meta ts now } ∷ []) ≡ now
 shown-beat t sent number range meta ts now same = shown-last t sent (record { number = number; range = range; request = requests.Beat meta ts now }) ∙ if_true (same_txn meta.id t.id) now (last_shown t sent) same
 
-from-plain : (id : TxnId) (last : ℕ) (more : List Sent) → All (λ m. IsTrue (is_plain m.request)) more → fold (λ last m. shown_by id last m.request) last more ≡ last
-from-plain id last [] a = refl
-from-plain id last (m ∷ more) a =
-    let first = All-head (λ m. IsTrue (is_plain m.request)) m more a in
-    ap (λ n. fold (λ last m. shown_by id last m.request) n more) (shows_nothing id last m.request (plain_silent m.request first))
-    ∙ from-plain id last more (All-tail (λ m. IsTrue (is_plain m.request)) m more a)
+from-silent : (id : TxnId) (last : ℕ) (more : List Sent) → All (λ m. is_heartbeat m.request ≡ false) more → fold (λ last m. shown_by id last m.request) last more ≡ last
+from-silent id last [] a = refl
+from-silent id last (m ∷ more) a =
+    let first = All-head (λ m. is_heartbeat m.request ≡ false) m more a in
+    ap (λ n. fold (λ last m. shown_by id last m.request) n more) (shows_nothing id last m.request first)
+    ∙ from-silent id last more (All-tail (λ m. is_heartbeat m.request ≡ false) m more a)
 
--- after more messages that neither write nor decide, and are no heartbeats
-pub shown-plain : (t : Txn) (sent more : List Sent) → All (λ m. IsTrue (is_plain m.request)) more → last_shown t (sent ++ more) ≡ last_shown t sent
-shown-plain t sent more a = fold-append (λ last m. shown_by t.id last m.request) t.born sent more ∙ from-plain t.id (last_shown t sent) more a
+-- after more messages that are no heartbeats
+pub shown-silent : (t : Txn) (sent more : List Sent) → All (λ m. is_heartbeat m.request ≡ false) more → last_shown t (sent ++ more) ≡ last_shown t sent
+shown-silent t sent more a = fold-append (λ last m. shown_by t.id last m.request) t.born sent more ∙ from-silent t.id (last_shown t sent) more a
 
 -- of a transaction that was not begun no heartbeat was sent
 module _ (session count begun : ℕ) (id : TxnId) (whose : id.session ≡ session) (later : begun < id.number) where

@@ -1,16 +1,20 @@
 -- The writes of the epoch stand on when one is sent, for the first time or again, or is written.
-use Rattle.std.proofs.Common.{◌≡◌, ℕ, ◌+◌, ◌<◌, ◌≤◌, Bool, true, false, cond, ◌==◌, ◌&&◌, not, inl, inr, List, [], ◌∷◌, ◌++◌, map, Option, Some, refl, sym, ap, ◌∙◌, subst, arith, All, Any, Contains, IsTrue, unwrap_or}
+use Rattle.std.proofs.Common.{◌≡◌, ℕ, ◌+◌, ◌<◌, ◌≤◌, Bool, true, false, cond, ◌==◌, ◌&&◌, ◌||◌, not, inl, inr, List, [], ◌∷◌, ◌++◌, map, Option, Some, refl, sym, ap, ◌∙◌, subst, arith, All, Any, Contains, IsTrue, unwrap_or}
 use Rattle.std.specs.List.{list_any}
 use Rattle.std.proofs.lemmas.Bool.{and_from, and_parts, eq-eqb, eqb-true}
 use Rattle.std.proofs.lemmas.List.Elements.{All-append, All-contains, All-head, All-map, All-nil, All-push, All-tail, All-weaker}
+use Rattle.std.proofs.lemmas.List.Folds.{list_any-append}
 use Rattle.pc_base.specs.Span.{same_key}
+use Rattle.pc_follows.specs.PipelinedPuts.{proves}
 use Rattle.pc_lists.proofs.Anywhere.{any_kept, any_last}
 use Rattle.pc_lists.proofs.Lists.{all_from_contains, contains_cons, contains_nil}
-use Rattle.pc_lists.proofs.Same.{same_key-equal}
+use Rattle.pc_lists.proofs.Same.{same_key-equal, same_key-is}
 use Rattle.pc_proto.specs.Requests.{is_put_of}
 use Rattle.pc_txn.proofs.Locks.{locked-kept}
+use Rattle.pc_txn.proofs.Proves.{all_proves_as}
 use Rattle.pc_txn.proofs.Writes.{asked-key, asked-proofs, asked-seq, below_last, proved-key, proved-seq, with_lock-again}
-use Rattle.pc_txn.specs.Writing.{AreEarlierFirst, IsEarlier, IsKeyLocked, IsNotWritten, IsUnwrittenWhereUnproved, PutsUpTo, WasWriteSent, WritesStand}
+use Rattle.pc_txn.specs.Writing.{AreEarlierFirst, IsEarlier, IsKeyLocked, IsNotWritten, IsProvedByHeard, IsUnwrittenWhereUnproved, PutsUpTo, WasWriteSent, WritesStand}
+use Rattle.pc_wave.proofs.Lists.{any_true_kept}
 use Rattle.pc_world.specs.Known.Traffic.{Heard, Sent}
 use Rattle.pc_world.specs.Known.Transactions.{Txn, with_lock}
 use Rattle.pc_world.specs.Known.Writes.{Write, asked_again, is_proved, last_seq_of, proved_at}
@@ -54,9 +58,14 @@ module _ (sent sent_more : List Sent) (heard heard_more : List Heard) (t : Txn) 
     unwritten =
         All-weaker (IsUnwrittenWhereUnproved t heard) (IsUnwrittenWhereUnproved t (heard ++ heard_more))
         (λ v u unproved. All-append (IsNotWritten t v.seq) heard heard_more (u unproved) (All-weaker (λ h. (seq : ℕ) → IsNotWritten t seq h) (IsNotWritten t v.seq) (λ h none. none v.seq) heard_more leave)) t.writes w.unwritten;
+    heard_proved = All-weaker (IsProvedByHeard t heard) (IsProvedByHeard t (heard ++ heard_more)) (λ v was proved. any_true_kept (proves t v) heard heard_more (was proved)) t.writes w.heard_proved;
     locked = w.locked;
     unanchored = w.unanchored;
   }
+
+or_true : (a : Bool) → (a || true) ≡ true
+or_true true = refl
+or_true false = refl
 
 abbrev pub new_write : ℕ → ℕ → List ℕ → Option (List ℕ) → Write
 new_write seq ts key value = record { key = key; seq = seq; value = value; asked = ts ∷ []; proofs = [] }
@@ -87,47 +96,54 @@ module _ (sent : List Sent) (heard : List Heard) (t : Txn) (key : List ℕ) (val
         (λ unproved.
         All-weaker (λ h. PutsUpTo t (last_seq_of t.writes) h.request) (IsNotWritten t (last_seq_of t.writes + 1))
         (λ h up put. let low : last_seq_of t.writes + 1 ≤ last_seq_of t.writes = (up t.epoch (last_seq_of t.writes + 1) put).1 refl in absurd (omega arith)) heard put_heard);
+    heard_proved = All-push (IsProvedByHeard t heard) t.writes n w.heard_proved (λ proved. let f : false ≡ true = proved in absurd cc);
     locked =
         All-push (IsKeyLocked (with_lock key t.locks)) t.writes n
         (All-weaker (IsKeyLocked t.locks) (IsKeyLocked (with_lock key t.locks)) (λ v is. locked-kept v.key key t.locks is) t.writes w.locked) (with_lock-again key t.locks);
     unanchored = λ none. absurd cc;
   }
 
--- The transaction once a write of its was sent again.
-abbrev pub laid_again : ℕ → Txn → Txn
-laid_again seq t = record t { writes = map (asked_again seq t.write_ts) t.writes }
+-- The transaction once a write of its was sent again, at this timestamp.
+abbrev pub laid_again : ℕ → ℕ → Txn → Txn
+laid_again seq ts t = record t { writes = map (asked_again seq ts) t.writes }
 
-module _ (sent : List Sent) (heard : List Heard) (t : Txn) (seq : ℕ) (m : Sent) (w : WritesStand sent heard t) where
+module _ (sent : List Sent) (heard : List Heard) (t : Txn) (seq ts : ℕ) (m : Sent) (w : WritesStand sent heard t) where
   abbrev again : Write → Write
-  again = asked_again seq t.write_ts
+  again = asked_again seq ts
 
   sent_one : (v : Write) → WasWriteSent t sent v → WasWriteSent t (sent ++ m ∷ []) (again v)
   sent_one v went =
-      subst (λ n. Any (λ m. IsTrue (is_put_of t.id t.epoch n m.request)) (sent ++ m ∷ [])) (sym (asked-seq seq t.write_ts v))
+      subst (λ n. Any (λ m. IsTrue (is_put_of t.id t.epoch n m.request)) (sent ++ m ∷ [])) (sym (asked-seq seq ts v))
       (any_kept (λ m. IsTrue (is_put_of t.id t.epoch v.seq m.request)) sent (m ∷ []) went)
 
   unwritten_one : (v : Write) → IsUnwrittenWhereUnproved t heard v → IsUnwrittenWhereUnproved t heard (again v)
   unwritten_one v u unproved =
-      subst (λ n. All (IsNotWritten t n) heard) (sym (asked-seq seq t.write_ts v))
-      (u (sym (ap (λ ps. not (list_any (λ ts. true) ps)) (asked-proofs seq t.write_ts v)) ∙ unproved))
+      subst (λ n. All (IsNotWritten t n) heard) (sym (asked-seq seq ts v))
+      (u (sym (ap (λ ps. not (list_any (λ n. true) ps)) (asked-proofs seq ts v)) ∙ unproved))
+
+  proved_one : (v : Write) → IsProvedByHeard t heard v → IsProvedByHeard t heard (again v)
+  proved_one v was proved =
+      all_proves_as t t (again v) v refl refl (asked-key seq ts v) (asked-seq seq ts v) heard
+      ∙ was (sym (ap (λ ps. list_any (λ n. true) ps) (asked-proofs seq ts v)) ∙ proved)
 
   none_again : (ws : List Write) → ws ≡ [] → map again ws ≡ []
   none_again ws e = ap (map again) e
 
   -- a write was sent again
-  pub writes_resent : WritesStand (sent ++ m ∷ []) heard (laid_again seq t)
+  pub writes_resent : WritesStand (sent ++ m ∷ []) heard (laid_again seq ts t)
   writes_resent = record {
-    by_sequence = earlier-map again (asked-seq seq t.write_ts) t.writes w.by_sequence;
+    by_sequence = earlier-map again (asked-seq seq ts) t.writes w.by_sequence;
     each_sent = All-map (WasWriteSent t (sent ++ m ∷ [])) again t.writes (All-weaker (WasWriteSent t sent) (λ v. WasWriteSent t (sent ++ m ∷ []) (again v)) sent_one t.writes w.each_sent);
     unwritten = All-map (IsUnwrittenWhereUnproved t heard) again t.writes (All-weaker (IsUnwrittenWhereUnproved t heard) (λ v. IsUnwrittenWhereUnproved t heard (again v)) unwritten_one t.writes w.unwritten);
+    heard_proved = All-map (IsProvedByHeard t heard) again t.writes (All-weaker (IsProvedByHeard t heard) (λ v. IsProvedByHeard t heard (again v)) proved_one t.writes w.heard_proved);
     locked =
         All-map (IsKeyLocked t.locks) again t.writes
-        (All-weaker (IsKeyLocked t.locks) (λ v. IsKeyLocked t.locks (again v)) (λ v is. subst (λ key. with_lock key t.locks ≡ t.locks) (sym (asked-key seq t.write_ts v)) is) t.writes w.locked);
+        (All-weaker (IsKeyLocked t.locks) (λ v. IsKeyLocked t.locks (again v)) (λ v is. subst (λ key. with_lock key t.locks ≡ t.locks) (sym (asked-key seq ts v)) is) t.writes w.locked);
     unanchored = λ none. none_again t.writes (w.unanchored none);
   }
 
 module _ (heard : List Heard) (sent : List Sent) (t : Txn) (key : List ℕ) (seq at write_ts : ℕ) (h : Heard) (w : WritesStand sent heard t) (own : Write) (there : Contains t.writes own) (place : own.key ≡ key) (number : own.seq ≡ seq)
-    (only : (n : ℕ) → IsTrue (is_put_of t.id t.epoch n h.request) → n ≡ seq) where
+    (only : (n : ℕ) → IsTrue (is_put_of t.id t.epoch n h.request) → n ≡ seq) (shows : (v : Write) → v.key ≡ key → v.seq ≡ seq → proves t v h ≡ true) where
   abbrev prove : Write → Write
   prove = proved_at key seq at
 
@@ -158,6 +174,17 @@ module _ (heard : List Heard) (sent : List Sent) (t : Txn) (key : List ℕ) (seq
       subst (λ n. All (IsNotWritten t n) (heard ++ h ∷ [])) (sym (proved-seq key seq at v))
       (All-push (IsNotWritten t v.seq) heard h (u parts.0) (λ put. absurd (parts.1 (only v.seq put))))
 
+  -- one that is proved then was before, or is proved by the reply
+  proved_then : (v : Write) → IsProvedByHeard t heard v → IsProvedByHeard t (heard ++ h ∷ []) (prove v)
+  proved_then v was proved = all_proves_as t t (prove v) v refl refl (proved-key key seq at v) (proved-seq key seq at v) (heard ++ h ∷ []) ∙ by (v.seq == seq && same_key v.key key) refl proved
+    where
+      by : (b : Bool) → (v.seq == seq && same_key v.key key) ≡ b → IsTrue (is_proved (cond b (record v { proofs = v.proofs ++ at ∷ [] }) v)) → list_any (proves t v) (heard ++ h ∷ []) ≡ true
+      by true hit is =
+          let parts = and_parts (v.seq == seq) (same_key v.key key) hit in
+          list_any-append (proves t v) heard (h ∷ [])
+          ∙ ap (λ b. list_any (proves t v) heard || (b || false)) (shows v (same_key-is v.key key parts.1) (eqb-true v.seq seq parts.0)) ∙ or_true (list_any (proves t v) heard)
+      by false miss is = any_true_kept (proves t v) heard (h ∷ []) (was is)
+
   none_then : (ws : List Write) → ws ≡ [] → map prove ws ≡ []
   none_then ws e = ap (map prove) e
 
@@ -172,6 +199,9 @@ module _ (heard : List Heard) (sent : List Sent) (t : Txn) (key : List ℕ) (seq
         All-map (IsUnwrittenWhereUnproved t (heard ++ h ∷ [])) prove t.writes
         (all_from_contains (λ v. IsUnwrittenWhereUnproved t (heard ++ h ∷ []) (prove v)) t.writes
         (λ v inside. unwritten_then v inside (All-contains (IsUnwrittenWhereUnproved t heard) t.writes v w.unwritten inside)));
+    heard_proved =
+        All-map (IsProvedByHeard t (heard ++ h ∷ [])) prove t.writes
+        (All-weaker (IsProvedByHeard t heard) (λ v. IsProvedByHeard t (heard ++ h ∷ []) (prove v)) proved_then t.writes w.heard_proved);
     locked =
         All-map (IsKeyLocked t.locks) prove t.writes
         (All-weaker (IsKeyLocked t.locks) (λ v. IsKeyLocked t.locks (prove v)) (λ v is. subst (λ key. with_lock key t.locks ≡ t.locks) (sym (proved-key key seq at v)) is) t.writes w.locked);

@@ -4,6 +4,7 @@ use Rattle.pc_base.specs.declared.transaction.TxnId.{TxnId}
 use Rattle.pc_proto.specs.declared.request.Request.{Request}
 use Rattle.pc_proto.specs.declared.request.Request.TheVariants as requests
 use Rattle.pc_proto.specs.Requests.{subject}
+use Rattle.pc_proto.specs.Stamps.{request_stamps}
 use Rattle.pc_world.specs.Known.{Known}
 use Rattle.pc_world.specs.Known.Traffic.{Heard, Sent}
 
@@ -40,10 +41,12 @@ pub record IsOwnHeard (session begun count : ℕ) (h : Heard) : Type 0 where
   pub own : IsOwn session begun h.request
 
 -- The clock is the greatest timestamp heard or given, the count that of the transactions begun; no message has a number above
--- their count.
+-- their count, and no request that was sent or answered has a timestamp above the session's greatest.
 pub record IsCounted (session latest count : ℕ) (k : Known) : Type 0 where
   pub clock : latest ≡ k.high
   pub below : k.high ≤ k.top
   pub begun : count ≡ k.begun
   pub sent : All (IsOwnSent session k.begun (length k.sent)) k.sent
   pub heard : All (IsOwnHeard session k.begun (length k.sent)) k.heard
+  pub sent_low : All (λ m. All (λ ts. ts ≤ k.top) (request_stamps m.request)) k.sent
+  pub heard_low : All (λ h. All (λ ts. ts ≤ k.top) (request_stamps h.request)) k.heard

@@ -3,6 +3,7 @@ pub mod Silence
 pub mod Counted
 pub mod Laws
 pub mod Opened
+pub mod Queries
 pub mod Staged
 pub mod Standing
 pub mod Writing

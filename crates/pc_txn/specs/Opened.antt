@@ -1,5 +1,7 @@
 -- The open transaction beside the one that its session knows, the messages that it makes, and what becomes of it. SIGMOD 2020 paper, section 3.
-use Rattle.std.specs.Prelude.{ℕ, ◌+◌, max, Option, None, Some, List, [], ◌∷◌, ◌++◌, filter, map, unwrap_or}
+use Rattle.std.specs.Prelude.{ℕ, ◌+◌, max, Bool, false, if◌then◌else◌, nat_le, nat_lt, Option, None, Some, List, [], ◌∷◌, ◌++◌, filter, length, map, unwrap_or}
+use Rattle.std.specs.List.{list_all}
+use Rattle.pc_base.specs.declared.limits.TheConstants.{MOST_IN_FLIGHT}
 use Rattle.pc_base.specs.declared.span.Span.{Span}
 use Rattle.pc_flight.specs.declared.write.WriteInFlight.{WriteInFlight}
 use Rattle.pc_flight.specs.InFlight.{is_another}
@@ -8,7 +10,7 @@ use Rattle.pc_proto.specs.declared.request.Request.{Request}
 use Rattle.pc_proto.specs.declared.request.Request.TheVariants as requests
 use Rattle.pc_proto.specs.declared.why.Why.{Why}
 use Rattle.pc_proto.specs.declared.why.Why.TheVariants as whys
-use Rattle.pc_staging.specs.Kept.{Evidence, nothing_kept, refuted_above, seen_undecided, with_stages, without_stages}
+use Rattle.pc_staging.specs.Kept.{Evidence, nothing_kept, refuted_above, refuted_at, seen_undecided, with_stages, without_stages}
 use Rattle.pc_txn.specs.declared.txn.OpenTxn.{OpenTxn}
 use Rattle.pc_world.specs.Known.Transactions.{Txn, with_lock}
 use Rattle.pc_world.specs.Known.Writes.{last_seq_of}
@@ -45,9 +47,13 @@ meta_now x anchor = record { id = x.id; epoch = x.epoch; priority = x.priority; 
 abbrev pub next_put : OpenTxn → List ℕ → Option (List ℕ) → Request
 next_put x key value = requests.Put (meta_now x (unwrap_or x.anchor key)) (x.seq + 1) x.write_ts key value
 
+-- A write of its that is in flight, at this timestamp.
+abbrev pub put_at : OpenTxn → List ℕ → ℕ → WriteInFlight → Request
+put_at x anchor ts w = requests.Put (meta_now x anchor) w.seq ts w.key w.value
+
 -- A write of its that is in flight, at its write timestamp.
 abbrev pub own_put : OpenTxn → List ℕ → WriteInFlight → Request
-own_put x anchor w = requests.Put (meta_now x anchor) w.seq x.write_ts w.key w.value
+own_put x anchor w = put_at x anchor x.write_ts w
 
 -- Its get of a key, at its read timestamp.
 abbrev pub own_get : OpenTxn → List ℕ → Request
@@ -65,6 +71,10 @@ own_commit x anchor = requests.Commit (meta_now x anchor) x.write_ts x.locks
 abbrev pub own_abort : OpenTxn → Why → List ℕ → Request
 own_abort x why anchor = requests.Abort (meta_now x anchor) why x.locks
 
+-- A write of this sequence may be in flight behind these: there is room, and it is later than each.
+abbrev pub has_place_behind : ℕ → List WriteInFlight → Bool
+has_place_behind seq flight = if nat_le MOST_IN_FLIGHT (length flight) then false else list_all (λ w. nat_lt w.seq seq) flight
+
 -- The transaction once its next write was sent, which is in flight; its stages are dead by then, and forgotten.
 abbrev pub with_next_write : List ℕ → Option (List ℕ) → OpenTxn → OpenTxn
 with_next_write key value x = record x {
@@ -81,6 +91,18 @@ landed_at key seq ts step x = record x {
   write_ts = max x.write_ts ts;
   in_flight = filter (is_another key seq) x.in_flight;
   staging = with_stages (map (refuted_above ts step) x.staging.stages) x.staging;
+}
+
+-- The transaction once a query found its write of this key and sequence.
+abbrev pub with_found : List ℕ → ℕ → OpenTxn → OpenTxn
+with_found key seq x = record x { in_flight = filter (is_another key seq) x.in_flight }
+
+-- The transaction once a query missed a write of its at this timestamp, where a stage lists it, by a reply that was evaluated at this step: it
+-- writes above that.
+abbrev pub missed_at : ℕ → ℕ → OpenTxn → OpenTxn
+missed_at ts step x = record x {
+  write_ts = max x.write_ts (ts + 1);
+  staging = with_stages (map (refuted_at ts step) x.staging.stages) x.staging;
 }
 
 -- The transaction once its commit was refused, by a reply that was evaluated at this step and shows where the record stands.

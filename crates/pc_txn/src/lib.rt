@@ -4,6 +4,7 @@
 
 mod beats;
 mod laws;
+mod queries;
 mod stages;
 mod txn;
 

@@ -1,6 +1,7 @@
-ghost use Rattle.std.specs.Prelude.{◌≡◌, ◌+◌, ◌<◌, All, IfOk, OnOk, length, unwrap_or};
-ghost use Rattle.pc_base.specs.declared.limits.TheConstants.{MOST_IN_FLIGHT};
-ghost use Rattle.pc_txn.specs.Opened.{just_begun, landed_at, meta_now, next_put, own_abort, own_commit, own_get, own_put, own_scan, refused_at, restarted_by, with_commit, with_next_write};
+ghost use Rattle.std.specs.Prelude.{◌≡◌, ◌+◌, ◌<◌, nat_lt, IfOk, OnOk, unwrap_or};
+ghost use Rattle.std.specs.List.{list_all};
+ghost use Rattle.pc_base.specs.Timestamp.{greatest};
+ghost use Rattle.pc_txn.specs.Opened.{has_place_behind, just_begun, landed_at, meta_now, missed_at, next_put, own_abort, own_commit, own_get, own_put, own_scan, refused_at, restarted_by, with_commit, with_found, with_next_write};
 ghost use Rattle.pc_world.specs.Known.Transactions.{begun};
 
 use pc_base::{Key, NoMemory, Priority, Span, Timestamp, TryCopy, TxnId, Value};
@@ -129,13 +130,15 @@ impl OpenTxn {
         }
     }
 
-    /// Its next write was sent: it is in flight. Its stages are dead by then, and forgotten. Refused too where the sequences are used up.
+    /// Its next write was sent: it is in flight. Its stages are dead by then, and forgotten. Refused too where the sequences are used up, or as
+    /// many writes are in flight as there may be.
     pub fn lay(&mut self, key: &Key, value: &Option<Value>) -> Result<(), NoMemory>
-        requires room { length self.old.in_flight < MOST_IN_FLIGHT }
-        requires above { All (λ w. w.seq < self.old.seq + 1) self.old.in_flight }
         ensures { OnOk result (self.new ≡ with_next_write key.now value.now self.old) }
     {
         let seq = following(self.seq)?;
+        if !self.has_place_behind(seq) {
+            return Err(NoMemory);
+        }
         let anchor = self.anchor_at(key)?;
         self.locks.add(key)?;
         self.in_flight.add(key.copy()?, seq, value.copy()?)?;
@@ -143,6 +146,23 @@ impl OpenTxn {
         self.anchor = Some(anchor);
         self.seq = seq;
         Ok(())
+    }
+
+    /// Whether a write of this sequence may be in flight behind the others.
+    fn has_place_behind(&self, seq: u32) -> bool
+        ensures { result ≡ has_place_behind seq self.now.in_flight }
+    {
+        if self.in_flight.is_full() {
+            return false;
+        }
+        self.is_later(seq)
+    }
+
+    /// Whether the sequence is later than that of each write in flight.
+    fn is_later(&self, seq: u32) -> bool
+        ensures { result ≡ list_all (λ w. nat_lt w.seq seq) self.now.in_flight }
+    {
+        self.in_flight.writes().iter().all(|write| write.seq < seq)
     }
 
     /// The message that sends a write in flight again, at the write timestamp.
@@ -168,6 +188,22 @@ impl OpenTxn {
         self.write_ts = self.write_ts.max(ts);
         self.in_flight.proved(key, seq);
         self.staging.heard_written(ts, step);
+    }
+
+    /// A query found its write of this key and sequence, no later than the write timestamp.
+    pub fn found(&mut self, key: &Key, seq: u32)
+        ensures { self.new ≡ with_found key.now seq self.old }
+    {
+        self.in_flight.proved(key, seq);
+    }
+
+    /// A query missed a write of its at this timestamp, where a stage lists it, by a reply that was evaluated at this step: it writes above that.
+    pub fn missed(&mut self, ts: Timestamp, step: u64)
+        requires { ts < greatest }
+        ensures { self.new ≡ missed_at ts step self.old }
+    {
+        self.write_ts = self.write_ts.max(ts.next());
+        self.staging.heard_missing(ts, step);
     }
 
     /// Its commit was refused: its record is not final and stands at this timestamp, by a reply that was evaluated at this step.

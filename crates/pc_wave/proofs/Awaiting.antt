@@ -11,11 +11,13 @@ use Rattle.pc_proto.specs.Replies.{is_conflict}
 use Rattle.pc_wave.proofs.Hearing.{awaits_as}
 use Rattle.pc_wave.proofs.Rounds.{due_round, first_found}
 use Rattle.pc_wave.proofs.Sending.{sends_first}
+use Rattle.pc_wave.proofs.Tries.{or_parts}
 use Rattle.pc_wave.specs.declared.message.Message.{Message}
 use Rattle.pc_wave.specs.declared.message.Progress.{Progress}
 use Rattle.pc_wave.specs.declared.message.Progress.TheVariants as progresses
 use Rattle.pc_wave.specs.declared.step.Step.TheVariants as steps
-use Rattle.pc_wave.specs.Messages.{awaits_at, back_with, back_with_by, conflicts_at, first_changed, first_in_conflict, goes_again, has_answer, is_out, is_to_send, progress_out, progress_awaits, progress_to_send, step_of, wave_awaits, sent_under}
+use Rattle.pc_wave.specs.Course.{Course}
+use Rattle.pc_wave.specs.Messages.{awaits_at, back_with, back_with_by, conflicts_at, first_changed, first_in_conflict, goes_again, has_answer, is_out, is_to_send, lost_of, progress_out, progress_awaits, progress_to_send, step_of, wave_awaits, sent_under}
 use Rattle.pc_wave.specs.Standing.{AreOfTwo, IsAsFar, IsOnItsWay, MessageStands, Pairwise, WaveStands}
 use Rattle.pc_world.specs.Known.{Known}
 
@@ -30,10 +32,6 @@ idle_at n progresses.ToSend is = refl
 idle_at n (progresses.Sent number) is = absurd cc
 idle_at n (progresses.Met number conflict) is = refl
 idle_at n (progresses.Answered number reply) is = refl
-
-or_parts : (a b : Bool) → (a || b) ≡ false → (a ≡ false) × (b ≡ false)
-or_parts true b e = absurd cc
-or_parts false b e = (refl, e)
 
 or_swap : (a b c : Bool) → (a || (b || c)) ≡ (b || (a || c))
 or_swap true true c = refl
@@ -68,27 +66,27 @@ module _ (number other : ℕ) where
 abbrev IsApart : Message → Message → Type 0
 IsApart m other = (number : ℕ) → IsTrue (awaits_at number m) → IsTrue (awaits_at number other) → ⊥
 
-module _ (k : Known) where
-  awaited_far : (m : Message) → MessageStands k m → (number : ℕ) → IsTrue (awaits_at number m) → IsOnItsWay k number m.request
+module _ (c : Course) (k : Known) where
+  awaited_far : (m : Message) → MessageStands c k m → (number : ℕ) → IsTrue (awaits_at number m) → IsOnItsWay c k number m.request
   awaited_far m s number is =
-      let far : IsOnItsWay k number m.request × (m.conflicts < MOST_CONFLICTS) = subst (λ p. IsAsFar k m.request m.conflicts p) (awaits_as number m.progress is) s.as_far in
+      let far : IsOnItsWay c k number m.request × (m.conflicts < MOST_CONFLICTS) = subst (λ p. IsAsFar c k m.request m.conflicts p) (awaits_as number m.progress is) s.as_far in
       far.0
 
   -- messages of different requests wait under different numbers
-  apart : (m other : Message) → MessageStands k m → MessageStands k other → AreOfTwo m other → IsApart m other
+  apart : (m other : Message) → MessageStands c k m → MessageStands c k other → AreOfTwo m other → IsApart m other
   apart m other s t two number here there =
       two.differ (inl (same_Some m.request other.request (sym (awaited_far m s number here).out.said ∙ (awaited_far other t number there).out.said)))
 
-  all_apart : (m : Message) (ms : List Message) → MessageStands k m → All (MessageStands k) ms → All (AreOfTwo m) ms → All (IsApart m) ms
+  all_apart : (m : Message) (ms : List Message) → MessageStands c k m → All (MessageStands c k) ms → All (AreOfTwo m) ms → All (IsApart m) ms
   all_apart m [] s stand two = All-nil (IsApart m)
   all_apart m (y ∷ ms) s stand two =
-      All-cons (IsApart m) y ms (apart m y s (All-head (MessageStands k) y ms stand) (All-head (AreOfTwo m) y ms two))
-      (all_apart m ms s (All-tail (MessageStands k) y ms stand) (All-tail (AreOfTwo m) y ms two))
+      All-cons (IsApart m) y ms (apart m y s (All-head (MessageStands c k) y ms stand) (All-head (AreOfTwo m) y ms two))
+      (all_apart m ms s (All-tail (MessageStands c k) y ms stand) (All-tail (AreOfTwo m) y ms two))
 
-  are_apart : (ms : List Message) → All (MessageStands k) ms → Pairwise AreOfTwo ms → Pairwise IsApart ms
+  are_apart : (ms : List Message) → All (MessageStands c k) ms → Pairwise AreOfTwo ms → Pairwise IsApart ms
   are_apart [] stand two = tt
   are_apart (m ∷ ms) stand two =
-      (all_apart m ms (All-head (MessageStands k) m ms stand) (All-tail (MessageStands k) m ms stand) two.0, are_apart ms (All-tail (MessageStands k) m ms stand) two.1)
+      (all_apart m ms (All-head (MessageStands c k) m ms stand) (All-tail (MessageStands c k) m ms stand) two.0, are_apart ms (All-tail (MessageStands c k) m ms stand) two.1)
 
 none_of : (number : ℕ) (y : Message) → IsTrue (awaits_at number y) → (ms : List Message) → All (IsApart y) ms → wave_awaits number ms ≡ false
 none_of number y is [] a = refl
@@ -110,13 +108,14 @@ none_left false e is = refl
 came_idle : (n number : ℕ) (reply : Reply) (m : Message) → awaits_at n (back_with number reply m) ≡ false
 came_idle n number reply m = elim (is_conflict reply) as (λ b. awaits_at n (back_with_by b number reply m) ≡ false) [ true ↦ refl | false ↦ refl ]
 
-module _ (number other : ℕ) (reply : Reply) where
+-- A change after which a message is waited for no more.
+module _ (number other : ℕ) (change : Message → Message) (idle_then : (n : ℕ) (m : Message) → awaits_at n (change m) ≡ false) where
   abbrev heard_in : List Message → List Message
-  heard_in ms = first_changed (awaits_at number) (back_with number reply) ms
+  heard_in ms = first_changed (awaits_at number) change ms
 
-  here : (y : Message) (ms : List Message) → All (IsApart y) ms → awaits_at number y ≡ true → wave_awaits other (back_with number reply y ∷ ms) ≡ (wave_awaits other (y ∷ ms) && not (number == other))
+  here : (y : Message) (ms : List Message) → All (IsApart y) ms → awaits_at number y ≡ true → wave_awaits other (change y ∷ ms) ≡ (wave_awaits other (y ∷ ms) && not (number == other))
   here y ms apart is =
-      ap (λ b. b || wave_awaits other ms) (came_idle other number reply y) ∙ by (number == other) refl
+      ap (λ b. b || wave_awaits other ms) (idle_then other y) ∙ by (number == other) refl
     where
       at : awaits_at other y ≡ (number == other)
       at = ap (progress_awaits other) (awaits_as number y.progress is)
@@ -148,12 +147,21 @@ module _ (number other : ℕ) (reply : Reply) where
       later is = sym (ap (λ b. b || wave_awaits number ms) is) ∙ some
 
       by : (wave_awaits number ms ≡ true → wave_awaits other (heard_in ms) ≡ (wave_awaits other ms && not (number == other))) → (b : Bool) → awaits_at number y ≡ b
-          → wave_awaits other (cond b (back_with number reply y ∷ ms) (y ∷ heard_in ms)) ≡ (wave_awaits other (y ∷ ms) && not (number == other))
+          → wave_awaits other (cond b (change y ∷ ms) (y ∷ heard_in ms)) ≡ (wave_awaits other (y ∷ ms) && not (number == other))
       by rest true is = here y ms apart.0 is
       by rest false is = there y ms is (rest (later is))
 
-  pub heard_awaits : (k : Known) (ms : List Message) → WaveStands k ms → wave_awaits number ms ≡ true → wave_awaits other (heard_in ms) ≡ (wave_awaits other ms && not (number == other))
-  heard_awaits k ms w some = heard_less ms (are_apart k ms w.stand w.differ) some
+  less_awaited : (c : Course) (k : Known) (ms : List Message) → WaveStands c k ms → wave_awaits number ms ≡ true → wave_awaits other (heard_in ms) ≡ (wave_awaits other ms && not (number == other))
+  less_awaited c k ms w some = heard_less ms (are_apart c k ms w.stand w.differ) some
+
+pub heard_awaits : (number other : ℕ) (reply : Reply) (c : Course) (k : Known) (ms : List Message) → WaveStands c k ms → wave_awaits number ms ≡ true
+    → wave_awaits other (first_changed (awaits_at number) (back_with number reply) ms) ≡ (wave_awaits other ms && not (number == other))
+heard_awaits number other reply c k ms w some = less_awaited number other (back_with number reply) (λ n m. came_idle n number reply m) c k ms w some
+
+-- so is what was lost
+pub lost_awaits : (number other tries : ℕ) (c : Course) (k : Known) (ms : List Message) → WaveStands c k ms → wave_awaits number ms ≡ true
+    → wave_awaits other (first_changed (awaits_at number) (lost_of tries) ms) ≡ (wave_awaits other ms && not (number == other))
+lost_awaits number other tries c k ms w some = less_awaited number other (lost_of tries) (λ n m. refl) c k ms w some
 
 again_idle : (number : ℕ) (ms : List Message) → list_any is_out ms ≡ false → list_any is_out (first_changed (conflicts_at number) goes_again ms) ≡ false
 again_idle number [] e = refl

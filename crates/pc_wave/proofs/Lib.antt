@@ -2,10 +2,13 @@
 pub mod Awaiting
 pub mod Changed
 pub mod Dues
+pub mod ForCall
 pub mod Hearing
 pub mod Joining
 pub mod Lists
+pub mod Losing
 pub mod Places
 pub mod Rounds
 pub mod Sending
 pub mod Standings
+pub mod Tries

@@ -1,8 +1,10 @@
 -- The round of a conflict was made, and its message goes out again.
-use Rattle.std.proofs.Common.{◌≡◌, ℕ, ◌<◌, nat_le, Bool, true, false, cond, inl, inr, List, [], ◌∷◌, ◌++◌, find, None, Some, Option, refl, sym, ap, ◌∙◌, subst, All, IsTrue}
+use Rattle.std.proofs.Common.{◌≡◌, ℕ, ◌<◌, nat_le, nat_lt, Bool, true, false, ◌&&◌, cond, inl, inr, List, [], ◌∷◌, ◌++◌, find, None, Some, Option, refl, sym, ap, ◌∙◌, subst, All, IsTrue}
 use Rattle.std.specs.List.{list_all, list_any}
 use Rattle.std.proofs.lemmas.Bool.{eq-eqb, leb-false}
 use Rattle.std.proofs.lemmas.List.{append_assoc}
+use Rattle.std.proofs.lemmas.List.Folds.{list_any_none}
+use Rattle.std.proofs.lemmas.Option.{same_Some}
 use Rattle.std.proofs.lemmas.List.Elements.{All-append, All-cons, All-head, All-nil, All-tail, All-weaker}
 use Rattle.pc_base.specs.declared.limits.TheConstants.{MOST_CONFLICTS}
 use Rattle.pc_base.specs.declared.transaction.TxnId.{TxnId}
@@ -11,15 +13,19 @@ use Rattle.pc_proto.specs.declared.request.Request.{Request}
 use Rattle.pc_proto.specs.declared.request.Request.TheVariants as requests
 use Rattle.pc_proto.specs.Replies.{holder_in}
 use Rattle.pc_wave.proofs.Changed.{any_none, changed_other, found_all, pairwise_changed}
-use Rattle.pc_wave.proofs.Standings.{IsOther, IsOtherSent, answered-kept, counted-kept, sent-kept, stands-kept}
+use Rattle.pc_wave.proofs.Standings.{IsOther, IsOtherSent, answered-kept, counted-kept, go_out-kept, sent-kept, stands-kept, here-kept}
+use Rattle.pc_wave.proofs.Tries.{idle_tried, or_parts, ready_tries}
+use Rattle.pc_wave.specs.Course.{Course}
 use Rattle.pc_wave.specs.declared.message.Message.{Message}
 use Rattle.pc_wave.specs.declared.message.Progress.{Progress}
 use Rattle.pc_wave.specs.declared.message.Progress.TheVariants as progresses
 use Rattle.pc_wave.specs.declared.step.Step.{Step}
 use Rattle.pc_wave.specs.declared.step.Step.TheVariants as steps
 use Rattle.pc_wave.specs.Due.{FollowsConflict, MadeRound}
-use Rattle.pc_wave.specs.Messages.{conflict_by, conflicts_at, first_changed, first_in_conflict, goes_again, has_answer, is_out, is_in_conflict, is_to_send, progress_out, progress_conflicts, progress_in_conflict, step_by, step_in, step_of}
-use Rattle.pc_wave.specs.Standing.{AreOfTwo, IsAsFar, MessageStands, MetConflict, WaveStands, goes_beside, sends_counted}
+use Rattle.pc_wave.specs.Messages.{conflict_by, conflicts_at, first_changed, first_in_conflict, goes_again, has_answer, is_out, is_in_conflict, is_pending, is_to_send, progress_out, progress_conflicts, progress_in_conflict, progress_to_send, step_by, step_in, step_of}
+use Rattle.pc_wave.specs.Standing.{AreOfTwo, CountsTries, IsAsFar, IsFreeToGo, IsReason, MayGoOut, MessageStands, MetConflict, WaveStands, goes_beside, sends_counted}
+use Rattle.pc_follows.specs.AgainInOneWave.{sent_for_call}
+use Rattle.pc_follows.specs.PutsAgain.{WentThroughRound}
 use Rattle.pc_follows.specs.Resends.{MetConflictNow, WasFollowed}
 use Rattle.pc_world.specs.Known.{Known}
 use Rattle.pc_world.specs.Known.Traffic.{Heard}
@@ -62,13 +68,24 @@ round_of_first None (Some m) b number conflict e = absurd cc
 round_of_first None None true number conflict e = absurd cc
 round_of_first None None false number conflict e = absurd cc
 
--- the first in conflict is found, and none is waited for
-pub first_found : (ms : List Message) (m : Message) → first_in_conflict ms ≡ Some m → (find is_in_conflict ms ≡ Some m) × (list_any is_out ms ≡ false)
-first_found ms m e = by (list_any is_out ms) refl e
+-- the first in conflict is found, and none is pending
+pub first_pending : (ms : List Message) (m : Message) → first_in_conflict ms ≡ Some m → (find is_in_conflict ms ≡ Some m) × (list_any is_pending ms ≡ false)
+first_pending ms m e = by (list_any is_pending ms) refl e
   where
-    by : (b : Bool) → list_any is_out ms ≡ b → cond b None (find is_in_conflict ms) ≡ Some m → (find is_in_conflict ms ≡ Some m) × (list_any is_out ms ≡ false)
+    by : (b : Bool) → list_any is_pending ms ≡ b → cond b None (find is_in_conflict ms) ≡ Some m → (find is_in_conflict ms ≡ Some m) × (list_any is_pending ms ≡ false)
     by true is e = absurd cc
     by false is e = (e, is)
+
+out_pending : (m : Message) → is_pending m ≡ false → is_out m ≡ false
+out_pending m idle = (or_parts (is_out m) (is_to_send m && nat_lt 0 m.lost) idle).0
+
+-- where nothing is pending, nothing is waited for
+pub none_out : (ms : List Message) → list_any is_pending ms ≡ false → list_any is_out ms ≡ false
+none_out ms idle = list_any_none is_out ms (All-weaker (λ m. is_pending m ≡ false) (λ m. is_out m ≡ false) (λ m e. out_pending m e) ms (any_none is_pending ms idle))
+
+-- the first in conflict is found, and none is waited for
+pub first_found : (ms : List Message) (m : Message) → first_in_conflict ms ≡ Some m → (find is_in_conflict ms ≡ Some m) × (list_any is_out ms ≡ false)
+first_found ms m e = let f = first_pending ms m e in (f.0, none_out ms f.1)
 
 not_at : (n : ℕ) (p : Progress) → progress_in_conflict p ≡ false → progress_conflicts n p ≡ false
 not_at n progresses.ToSend e = refl
@@ -111,17 +128,17 @@ followed-behind id key earlier later f = record {
   done = f.done;
 }
 
-module _ (k now : Known) (ms : List Message) (w : WaveStands k ms) (number : ℕ) (conflict : Reply) (m : Message) (found : find is_in_conflict ms ≡ Some m) (idle : list_any is_out ms ≡ false) (in_round : IsInRound m number conflict) (made : MadeRound k now conflict) where
-  stands_m : MessageStands k m
-  stands_m = found_all is_in_conflict (MessageStands k) ms m found w.stand
+module _ (co : Course) (k now : Known) (ms : List Message) (w : WaveStands co k ms) (number : ℕ) (conflict : Reply) (m : Message) (found : find is_in_conflict ms ≡ Some m) (idle : list_any is_pending ms ≡ false) (in_round : IsInRound m number conflict) (made : MadeRound k now conflict) where
+  stands_m : MessageStands co k m
+  stands_m = found_all is_in_conflict (MessageStands co k) ms m found w.stand
 
-  met : MetConflict k number m.request conflict
-  met = subst (λ p. IsAsFar k m.request m.conflicts p) in_round.progress stands_m.as_far
+  met : MetConflict co k number m.request conflict
+  met = subst (λ p. IsAsFar co k m.request m.conflicts p) in_round.progress stands_m.as_far
 
-  news : (y : Message) → MessageStands k y → All (IsOtherSent y.request) made.sent_more
+  news : (y : Message) → MessageStands co k y → All (IsOtherSent y.request) made.sent_more
   news y s = All-weaker (λ m. IsTrue (goes_beside m.request)) (IsOtherSent y.request) (λ m of. none_of_round y.request m.request s.no_round of) made.sent_more made.sent
 
-  others : (y : Message) → MessageStands k y → All (IsOther y.request) made.heard_more
+  others : (y : Message) → MessageStands co k y → All (IsOther y.request) made.heard_more
   others y s = All-weaker (λ h. IsTrue (goes_beside h.request)) (IsOther y.request) (λ h of. none_of_round y.request h.request s.no_round of) made.heard_more made.heard
 
   followed : WasFollowed met.holder.id met.key made.heard_more
@@ -142,32 +159,65 @@ module _ (k now : Known) (ms : List Message) (w : WaveStands k ms) (number : ℕ
     followed = followed-behind met.holder.id met.key met.later made.heard_more followed;
   }
 
-  again : MessageStands now (goes_again m)
+  went : WentThroughRound now m.request
+  unfolding met_now
+  went = record { met = met_now; just_so = sym met.reply.asked }
+
+  reason : (b l : Bool) → IsReason b l now m.request
+  reason false l = went
+  reason true false = inl went
+  reason true true = inl went
+
+  goes : MayGoOut co now m.request
+  goes = record {
+    answered = answered-kept co k now made.sent_more made.heard_more made.more m.request (news m stands_m) (others m stands_m) co.loses met.answered;
+    again = λ quiet some. reason co.pipelines co.loses;
+  }
+
+  is_ready : (b : Bool) → IsFreeToGo b co now m.request
+  is_ready false = goes
+  is_ready true = tt
+
+  -- it was not lost before it met the conflict
+  none_lost : (b : Bool) → CountsTries b co k m → m.lost ≡ 0
+  none_lost false none = none
+  none_lost true t = t.came (ap progress_to_send in_round.progress) (ap progress_out in_round.progress)
+
+  again : MessageStands co now (goes_again m)
   again = record {
     as_far = (
-      record {
-        answered = answered-kept k now made.sent_more made.heard_more made.more m.request (news m stands_m) (others m stands_m) met.answered;
-        again = λ some. met_now;
-      },
+      is_ready co.loses,
       in_round.below (λ none. let e : Some met.holder.id ≡ None = sym (ap holder_in met.is) ∙ none in absurd cc),
     );
-    counted = counted-kept k now made.sent_more made.heard_more made.more m.request (news m stands_m) (others m stands_m) m.conflicts stands_m.counted;
+    counted = counted-kept co k now made.sent_more made.heard_more made.more m.request (news m stands_m) (others m stands_m) m.conflicts stands_m.counted;
     sent =
-        sent-kept k now made.sent_more made.heard_more made.more m.request (news m stands_m) (others m stands_m) m.conflicts
-        (subst (λ p. AtLeast (λ s. IsSameRequest m.request s.request) (sends_counted m.conflicts p) k.sent_now) in_round.progress stands_m.sent);
+        sent-kept co k now made.sent_more made.heard_more made.more m.request (news m stands_m) (others m stands_m) m.conflicts
+        (subst (λ p. AtLeast (λ s. IsSameRequest m.request s.request) (sends_counted m.conflicts p) (sent_for_call k)) in_round.progress stands_m.sent);
+    tries = ready_tries co.loses co now (goes_again m) (none_lost co.loses stands_m.tries) refl goes;
     no_round = stands_m.no_round;
   }
 
-  stays : (y : Message) → MessageStands k y → is_out y ≡ false → MessageStands now y
-  stays y s not = stands-kept k now made.sent_more made.heard_more made.more y (news y s) (others y s) (λ n e. let t : is_out y ≡ true = ap progress_out e in absurd cc) s
+  tries_kept : (y : Message) → MessageStands co k y → is_pending y ≡ false → (b : Bool) → CountsTries b co k y → CountsTries b co now y
+  tries_kept y s not false none = none
+  tries_kept y s not true t = record {
+    tried = idle_tried co k now y t not (out_pending y not);
+    came = t.came;
+    first = λ ready none. go_out-kept co k now made.sent_more made.heard_more made.more y.request (news y s) (others y s) (t.first ready none);
+    here = λ some. here-kept co k now made.sent_more made.heard_more made.more y.request (t.here some);
+  }
 
-  pub again_stands : WaveStands now (first_changed (conflicts_at number) goes_again ms)
+  stays : (y : Message) → MessageStands co k y → is_pending y ≡ false → MessageStands co now y
+  stays y s not =
+      stands-kept co k now made.sent_more made.heard_more made.more y (news y s) (others y s)
+      (λ n e. let t : is_out y ≡ true = ap progress_out e in let f : is_out y ≡ false = out_pending y not in absurd cc) (tries_kept y s not co.loses) s
+
+  pub again_stands : WaveStands co now (first_changed (conflicts_at number) goes_again ms)
   again_stands = record {
     stand =
-        changed_other AreOfTwo (conflicts_at number) goes_again (λ y. MessageStands k y × (is_out y ≡ false)) (MessageStands now) ms m
+        changed_other AreOfTwo (conflicts_at number) goes_again (λ y. MessageStands co k y × (is_pending y ≡ false)) (MessageStands co now) ms m
         (found_at number ms m found (ap (progress_conflicts number) in_round.progress ∙ eq-eqb number number refl))
         (λ y s two. stays y s.0 s.1) (λ y s two. stays y s.0 s.1) (λ s. again)
-        (all_both (MessageStands k) (λ y. is_out y ≡ false) ms w.stand (any_none is_out ms idle)) w.differ;
+        (all_both (MessageStands co k) (λ y. is_pending y ≡ false) ms w.stand (any_none is_pending ms idle)) w.differ;
     differ = pairwise_changed AreOfTwo (conflicts_at number) goes_again (λ x y two. record { differ = two.differ; back = two.back }) (λ x y two. record { differ = two.differ; back = two.back }) ms w.differ;
   }
 
@@ -176,9 +226,16 @@ pub due_round : (ms : List Message) (number : ℕ) (conflict : Reply) → step_o
 due_round ms number conflict due = round_of_first (first_in_conflict ms) (find is_to_send ms) (list_all has_answer ms) number conflict due
 
 -- after the round that was due was made
-pub wave_again : (k now : Known) (ms : List Message) (number : ℕ) (conflict : Reply) → WaveStands k ms → step_of ms ≡ steps.Round number conflict → MadeRound k now conflict
-    → WaveStands now (first_changed (conflicts_at number) goes_again ms)
-wave_again k now ms number conflict w due made =
+pub wave_again : (co : Course) (k now : Known) (ms : List Message) (number : ℕ) (conflict : Reply) → WaveStands co k ms → step_of ms ≡ steps.Round number conflict → MadeRound k now conflict
+    → WaveStands co now (first_changed (conflicts_at number) goes_again ms)
+wave_again co k now ms number conflict w due made =
     let f = due_round ms number conflict due in
-    let first = first_found ms f.0 f.1 in
-    again_stands k now ms w number conflict f.0 first.0 first.1 f.2 made
+    let first = first_pending ms f.0 f.1 in
+    again_stands co k now ms w number conflict f.0 first.0 first.1 f.2 made
+
+-- and its message is just as it was
+pub wave_went : (co : Course) (k now : Known) (ms : List Message) (number : ℕ) (conflict : Reply) → WaveStands co k ms → step_of ms ≡ steps.Round number conflict → MadeRound k now conflict → (m : Message) → find is_in_conflict ms ≡ Some m → WentThroughRound now m.request
+wave_went co k now ms number conflict w due made m found =
+    let f = due_round ms number conflict due in
+    let first = first_pending ms f.0 f.1 in
+    subst (λ (m : Message). WentThroughRound now m.request) (same_Some f.0 m (sym first.0 ∙ found)) (went co k now ms w number conflict f.0 first.0 first.1 f.2 made)

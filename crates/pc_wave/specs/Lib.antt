@@ -1,4 +1,8 @@
 -- A wave of messages, and how it stands beside what its session knows.
+pub mod Course
 pub mod Due
+pub mod Joining
 pub mod Messages
+pub mod Shown
 pub mod Standing
+pub mod Tries

@@ -1,5 +1,5 @@
 -- The messages of a wave, and what is due of them.
-use Rattle.std.specs.Prelude.{ℕ, ◌+◌, Bool, true, false, ◌==◌, cond, if◌then◌else◌, nat_le, nat_lt, Option, None, Some, List, [], ◌∷◌, find}
+use Rattle.std.specs.Prelude.{ℕ, ◌+◌, Bool, true, false, ◌==◌, ◌||◌, ◌&&◌, cond, if◌then◌else◌, nat_le, nat_lt, Option, None, Some, List, [], ◌∷◌, find}
 use Rattle.std.specs.List.{list_all, list_any}
 use Rattle.pc_base.specs.declared.limits.TheConstants.{MOST_CONFLICTS}
 use Rattle.pc_base.specs.declared.transaction.TxnId.{TxnId}
@@ -20,7 +20,15 @@ module _ {X : Type 0} (test : X → Bool) (change : X → X) where
 
 -- A message that is to be sent.
 abbrev pub message_to_send : Request → Message
-message_to_send request = record { request = request; conflicts = 0; progress = progresses.ToSend }
+message_to_send request = record { request = request; conflicts = 0; lost = 0; progress = progresses.ToSend }
+
+-- A message that is to be sent again in another wave of its call, after so many conflicts.
+abbrev pub message_again : Request → ℕ → Message
+message_again request conflicts = record { request = request; conflicts = conflicts; lost = 0; progress = progresses.ToSend }
+
+-- A message that is on its way under this number.
+abbrev pub message_on_way : ℕ → Request → Message
+message_on_way number request = record { request = request; conflicts = 0; lost = 0; progress = progresses.Sent number }
 
 abbrev pub progress_to_send : Progress → Bool
 progress_to_send progresses.ToSend = true
@@ -91,8 +99,8 @@ abbrev pub one_conflict_more : ℕ → ℕ
 one_conflict_more conflicts = if nat_lt conflicts MOST_CONFLICTS then conflicts + 1 else MOST_CONFLICTS
 
 abbrev pub back_with_by : Bool → ℕ → Reply → Message → Message
-back_with_by true number reply m = record m { conflicts = one_conflict_more m.conflicts; progress = progresses.Met number reply }
-back_with_by false number reply m = record m { progress = progresses.Answered number reply }
+back_with_by true number reply m = record m { conflicts = one_conflict_more m.conflicts; lost = 0; progress = progresses.Met number reply }
+back_with_by false number reply m = record m { lost = 0; progress = progresses.Answered number reply }
 
 -- This was replied to the message, which went out under this number.
 abbrev pub back_with : ℕ → Reply → Message → Message
@@ -102,9 +110,25 @@ back_with number reply m = back_with_by (is_conflict reply) number reply m
 abbrev pub goes_again : Message → Message
 goes_again m = record m { progress = progresses.ToSend }
 
--- The first message that waits for its conflict's round, once no reply is waited for any more.
+-- One more of the message's sendings in a row was lost, counted up to as many as there may be.
+abbrev pub one_lost_more : ℕ → ℕ → ℕ
+one_lost_more tries lost = if nat_lt lost tries then lost + 1 else lost
+
+-- Nothing is heard of the message under the number at which it went out: it is to be sent again.
+abbrev pub lost_of : ℕ → Message → Message
+lost_of tries m = record m { lost = one_lost_more tries m.lost; progress = progresses.ToSend }
+
+-- The message was sent in a row as often as it may be, and none of these sendings was answered.
+abbrev pub no_try_left : ℕ → Message → Bool
+no_try_left tries m = nat_le tries m.lost
+
+-- The reply to the message is waited for, or it was lost and is to be sent again.
+abbrev pub is_pending : Message → Bool
+is_pending m = is_out m || (is_to_send m && nat_lt 0 m.lost)
+
+-- The first message that waits for its conflict's round, once no reply is waited for any more, and nothing that was lost is to be sent again.
 abbrev pub first_in_conflict : List Message → Option Message
-first_in_conflict messages = if list_any is_out messages then None else find is_in_conflict messages
+first_in_conflict messages = if list_any is_pending messages then None else find is_in_conflict messages
 
 abbrev pub conflict_by : Option TxnId → ℕ → Reply → Step
 conflict_by None number conflict = steps.Round number conflict

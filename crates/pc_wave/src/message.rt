@@ -1,5 +1,5 @@
 ghost use Rattle.std.specs.Prelude.{◌≡◌, IfOk};
-ghost use Rattle.pc_wave.specs.Messages.{awaits_at, back_with, conflicts_at, goes_again, has_answer, is_out, is_in_conflict, is_to_send, message_to_send, conflict_step, one_conflict_more, step_in, sent_under};
+ghost use Rattle.pc_wave.specs.Messages.{awaits_at, back_with, conflicts_at, goes_again, has_answer, is_out, is_in_conflict, is_pending, is_to_send, lost_of, message_again, message_on_way, message_to_send, no_try_left, conflict_step, one_conflict_more, one_lost_more, step_in, sent_under};
 
 use crate::step::Step;
 use pc_base::limits::MOST_CONFLICTS;
@@ -12,6 +12,8 @@ pub struct Message {
     pub request: Request,
     /// How many intents it met in this call.
     pub conflicts: u32,
+    /// How often in a row it was sent and not answered.
+    pub lost: u32,
     pub progress: Progress,
 }
 
@@ -35,7 +37,32 @@ impl Message {
         Message {
             request,
             conflicts: 0,
+            lost: 0,
             progress: Progress::ToSend,
+        }
+    }
+
+    /// It is to be sent again in another wave of its call, where it met so many intents before.
+    pub fn again(request: Request, conflicts: u32) -> Message
+        ensures { result ≡ message_again request conflicts }
+    {
+        Message {
+            request,
+            conflicts,
+            lost: 0,
+            progress: Progress::ToSend,
+        }
+    }
+
+    /// It is on its way under this number.
+    pub fn on_way(number: u64, request: Request) -> Message
+        ensures { result ≡ message_on_way number request }
+    {
+        Message {
+            request,
+            conflicts: 0,
+            lost: 0,
+            progress: Progress::Sent { number },
         }
     }
 
@@ -49,6 +76,20 @@ impl Message {
         ensures { result ≡ is_out self.now }
     {
         matches!(self.progress, Progress::Sent { .. })
+    }
+
+    /// Whether its reply is waited for, or it was lost and is to be sent again.
+    pub fn is_pending(&self) -> bool
+        ensures { result ≡ is_pending self.now }
+    {
+        self.is_out() || (self.is_to_send() && self.lost > 0)
+    }
+
+    /// Whether it was sent in a row as often as it may be, and none of these sendings was answered.
+    pub fn is_used_up(&self, tries: u32) -> bool
+        ensures { result ≡ no_try_left tries self.now }
+    {
+        self.lost >= tries
     }
 
     pub fn is_in_conflict(&self) -> bool
@@ -114,6 +155,7 @@ impl Message {
     pub fn hear(&mut self, number: u64, reply: Reply)
         ensures { self.new ≡ back_with number reply self.old }
     {
+        self.lost = 0;
         if matches!(reply, Reply::Conflict { .. }) {
             self.conflicts = one_conflict_more(self.conflicts);
             self.progress = Progress::Met {
@@ -123,6 +165,14 @@ impl Message {
         } else {
             self.progress = Progress::Answered { number, reply };
         }
+    }
+
+    /// Nothing is heard of it under the number at which it went out: it is to be sent again.
+    pub fn lose(&mut self, tries: u32)
+        ensures { self.new ≡ lost_of tries self.old }
+    {
+        self.lost = one_lost_more(tries, self.lost);
+        self.progress = Progress::ToSend;
     }
 
     /// The round of its conflict was made: it is to be sent again.
@@ -142,4 +192,11 @@ fn one_conflict_more(conflicts: u32) -> u32
     } else {
         MOST_CONFLICTS
     }
+}
+
+/// One lost more, counted up to as many tries as there are.
+fn one_lost_more(tries: u32, lost: u32) -> u32
+    ensures { result ≡ one_lost_more tries lost }
+{
+    if lost < tries { lost + 1 } else { lost }
 }

@@ -22,6 +22,10 @@ pub record IsFirstWaiting {M : Type 0} (verdict : Verdict) (message : M) (waitin
 abbrev pub is_due_by : {M : Type 0} → ℕ → ℕ × Stray M → Bool
 is_due_by sent e = nat_le e.1.due sent
 
+-- The least of these rising numbers, from this one on.
+abbrev pub first_from : ℕ → List ℕ → Option ℕ
+first_from number numbers = find (nat_le number) numbers
+
 -- The bag once this stray was taken, if one was.
 abbrev pub without_stray : {M : Type 0} → Option (ℕ × Stray M) → List (ℕ × Stray M) → List (ℕ × Stray M)
 without_stray None bag = bag

@@ -1,10 +1,10 @@
-ghost use Rattle.std.specs.Prelude.{◌≡◌, ◌+◌, [], find, length, None, IfNone, IfSome, OnErr, OnOk};
+ghost use Rattle.std.specs.Prelude.{◌≡◌, ◌+◌, [], find, length, map, None, IfNone, IfSome, OnErr, OnOk};
 ghost use Rattle.std.specs.BTreeMap.{insert_entry, is_at};
 ghost use Rattle.std.specs.List.Sorted.{IsStrictlySortedBy};
 ghost use Rattle.std.specs.Map.{keys_of, lookup, remove_entry};
 ghost use Rattle.std.specs.Option.{option_map};
 ghost use Rattle.std.specs.Ordering.{nat_cmp};
-ghost use Rattle.pc_wire.specs.Outbox.{IsFirstWaiting, after_due, is_due_by};
+ghost use Rattle.pc_wire.specs.Outbox.{IsFirstWaiting, after_due, first_from, is_due_by};
 
 use crate::verdict::Verdict;
 use pc_base::NoMemory;
@@ -88,6 +88,14 @@ impl<M: Drop> Outbox<M> {
         Some((waiting.verdict, waiting.message))
     }
 
+    /// The least number, from this one on, of a message that is not yet delivered.
+    pub fn first_from(&self, number: u64) -> Option<u64>
+        ensures first { result ≡ first_from number (map (λ e. e.0) self.now.waiting) }
+        ensures in_order { IsStrictlySortedBy nat_cmp (keys_of self.now.waiting) }
+    {
+        first_from(&self.waiting, number)
+    }
+
     /// How many messages are not yet delivered.
     pub fn waiting(&self) -> usize
         ensures { result ≡ length self.now.waiting }
@@ -124,6 +132,19 @@ fn first_due<M>(bag: &BTreeMap<u64, Stray<M>>, sent: u64) -> Option<u64>
     for (number, stray) in bag {
         if stray.due <= sent {
             return Some(*number);
+        }
+    }
+    None
+}
+
+/// The least number of a message, from this one on.
+fn first_from<M>(waiting: &BTreeMap<u64, Waiting<M>>, number: u64) -> Option<u64>
+    ensures first { result ≡ first_from number (map (λ e. e.0) waiting.now.entries) }
+    ensures in_order { IsStrictlySortedBy nat_cmp (keys_of waiting.now.entries) }
+{
+    for (sent, _) in waiting {
+        if number <= *sent {
+            return Some(*sent);
         }
     }
     None

@@ -1,4 +1,4 @@
-pub mod Built
+pub mod Accepted
 pub mod Digits
 pub mod Learns
 pub mod Loop

@@ -1,5 +1,5 @@
 -- How many items the first session has, against the count of all statements.
-use Rattle.std.proofs.Common.{◌≡◌, ℕ, ◌+◌, ◌^◌, ◌≤◌, ◌<◌, ◌==◌, ◌&&◌, not, Bool, true, nat_le, Option, List, [], ◌∷◌, length, sum_by, arith}
+use Rattle.std.proofs.Common.{◌≡◌, ℕ, ◌+◌, ◌^◌, ◌≤◌, ◌<◌, ◌==◌, ◌&&◌, true, nat_le, Option, List, [], ◌∷◌, length, sum_by, arith}
 use Rattle.std.specs.List.{list_all}
 use Rattle.std.proofs.lemmas.Bool.{and_parts, leb-true}
 use Rattle.std.proofs.lemmas.List.Sums.{sum_by-cons}
@@ -29,12 +29,12 @@ first_counts (first ∷ others) =
     goal
 
 -- An opening that is within its limit fits 32 bits.
-pub opening_fits : (version : ℕ) (pipelining : Bool) (opening : ℕ) (sessions : List SessionWork) (recoverers : List RecovererWork) (turns : Option (List Turn)) → is_within_limits version pipelining opening sessions recoverers turns ≡ true → opening < 2 ^ 32
-opening_fits version pipelining opening sessions recoverers turns e =
-    let all_but_opening = and_parts (version == 1 && not pipelining && are_sessions sessions && are_others_within sessions recoverers turns && list_all (is_script_there (length sessions) turns) sessions) (nat_le opening (first_items sessions)) e in
-    let all_but_learns = and_parts (version == 1 && not pipelining && are_sessions sessions && are_others_within sessions recoverers turns) (list_all (is_script_there (length sessions) turns) sessions) all_but_opening.0 in
-    let all_but_turns = and_parts (version == 1 && not pipelining && are_sessions sessions) (are_others_within sessions recoverers turns) all_but_learns.0 in
-    let all_but_sessions = and_parts (version == 1 && not pipelining) (are_sessions sessions) all_but_turns.0 in
+pub opening_fits : (version : ℕ) (opening : ℕ) (sessions : List SessionWork) (recoverers : List RecovererWork) (turns : Option (List Turn)) → is_within_limits version opening sessions recoverers turns ≡ true → opening < 2 ^ 32
+opening_fits version opening sessions recoverers turns e =
+    let all_but_opening = and_parts (version == 1 && are_sessions sessions && are_others_within sessions recoverers turns && list_all (is_script_there (length sessions) turns) sessions) (nat_le opening (first_items sessions)) e in
+    let all_but_learns = and_parts (version == 1 && are_sessions sessions && are_others_within sessions recoverers turns) (list_all (is_script_there (length sessions) turns) sessions) all_but_opening.0 in
+    let all_but_turns = and_parts (version == 1 && are_sessions sessions) (are_others_within sessions recoverers turns) all_but_learns.0 in
+    let all_but_sessions = and_parts (version == 1) (are_sessions sessions) all_but_turns.0 in
     let counted = and_parts (nat_le 1 (length sessions) && nat_le (length sessions) MOST_SESSIONS) (nat_le (sum_by session_count sessions) MOST_STATEMENTS) all_but_sessions.1 in
     let few = leb-true (sum_by session_count sessions) MOST_STATEMENTS counted.1 in
     let within = leb-true opening (first_items sessions) all_but_opening.1 in

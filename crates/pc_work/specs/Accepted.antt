@@ -2,7 +2,7 @@
 use Rattle.std.specs.Prelude.{◌≡◌, ◌≤◌, ℕ, false, length, sum_by, IfSome, None, All, ⊤}
 use Rattle.pc_base.specs.declared.limits.TheConstants.{DEFAULT_TRIES, LEAST_ENTRIES, MOST_ENTRIES, MOST_RECOVERERS, MOST_RERUNS, MOST_SESSIONS, MOST_SPLITS, MOST_STATEMENTS}
 use Rattle.pc_base.specs.Rising.{AreRising}
-use Rattle.pc_work.specs.Built.{AreTurnsOf, IsItemOf}
+use Rattle.pc_work.specs.Named.{AreTurnsOf, IsItemOf}
 use Rattle.pc_work.specs.Count.{session_count}
 use Rattle.pc_work.specs.Recoverer.{IsRecovererWithin}
 use Rattle.pc_work.specs.Stop.{IsStop}
@@ -29,13 +29,11 @@ IsTransaction (Txn priority statements commits) = ⊤
 abbrev pub HasTransactions : SessionWork → Type 0
 HasTransactions session = All IsTransaction session.script
 
--- A workload that is read is without pipelining, its numbers, sessions, recoverers and turns are within their limits, and what it cannot state is at its
+-- Of a workload that is read the numbers, sessions, recoverers and turns are within their limits, and what it cannot state is at its
 -- default.
 pub record IsAccepted (work : Workload) : Type 0 where
   -- The version is the one that is known.
   pub version : work.version ≡ 1
-  -- No put goes on before its range has answered.
-  pub pipelining : work.pipelining ≡ false
   -- The splits rise strictly, in key order.
   pub splits : AreRising work.splits
   -- The splits are no more than their limit.

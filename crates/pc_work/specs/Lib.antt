@@ -1,7 +1,6 @@
 -- What bytes are as a workload, and how large a workload is.
 pub mod Accepted
 pub mod Amount
-pub mod Built
 pub mod Clock
 pub mod Count
 pub mod Ending
@@ -9,6 +8,7 @@ pub mod Item
 pub mod Learn
 pub mod Lists
 pub mod Members
+pub mod Named
 pub mod Number
 pub mod Priority
 pub mod Reading

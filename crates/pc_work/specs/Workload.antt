@@ -1,4 +1,4 @@
--- What bytes are as a workload, and where they are none. A workload is without pipelining; where it states no turns, its sessions and
+-- What bytes are as a workload, and where they are none. Where a workload states no turns, its sessions and
 -- recoverers run on threads, which learn nothing, and one of them that states no clock reads the one that is handed in.
 use Rattle.std.specs.Prelude.{ℕ, ◌==◌, Bool, true, false, ◌&&◌, not, List, [], ◌∷◌, length, sum_by, nat_le, Option, Some, None, is_some, IsSome, Result, Ok, Err, codes, option_and_then, IsUtf8, if◌then◌else◌}
 use Rattle.std.specs.List.{list_all}
@@ -59,18 +59,17 @@ is_item_there sessions turns (Txn priority statements commits) = true
 abbrev pub is_script_there : ℕ → Option (List Turn) → SessionWork → Bool
 is_script_there sessions turns session = list_all (is_item_there sessions turns) session.script
 
--- Version 1 without pipelining; sessions, recoverers, turns and an opening within their limits; and learns only where they may stand.
-abbrev pub is_within_limits : ℕ → Bool → ℕ → List SessionWork → List RecovererWork → Option (List Turn) → Bool
-is_within_limits version pipelining opening sessions recoverers turns =
-    version == 1 && not pipelining && are_sessions sessions && are_others_within sessions recoverers turns
+-- Version 1; sessions, recoverers, turns and an opening within their limits; and learns only where they may stand.
+abbrev pub is_within_limits : ℕ → ℕ → List SessionWork → List RecovererWork → Option (List Turn) → Bool
+is_within_limits version opening sessions recoverers turns =
+    version == 1 && are_sessions sessions && are_others_within sessions recoverers turns
     && list_all (is_script_there (length sessions) turns) sessions && nat_le opening (first_items sessions)
 
 -- The workload that a JSON value states: what is absent is at its default.
 unfoldable pub workload_of : Data → Option Workload
 workload_of value = if has_only workload_names value then (do
   version ← whole_in (codes "version") value
-  asked ← get (codes "pipelining") value
-  pipelining ← as_bool asked
+  pipelining ← member_or true as_bool (codes "pipelining") value
   splits ← member_or [] splits_of (codes "splits") value
   limit ← member_or DEFAULT_ENTRIES (whole_between LEAST_ENTRIES MOST_ENTRIES) (codes "limit") value
   reruns ← member_or DEFAULT_RERUNS (whole_up_to MOST_RERUNS) (codes "reruns") value
@@ -79,9 +78,9 @@ workload_of value = if has_only workload_names value then (do
   recoverers ← member_or [] (list_by recoverer_of) (codes "recoverers") value
   found ← get (codes "sessions") value
   sessions ← list_by session_of found
-  if is_within_limits version pipelining opening sessions recoverers turns then Some (record {
+  if is_within_limits version opening sessions recoverers turns then Some (record {
     version = 1;
-    pipelining = false;
+    pipelining = pipelining;
     splits = splits;
     limit = limit;
     tries = DEFAULT_TRIES;
@@ -100,22 +99,6 @@ pub record IsJson (bytes : List ℕ) : Type 0 where
 -- The workload that a JSON text states.
 abbrev pub accepted_in : List ℕ → Option Workload
 accepted_in bytes = option_and_then workload_of (read bytes)
-
--- The session states its clock.
-abbrev pub states_clock : SessionWork → Bool
-states_clock session = is_some session.clock
-
--- Turns and all clocks are stated, and the limit of entries is the default one: such a workload is run so far.
-abbrev pub has_built_form : Workload → Bool
-has_built_form work = work.limit == DEFAULT_ENTRIES && is_some work.turns && list_all states_clock work.sessions
-
--- The workload, where it is one that is run so far.
-abbrev pub when_built : Workload → Option Workload
-when_built work = if has_built_form work then Some work else None
-
--- The workload that a JSON text states, where it is one that is run so far.
-abbrev pub workload_in : List ℕ → Option Workload
-workload_in bytes = option_and_then when_built (accepted_in bytes)
 
 -- The fact holds, unless memory ran out.
 abbrev pub UnlessMemory : {X : Type 0} → Result X WorkFault → Type 0 → Type 0

@@ -1,15 +1,15 @@
-ghost use Rattle.std.specs.Prelude.{[], ◌≡◌, ◌↔◌, ◌⊎◌, ℕ, IsOk, IsSome, IsTrue, IfOk, IsErrOf, Some, length};
+ghost use Rattle.std.specs.Prelude.{[], true, ◌≡◌, ◌↔◌, ◌⊎◌, ℕ, IsOk, IsSome, IfOk, IsErrOf, Some, length};
 ghost use Rattle.std.specs.List.{list_all};
+ghost use Rattle.serde_json.specs.Find.{as_bool};
 ghost use Rattle.serde_json.specs.View.{view};
 ghost use Rattle.pc_base.specs.declared.limits.TheConstants.{MOST_RERUNS};
 ghost use Rattle.pc_work.specs.Reading.{Gives};
 ghost use Rattle.pc_work.specs.Accepted.{IsAccepted};
-ghost use Rattle.pc_work.specs.Built.{IsBuilt};
 ghost use Rattle.pc_work.specs.Lists.{list_by};
 ghost use Rattle.pc_work.specs.Members.{has_only, member_if, member_or, whole_between, whole_of, whole_up_to};
 ghost use Rattle.pc_work.specs.Recoverer.{recoverer_of};
 ghost use Rattle.pc_work.specs.Turn.{is_turn_there, turn_of};
-ghost use Rattle.pc_work.specs.Workload.{are_others_within, are_stated_turns, are_turns_within, is_script_there, is_within_limits, workload_names, first_items, are_sessions, workload_of, IsJson, workload_in, UnlessMemory, accepted_in, has_built_form, states_clock};
+ghost use Rattle.pc_work.specs.Workload.{are_others_within, are_stated_turns, are_turns_within, is_script_there, is_within_limits, workload_names, first_items, are_sessions, workload_of, IsJson, UnlessMemory, accepted_in};
 
 use crate::count::Counted;
 use crate::fault::{Misfit, WorkFault};
@@ -55,24 +55,8 @@ pub struct Workload {
 }
 
 impl Workload {
-    /// Reads a workload of the form that is run so far. One of another form has the number of a value that is none.
-    pub fn read(alloc: Global, bytes: &[u8]) -> Result<Workload, WorkFault>
-        ensures accepted { UnlessMemory result (IsOk result ↔ (IsJson bytes.now × IsSome (workload_in bytes.now))) }
-        ensures value { IfOk result (λ work. workload_in bytes.now ≡ Some work) }
-        ensures built { IfOk result IsBuilt }
-        ensures no_json { UnlessMemory result (IsErrOf result (WorkFault.Refused 1) ↔ ¬ (IsJson bytes.now)) }
-        ensures other_form { UnlessMemory result (IsErrOf result (WorkFault.Refused 10) ↔ (IsJson bytes.now × (workload_in bytes.now ≡ None))) }
-        ensures numbers { (number : ℕ) → result ≡ Err (WorkFault.Refused number) → (number ≡ 1) ⊎ (number ≡ 10) }
-    {
-        let work = Workload::read_accepted(alloc, bytes)?;
-        if !work.has_built_form() {
-            return Err(WorkFault::Refused { number: OTHER_FORM });
-        }
-        Ok(work)
-    }
-
     /// Reads a workload from JSON. Want of memory may come at any point, and says nothing of the bytes.
-    pub fn read_accepted(alloc: Global, bytes: &[u8]) -> Result<Workload, WorkFault>
+    pub fn read(alloc: Global, bytes: &[u8]) -> Result<Workload, WorkFault>
         // What is accepted, and its value.
         ensures accepted { UnlessMemory result (IsOk result ↔ (IsJson bytes.now × IsSome (accepted_in bytes.now))) }
         ensures value { IfOk result (λ work. accepted_in bytes.now ≡ Some work) }
@@ -94,23 +78,6 @@ impl Workload {
             Err(Misfit::NoMemory) => Err(WorkFault::NoMemory),
         }
     }
-
-    /// Whether it is of the form that is run so far: turns and all clocks are stated, and the limit of entries is the default one.
-    #[tactic(auto, using(crate::proofs::Built::passes))]
-    pub fn has_built_form(&self) -> bool
-        ensures value { result ≡ has_built_form self.now }
-        ensures form { IsAccepted self.now → IsTrue result → IsBuilt self.now }
-    {
-        self.limit == DEFAULT_ENTRIES
-            && self.turns.is_some()
-            && all_state_clocks(self.sessions.as_slice())
-    }
-}
-
-fn all_state_clocks(sessions: &[SessionWork]) -> bool
-    ensures { result ≡ list_all states_clock sessions.now }
-{
-    sessions.iter().all(|session| session.clock.is_some())
 }
 
 /// The workload that a value states.
@@ -122,7 +89,7 @@ fn workload_of(alloc: Global, json: &Json) -> Result<Workload, Misfit>
         return Err(Misfit::OtherForm);
     }
     let version = whole_member(json, "version")?;
-    let pipelining = flag(member(json, "pipelining")?)?;
+    let pipelining = pipelining_or_default(json, "pipelining")?;
     let splits = splits_or_none(alloc, json, "splits")?;
     let limit = limit_or_default(json, "limit")?;
     let reruns = reruns_or_default(json, "reruns")?;
@@ -130,12 +97,12 @@ fn workload_of(alloc: Global, json: &Json) -> Result<Workload, Misfit>
     let turns = turns_if(alloc, json, "turns")?;
     let recoverers = recoverers_or_none(alloc, json, "recoverers")?;
     let sessions: Sessions = list(alloc, member(json, "sessions")?)?;
-    if !is_within(version, pipelining, opening, &sessions, &recoverers, &turns) {
+    if !is_within(version, opening, &sessions, &recoverers, &turns) {
         return Err(Misfit::OtherForm);
     }
     Ok(Workload {
         version: 1,
-        pipelining: false,
+        pipelining,
         splits,
         limit,
         tries: DEFAULT_TRIES,
@@ -165,6 +132,16 @@ fn has_known_members(json: &Json) -> bool
             "sessions",
         ],
     )
+}
+
+/// Whether writes are pipelined, as they are by default.
+fn pipelining_or_default(json: &Json, name: &str) -> Result<bool, Misfit>
+    ensures { Gives result (member_or true as_bool name.now (view json.now)) }
+{
+    match json.get(name) {
+        Some(stated) => flag(stated),
+        None => Ok(true),
+    }
 }
 
 /// The most entries of one actor, by default as the limits say.
@@ -217,19 +194,17 @@ fn opening_or_default(json: &Json, name: &str) -> Result<u64, Misfit>
     }
 }
 
-/// Version 1 without pipelining; sessions, recoverers, turns and an opening within their limits; and learns only where they may stand.
+/// Version 1; sessions, recoverers, turns and an opening within their limits; and learns only where they may stand.
 fn is_within(
     version: u64,
-    pipelining: bool,
     opening: u64,
     sessions: &Sessions,
     recoverers: &Recoverers,
     turns: &Option<Turns>,
 ) -> bool
-    ensures { result ≡ is_within_limits version pipelining opening sessions.now recoverers.now turns.now }
+    ensures { result ≡ is_within_limits version opening sessions.now recoverers.now turns.now }
 {
     version == 1
-        && !pipelining
         && are_sessions(sessions)
         && are_others_within(sessions, recoverers, turns)
         && are_scripts_there(sessions, turns)

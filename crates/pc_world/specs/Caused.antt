@@ -1,4 +1,4 @@
--- When the entries so far let an event happen.
+-- When the entries so far let an event happen. Own profile: messages are heard late, in any order or never, and at most once.
 use Rattle.std.specs.Prelude.{◌≡◌, ℕ, List, Any, ⊤}
 use Rattle.pc_base.specs.declared.actor.ActorId.{ActorId}
 use Rattle.pc_base.specs.declared.actor.ActorId.TheVariants as actors

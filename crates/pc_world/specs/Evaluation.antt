@@ -1,4 +1,5 @@
 -- Evaluation: the reply to a request and the range's state after it, field by field.
+-- CockroachDB SIGMOD 2020, with record rows as in the ParallelCommits TLA+ specification; each request's own file says more.
 use Rattle.std.specs.Prelude.{List, ℕ}
 use Rattle.pc_base.specs.Bound.{ReadBound}
 use Rattle.pc_base.specs.declared.version.Version.{Version}

@@ -1,4 +1,5 @@
 -- What an actor knows: what it asked, sent, heard and was told, read from its own entries, each with the entry that it names.
+-- Own profile: what a transaction coordinator keeps in memory in CockroachDB SIGMOD 2020, said as a function of its list.
 use Rattle.std.specs.Prelude.{ℕ, ◌+◌, Bool, false, cond, Option, None, Some, List, [], ◌∷◌, length, fold, map}
 use Rattle.pc_base.specs.declared.transaction.Priority.{Priority}
 use Rattle.pc_base.specs.declared.transaction.Priority.TheVariants.{Normal}

@@ -42,6 +42,7 @@ ShowsWrite head history id (requests.Get other epoch seq ts key) (replies.Value 
 ShowsWrite head history id (requests.Scan other epoch seq ts span) (replies.Rows rows) = Any (λ row. Wrote head history id row.0 row.1) rows
 ShowsWrite head history id _ _ = ⊥
 
+-- What was heard, if anything, is a reply that has a value that the transaction committed.
 abbrev pub ShowsWriteHeard : Head → List (Entry Event) → TxnId → Option Heard → Type 0
 ShowsWriteHeard head history id None = ⊥
 ShowsWriteHeard head history id (Some h) = ShowsWrite head history id h.request h.reply

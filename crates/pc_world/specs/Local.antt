@@ -1,4 +1,4 @@
--- When an event may come next in its actor's own list.
+-- When an event may come next in its actor's own list. Own profile.
 use Rattle.std.specs.Prelude.{◌≡◌, ℕ, ◌≤◌, Bool, true, false, ◌==◌, not, Option, None, Some, List, length, IsTrue}
 use Rattle.std.specs.List.{list_any}
 use Rattle.pc_base.specs.declared.actor.ActorId.{ActorId}

@@ -1,4 +1,5 @@
 -- A map that transactions read and write one after another: what a serializable history must look like.
+-- The isolation is that of CockroachDB SIGMOD 2020; how it is stated is own profile.
 use Rattle.std.specs.Prelude.{◌≡◌, ℕ, Option, None, Some, List, [], ◌∷◌, filter, fold, ⊤}
 use Rattle.std.specs.BTreeMap.{insert_entry}
 use Rattle.std.specs.Cmp.Lexicographic.{slice_cmp}

@@ -1,4 +1,4 @@
--- What an actor may send, by what it knows.
+-- What an actor may send, by what it knows. CockroachDB SIGMOD 2020 and RFC 20180324; each request's own file under Send says which part.
 use Rattle.std.specs.Prelude.{◌≡◌, ℕ, ◌+◌, ◌≤◌, Some, List, All}
 use Rattle.pc_base.specs.declared.actor.ActorId.{ActorId}
 use Rattle.pc_base.specs.declared.actor.ActorId.TheVariants as actors

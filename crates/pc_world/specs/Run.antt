@@ -1,4 +1,4 @@
--- Runs of the protocol.
+-- Runs of the protocol. Own profile: a state at each range is CockroachDB SIGMOD 2020, one list of events is this project's.
 use Rattle.std.specs.Prelude.{ℕ, ◌+◌, ◌^◌, ◌≤◌, Bool, true, false, List, All}
 use Rattle.pc_base.specs.declared.entry.Entry.{Entry}
 use Rattle.pc_history.specs.History.{IsFine}

@@ -1,4 +1,4 @@
--- The writes of a transaction's present epoch, and how they were proved.
+-- The writes of a transaction's present epoch, and how they were proved. Write pipelining in CockroachDB SIGMOD 2020 and RFC 20180324.
 use Rattle.std.specs.Prelude.{ℕ, ◌≤◌, max, fold, Bool, true, ◌&&◌, ◌==◌, not, if◌then◌else◌, Option, None, Some, List, [], ◌∷◌, ◌++◌, map, Any, filter}
 use Rattle.std.specs.List.{list_any}
 use Rattle.pc_base.specs.declared.transaction.TxnId.{TxnId}

@@ -12,4 +12,4 @@ returns-in-Err-Full g c =
     let stop = c.in-Err-Full.ensures.stopped in
     let gives = subst (GivesBack c.args.ranges.now.limit c.deliver_rest.new.actor.part.id stop.refused.posted) c.in-Err-Full.field-0-is stop.gives in
     refused_at_end c.args.ranges.now.limit c.args.ranges.now.splits c.args.actor.now c.deliver_rest.new.actor c.args.rest c.requires.ready c.requires.may c.deliver_rest.ensures.same
-    c.have_back.new.actor c.in-Err-Full.last.known c.in-Err-Full.message stop.done stop.behind stop.refused stop.whole stop.evaluated stop.rises gives.1 gives.2 gives.3 c.have_back.ensures
+    c.have_back.new.actor c.in-Err-Full.last.known c.in-Err-Full.message stop.done stop.behind stop.refused stop.each stop.there stop.evaluated stop.rises gives.1 gives.2 gives.3 c.have_back.ensures

@@ -1,12 +1,12 @@
-use Rattle.std.proofs.Common.{rules, ◌≡◌, max, refl, sym, subst, ◌∙◌}
+use Rattle.std.proofs.Common.{rules, ◌≡◌, max, sym, subst, ◌∙◌}
 use Rattle.std.proofs.lemmas.Result.{err_from_is_err_and}
 use Rattle.pc_exchange.proofs.Ending.{goes_breaks}
-use Rattle.pc_exchange.proofs.Finishing.{finishing_asks, finishing_begins, finishing_ends}
+use Rattle.pc_exchange.proofs.Finishing.{finishing_asks, finishing_ends}
 use Rattle.pc_exchange.specs.Finishing.{IsJobUnderWay}
 use Rattle.pc_exchange.proofs.finish.finish_job.Goals as goal
 
 pub loop-init : goal.loop-init
-loop-init g c = (finishing_begins c.args.desk.now c.args.job c.new-machine.result c.requires c.new-machine.ensures.made c.new-machine.ensures.knows, refl)
+loop-init g c = (c.in_ok-begun.ensures.ok.1.on c.new-machine.result c.new-machine.ensures.made c.new-machine.ensures.knows, c.in_ok-begun.ensures.clock)
 
 pub settle_on-requires : goal.settle_on-requires
 settle_on-requires g c =
@@ -25,5 +25,5 @@ loop-preserved g c =
 
 pub returns-in_err-last-in-Send-clause-ended : goal.returns-in_err-last-in-Send-clause-ended
 returns-in_err-last-in-Send-clause-ended g c =
-    let p = err_from_is_err_and c.from_residual.result c.from_residual.ensures.1 in
+    let p = err_from_is_err_and c.from_residual-in_err-last-in-Send.result c.from_residual-in_err-last-in-Send.ensures.1 in
     rw (p.1, p.2) (goes_breaks c.args.desk.now c.loop.desk c.settle_on.new.desk c.loop.invariant.0.part c.in_err-last-in-Send.field-0.0 c.loop.invariant.0.goes c.in_err-last-in-Send.ensures.ended)

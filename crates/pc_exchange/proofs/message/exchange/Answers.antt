@@ -1,5 +1,6 @@
 use Rattle.std.proofs.Common.{◌≡◌, ℕ, [], IfNone, IfSome, subst, ◌∙◌}
 use Rattle.std.proofs.lemmas.Result.{err_from_is_err_and}
+use Rattle.pc_desk.proofs.InCall.{one_in_call}
 use Rattle.pc_desk.specs.Desk.{HasHeardFirst}
 use Rattle.pc_exchange.proofs.Ending.{only_breaks, sends_within}
 use Rattle.pc_exchange.proofs.Exchanging.{ends_delivered, ends_sent, has_reply, may_hear_it, was_exchanged}
@@ -14,6 +15,9 @@ send-requires-clause-none_waits g c = c.requires.back.replies
 
 pub deliver-requires-clause-none_waits : goal.deliver-requires-clause-none_waits
 deliver-requires-clause-none_waits g c = c.in_ok-send.ensures.ok.replies ∙ c.requires.back.replies
+
+pub deliver-requires-clause-in_call : goal.deliver-requires-clause-in_call
+deliver-requires-clause-in_call g c = one_in_call c.args.desk.now c.send.new.self _ c.args.request c.in_ok-send.ensures.ok c.requires.back.track c.requires.back.posted c.requires.back.replies c.requires.no_put
 
 pub hear-requires-clause-none_waits : goal.hear-requires-clause-none_waits
 hear-requires-clause-none_waits g c = c.in_ok-deliver.ensures.all

@@ -7,7 +7,7 @@ use Rattle.pc_proto.specs.declared.fate.Goal.TheVariants as goals
 use Rattle.pc_proto.specs.declared.request.Request.TheVariants as requests
 use Rattle.pc_recoverer.proofs.Breaking.{breaks_weaker}
 use Rattle.pc_recoverer.proofs.Dealing.{dealt_alone, dealt_recovered, dealt_settled, may_push, may_recover, may_settle, push_ends_early, recovered_ends_early, recovery_ends_early, settling_ends_early}
-use Rattle.pc_recoverer.proofs.Traffic.{if_err, is_recoverer, on_ok}
+use Rattle.pc_recoverer.proofs.Traffic.{if_err, recoverer_in_round, on_ok}
 use Rattle.pc_recoverer.specs.Broken.{AreFrontOf, AreFrontOfOne, BreaksOffIn}
 use Rattle.pc_recoverer.specs.Exchanges.{requests_of}
 use Rattle.pc_recoverer.specs.InRound.{HasDealtWith, HasSettled}
@@ -19,7 +19,7 @@ pub exchange-requires-clause-back : goal.exchange-requires-clause-back
 exchange-requires-clause-back g c = c.requires.in_round.back
 
 pub exchange-requires-clause-client : goal.exchange-requires-clause-client
-exchange-requires-clause-client g c = is_recoverer c.args.maker c.args.desk.now c.requires.in_round
+exchange-requires-clause-client g c = recoverer_in_round c.args.maker c.args.desk.now c.requires.in_round
 
 pub exchange-requires-clause-may : goal.exchange-requires-clause-may
 exchange-requires-clause-may g c =

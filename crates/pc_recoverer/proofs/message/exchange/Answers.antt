@@ -1,4 +1,6 @@
+use Rattle.std.proofs.Common.{is_some, ap, ◌∙◌}
 use Rattle.std.proofs.lemmas.Result.{IfOk-weaker, err_from_is_err_and}
+use Rattle.pc_desk.proofs.InCall.{statement_sent}
 use Rattle.pc_recoverer.proofs.Breaking.{breaks_weaker_if}
 use Rattle.pc_recoverer.proofs.Exchanging.{ends_unsent}
 use Rattle.pc_recoverer.proofs.Fronts.{front_of_one}
@@ -6,7 +8,7 @@ use Rattle.pc_recoverer.specs.Broken.{AreFrontOfOne, AreFrontOfOneTo}
 use Rattle.pc_recoverer.proofs.message.exchange.Goals as goal
 
 pub hear_reply-requires : goal.hear_reply-requires
-hear_reply-requires g c = record { before = c.args.desk.now; back = c.requires.back; client = c.requires.client; request = c.args.request; number = _; sent = c.in_ok-send.ensures.ok }
+hear_reply-requires g c = record { before = c.args.desk.now; back = c.requires.back; client = c.requires.client.whose; request = c.args.request; number = _; sent = c.in_ok-send.ensures.ok; opened = ap is_some (statement_sent c.args.desk.now c.send.new.self _ c.args.request c.in_ok-send.ensures.ok) ∙ c.requires.client.opened }
 
 pub returns-clause-ok : goal.returns-clause-ok
 returns-clause-ok g c = IfOk-weaker c.hear_reply.result _ _ (λ reply was. was.exchanged) (c.hear_reply.ensures.ok c.args.desk.now c.args.request _ c.in_ok-send.ensures.ok c.requires.back)

@@ -1,5 +1,6 @@
 use Rattle.std.proofs.Common.{◌≡◌, [], IfNone, IfSome, subst, ◌∙◌}
 use Rattle.std.proofs.lemmas.Result.{err_from_is_err_and}
+use Rattle.pc_desk.proofs.InCall.{open_in_call}
 use Rattle.pc_desk.specs.Desk.{HasHeardFirst}
 use Rattle.pc_recoverer.proofs.Exchanging.{ends_delivered, ends_sent, has_reply, may_hear_it, was_exchanged}
 use Rattle.pc_recoverer.proofs.message.hear_reply.Goals as goal
@@ -11,6 +12,9 @@ hear-requires-clause-may g c =
 
 pub deliver-requires-clause-none_waits : goal.deliver-requires-clause-none_waits
 deliver-requires-clause-none_waits g c = c.requires.sent.replies ∙ c.requires.back.replies
+
+pub deliver-requires-clause-in_call : goal.deliver-requires-clause-in_call
+deliver-requires-clause-in_call g c = open_in_call c.args.desk.now c.requires.opened
 
 pub hear-requires-clause-none_waits : goal.hear-requires-clause-none_waits
 hear-requires-clause-none_waits g c = c.in_ok-deliver.ensures.all

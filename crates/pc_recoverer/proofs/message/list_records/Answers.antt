@@ -1,5 +1,6 @@
-use Rattle.std.proofs.Common.{subst}
+use Rattle.std.proofs.Common.{is_some, ap, subst, ◌∙◌}
 use Rattle.std.proofs.lemmas.Result.{err_from_is_err_and}
+use Rattle.pc_desk.proofs.InCall.{statement_sent}
 use Rattle.pc_proto.specs.declared.reply.Reply.TheVariants as replies
 use Rattle.pc_proto.specs.declared.request.Request.TheVariants as requests
 use Rattle.pc_recoverer.proofs.Exchanging.{ends_at, ends_unsent_to, listing_answers}
@@ -7,7 +8,7 @@ use Rattle.pc_recoverer.specs.InRound.{WasExchangedWith}
 use Rattle.pc_recoverer.proofs.message.list_records.Goals as goal
 
 pub hear_reply-requires : goal.hear_reply-requires
-hear_reply-requires g c = record { before = c.args.desk.now; back = c.requires.back; client = c.requires.client; request = requests.Records; number = _; sent = c.in_ok-send_to.ensures.ok.sent }
+hear_reply-requires g c = record { before = c.args.desk.now; back = c.requires.back; client = c.requires.client.whose; request = requests.Records; number = _; sent = c.in_ok-send_to.ensures.ok.sent; opened = ap is_some (statement_sent c.args.desk.now c.send_to.new.self _ requests.Records c.in_ok-send_to.ensures.ok.sent) ∙ c.requires.client.opened }
 
 pub unreachable-requires : goal.unreachable-requires
 unreachable-requires g c =

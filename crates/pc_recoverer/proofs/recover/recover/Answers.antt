@@ -4,7 +4,7 @@ use Rattle.pc_recover.specs.Recovering.{IsRecoveryOf}
 use Rattle.pc_proto.specs.declared.reply.Reply.TheVariants as replies
 use Rattle.pc_recoverer.proofs.Breaking.{traffic_breaks}
 use Rattle.pc_recoverer.proofs.Recovering.{is_staging, recovering_asks, recovering_begins, recovering_breaks, recovering_ends}
-use Rattle.pc_recoverer.proofs.Traffic.{is_recoverer}
+use Rattle.pc_recoverer.proofs.Traffic.{recoverer_in_round}
 use Rattle.pc_recoverer.specs.Broken.{AreFrontOf, AreFrontOfOne}
 use Rattle.pc_recoverer.specs.Round.{FollowsPush}
 use Rattle.pc_recoverer.specs.Recovered.{name_of}
@@ -23,7 +23,7 @@ recover_on-requires-clause-back g c = c.loop.invariant.0.made.goes.back
 
 pub recover_on-requires-clause-client : goal.recover_on-requires-clause-client
 recover_on-requires-clause-client g c =
-    let f = c.loop.invariant.0 in is_recoverer c.args.maker c.loop.desk (f.made.stays c.args.maker f.start.in_round)
+    let f = c.loop.invariant.0 in recoverer_in_round c.args.maker c.loop.desk (f.made.stays c.args.maker f.start.in_round)
 
 pub recover_on-requires-clause-may : goal.recover_on-requires-clause-may
 recover_on-requires-clause-may g c =

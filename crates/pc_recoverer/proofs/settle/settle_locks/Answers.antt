@@ -2,7 +2,7 @@ use Rattle.std.proofs.Common.{◌≡◌, refl, sym, ◌∙◌}
 use Rattle.std.proofs.lemmas.Result.{err_from_is_err_and}
 use Rattle.pc_recoverer.proofs.Breaking.{traffic_breaks}
 use Rattle.pc_recoverer.proofs.Settling.{settling_asks, settling_begins, settling_breaks, settling_ends}
-use Rattle.pc_recoverer.proofs.Traffic.{is_recoverer}
+use Rattle.pc_recoverer.proofs.Traffic.{recoverer_in_round}
 use Rattle.pc_recoverer.specs.Broken.{AreFrontOf, AreFrontOfOne}
 use Rattle.pc_recoverer.specs.Exchanges.{requests_of}
 use Rattle.pc_recoverer.specs.Settled.{settling_with}
@@ -17,7 +17,7 @@ settle_on-requires-clause-back g c = c.loop.invariant.0.made.goes.back
 
 pub settle_on-requires-clause-client : goal.settle_on-requires-clause-client
 settle_on-requires-clause-client g c =
-    let f = c.loop.invariant.0 in is_recoverer f.start.maker c.loop.desk (f.made.stays f.start.maker f.start.making)
+    let f = c.loop.invariant.0 in recoverer_in_round f.start.maker c.loop.desk (f.made.stays f.start.maker f.start.making)
 
 pub settle_on-requires-clause-may : goal.settle_on-requires-clause-may
 settle_on-requires-clause-may g c =

@@ -3,7 +3,7 @@ use Rattle.std.proofs.lemmas.Result.{err_from_is_err_and}
 use Rattle.pc_recoverer.proofs.Breaking.{breaks_weaker}
 use Rattle.pc_proto.specs.declared.reply.Reply.TheVariants as replies
 use Rattle.pc_proto.specs.declared.request.Request.TheVariants as requests
-use Rattle.pc_recoverer.proofs.Traffic.{if_err, is_recoverer, on_ok}
+use Rattle.pc_recoverer.proofs.Traffic.{if_err, recoverer_in_round, on_ok}
 use Rattle.pc_recoverer.proofs.Visiting.{has_visited, listing_ends_early, may_list, may_push_listed, visit_ends_early}
 use Rattle.pc_recoverer.specs.Broken.{AreFrontOf, BreaksOffIn, IsOneMessageTo}
 use Rattle.pc_recoverer.specs.InRound.{HasDealtWithEach, HasVisited, MayPushEach}
@@ -14,7 +14,7 @@ pub list_records-requires-clause-back : goal.list_records-requires-clause-back
 list_records-requires-clause-back g c = c.requires.round.back
 
 pub list_records-requires-clause-client : goal.list_records-requires-clause-client
-list_records-requires-clause-client g c = is_recoverer c.args.maker c.args.desk.now c.requires.round
+list_records-requires-clause-client g c = recoverer_in_round c.args.maker c.args.desk.now c.requires.round
 
 pub list_records-requires-clause-may : goal.list_records-requires-clause-may
 list_records-requires-clause-may g c = may_list c.args.maker c.args.desk.now c.args.range c.requires.round c.requires.there

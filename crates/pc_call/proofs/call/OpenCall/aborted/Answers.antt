@@ -1,12 +1,11 @@
-use Rattle.std.proofs.Common.{refl, sym, subst}
-use Rattle.pc_call.proofs.Decided.{aborted_over}
+use Rattle.std.proofs.Common.{sym, subst}
+use Rattle.pc_call.proofs.FoundEnds.{found_aborted_call}
 use Rattle.pc_call.specs.Finished.{MayTellOver}
 use Rattle.pc_call.specs.Learned.{known_heard}
 use Rattle.pc_proto.specs.declared.answer.Answer.TheVariants as answers
-use Rattle.pc_proto.specs.declared.view.View.TheVariants as views
 use Rattle.pc_call.proofs.call.OpenCall.aborted.Goals as goal
 
 pub returns-clause-over : goal.returns-clause-over
-returns-clause-over c = λ session clock begun number n epoch splits k locks h counted w commits waited is.
-    subst (λ left. MayTellOver splits session (known_heard h k) (record { answer = answers.Aborted c.args.why; left = left })) (sym c.left_of.ensures)
-    (aborted_over session clock begun splits k c.args.txn c.args.self.purpose c.args.self.wave counted w number (views.Aborted epoch c.args.why locks) h waited is n commits epoch c.args.why locks refl)
+returns-clause-over c = λ session clock begun number epoch set k locks h counted w may waited is.
+    subst (λ left. MayTellOver set session (known_heard h k) (record { answer = answers.Aborted c.args.why; left = left })) (sym c.left_of.ensures)
+    (found_aborted_call session clock begun set k c.args.txn c.args.self.purpose c.args.self.wave counted w may number epoch c.args.why locks h waited is)

@@ -7,8 +7,8 @@ use Rattle.pc_wave.specs.Messages.{message_to_send}
 use Rattle.pc_call.proofs.call.OpenCall.beat.Goals as goal
 
 pub returns-clause-stands : goal.returns-clause-stands
-returns-clause-stands c = λ splits k why asked asks suits silent anchored.
+returns-clause-stands c = λ set k later why o asked asks suits silent anchored.
     let x = c.args.txn.now in
     let e : c.in_ok-wave.wave ≡ message_to_send (own_beat x c.args.reading c.args.anchor.now) ∷ [] = c.in_ok-wave.ensures ∙ ap (λ r. message_to_send r ∷ []) c.in_ok-beat.ensures in
-    subst (λ now. InCall splits k x (purposes.Beat c.args.call c.args.reading) now) (sym e)
-    (beat_begins k x c.args.call c.args.reading why asked splits c.args.anchor.now asks suits silent anchored)
+    subst (λ now. InCall set k x (purposes.Beat c.args.call c.args.reading) now) (sym e)
+    (beat_begins k x c.args.call c.args.reading why asked set c.args.anchor.now later o asks suits silent anchored)

@@ -1,6 +1,5 @@
-use Rattle.pc_call.proofs.Blocking.{lost_in_round}
+use Rattle.pc_call.proofs.Faults.{unavailable_told}
 use Rattle.pc_call.proofs.call.OpenCall.unavailable.Goals as goal
 
 pub returns-clause-told : goal.returns-clause-told
-returns-clause-told c = λ session clock begun number splits start k x conflict counted w due beside lost.
-    lost_in_round session clock begun splits start x c.args.self.purpose c.args.self.wave counted w k number conflict due beside c.args.faults lost
+returns-clause-told c = λ session set start k x loses may beside over lost. unavailable_told session set start x may k beside over loses c.args.faults lost

@@ -1,28 +1,14 @@
-use Rattle.std.proofs.Common.{◌≡◌, IfOk, ap, refl, sym, ◌∙◌, subst}
-use Rattle.pc_call.proofs.Hearing.{call_written}
-use Rattle.pc_call.proofs.Landing.{again_is, again_ok, landed_again, landed_told}
-use Rattle.pc_call.specs.Ended.{landed_first, laying_first}
+use Rattle.std.proofs.Common.{ap, sym, ◌∙◌, subst}
+use Rattle.pc_call.proofs.Landing.{write_landed}
+use Rattle.pc_call.specs.Ended.{landed_first}
 use Rattle.pc_call.specs.Learned.{known_heard}
 use Rattle.pc_call.specs.Telling.{MayTellOpen}
 use Rattle.pc_proto.specs.declared.answer.Answer.TheVariants as answers
-use Rattle.pc_proto.specs.declared.reply.Reply.TheVariants as replies
 use Rattle.pc_call.proofs.call.OpenCall.written.Goals as goal
 
-pub returns-then-is_again-clause-stands : goal.returns-then-is_again-clause-stands
-returns-then-is_again-clause-stands c = λ session clock begun number splits k again h counted w writes waited is at.
-    let x = c.args.txn.now in
-    let ms = c.args.self.wave in
-    let l = call_written session clock begun splits k x c.args.self.purpose ms counted w number (replies.Written c.args.ts) h waited is again c.args.ts writes refl in
-    let same : c.messages-messages.result.now ≡ ms = c.messages-messages.ensures in
-    again_ok splits session (known_heard h k) (landed_first ms c.args.ts h.step x) _ ms c.own_write.result
-    (c.land_first.ensures ∙ ap (λ ms. landed_first ms c.args.ts c.args.step x) same ∙ ap (λ step. landed_first ms c.args.ts step x) (sym at))
-    (subst (λ ms. IfOk c.own_write.result (λ next. next ≡ laying_first ms c.land_first.new.txn)) same c.own_write.ensures)
-    (landed_again splits session ms again (known_heard h k) (landed_first ms c.args.ts h.step x) l (again_is c.args.self.purpose again _ writes (sym c.is_again.ensures ∙ c.if-is_again.true)))
-
 pub returns-clause-stands : goal.returns-clause-stands
-returns-clause-stands c = λ session clock begun number splits k again h counted w writes waited is at.
+returns-clause-stands c = λ session clock begun number set k h counted alone w writes waited is above at.
     let x = c.args.txn.now in
     let ms = c.args.self.wave in
-    let l = call_written session clock begun splits k x c.args.self.purpose ms counted w number (replies.Written c.args.ts) h waited is again c.args.ts writes refl in
-    subst (MayTellOpen splits session (known_heard h k) answers.Written) (sym (c.land_first.ensures ∙ ap (λ ms. landed_first ms c.args.ts c.args.step x) c.messages-messages.ensures ∙ ap (λ step. landed_first ms c.args.ts step x) (sym at)))
-    (landed_told splits session ms again (known_heard h k) (landed_first ms c.args.ts h.step x) l (again_is c.args.self.purpose again _ writes (sym c.is_again.ensures ∙ c.if-is_again.false)))
+    subst (MayTellOpen set session (known_heard h k) answers.Written) (sym (c.land_first.ensures ∙ ap (λ ms. landed_first ms c.args.ts c.args.step x) c.messages.ensures ∙ ap (λ step. landed_first ms c.args.ts step x) (sym at)))
+    (write_landed session clock begun set k x c.args.self.purpose ms counted w number c.args.ts h waited is writes alone above)

@@ -1,23 +1,13 @@
-use Rattle.std.proofs.Common.{◌≡◌, false, ◌∙◌}
-use Rattle.pc_call.specs.Serving.{InCall}
-use Rattle.pc_coord.proofs.Coming.{fresh_comes}
-use Rattle.pc_coord.proofs.Steps.{on_ok}
-use Rattle.pc_coord.specs.Coming.{ComesOf}
-use Rattle.pc_coord.specs.Coordination.{awaits_number}
-use Rattle.pc_wave.specs.Messages.{wave_awaits}
-use Rattle.pc_coord.proofs.Fresh.{unsent_idle, unsent_many}
+use Rattle.std.proofs.Common.{sym, subst, []}
+use Rattle.pc_call.proofs.Deciding.{commits_fresh}
+use Rattle.pc_call.specs.Stages.{CommitsOnFrom}
 use Rattle.pc_coord.proofs.coordinator.Coordinator.commit_written.Goals as goal
 
 pub returns-clause-knows : goal.returns-clause-knows
-returns-clause-knows c = λ k s why anchor r fresh is none anchored.
-    let w : InCall c.args.self.now.splits k c.args.txn c.in_ok-call.call.purpose c.in_ok-call.call.wave = c.in_ok-call.ensures.begins c.args.self.now.splits k s why anchor fresh is c.new.ensures.made anchored none in
-    c.go_on.ensures.knows k r w (unsent_many c.args.self.now.splits k c.args.txn c.in_ok-call.call.purpose c.in_ok-call.call.wave w c.in_ok-call.ensures.unsent)
+returns-clause-knows c = λ loses k s why anchor r fresh h is suits anchored.
+    c.commit_on.ensures.knows loses k fresh.t s r
+    (subst (λ n. CommitsOnFrom loses fresh.t.read_ts n k fresh.t c.args.txn s []) (sym c.new.ensures.made) (commits_fresh loses k c.args.txn s why fresh anchor is anchored))
+    h r.course.may_wait suits
 
-pub returns-clause-waits : goal.returns-clause-waits
-returns-clause-waits c = λ other.
-    on_ok c.go_on.result (awaits_number other c.go_on.new.self.due ≡ wave_awaits other c.in_ok-call.call.wave) (awaits_number other c.go_on.new.self.due ≡ false) (λ e. e ∙ unsent_idle other c.in_ok-call.call.wave c.in_ok-call.ensures.unsent) (c.go_on.ensures.waits other)
-
-pub returns-clause-comes : goal.returns-clause-comes
-returns-clause-comes c = λ messages none.
-    on_ok c.go_on.result (ComesOf c.in_ok-call.call.wave c.go_on.new.self.due) (ComesOf messages c.go_on.new.self.due)
-    (λ comes. fresh_comes messages c.in_ok-call.call.wave c.go_on.new.self.due c.in_ok-call.ensures.unsent none comes) c.go_on.ensures.comes
+pub returns-clause-left : goal.returns-clause-left
+returns-clause-left c = c.commit_on.ensures.left

@@ -1,23 +1,32 @@
-use Rattle.std.proofs.Common.{◌≡◌, false, ◌∙◌}
-use Rattle.pc_call.specs.Serving.{InCall}
-use Rattle.pc_coord.proofs.Coming.{fresh_comes}
+use Rattle.std.proofs.Common.{[], None, sym, ap, subst}
+use Rattle.pc_call.specs.declared.call.OpenCall.{OpenCall}
+use Rattle.pc_call.specs.Suiting.{SuitsFlightIn}
+use Rattle.pc_proto.specs.declared.call.Call.{Call}
+use Rattle.pc_coord.proofs.Begins.{write_aside}
+use Rattle.pc_coord.proofs.Coming.{fresh_comes, to_send_go}
+use Rattle.pc_coord.proofs.Fresh.{laid_unsent, unsent_idle, unsent_many}
 use Rattle.pc_coord.proofs.Steps.{on_ok}
-use Rattle.pc_coord.specs.Coming.{ComesOf}
-use Rattle.pc_coord.specs.Coordination.{awaits_number}
-use Rattle.pc_wave.specs.Messages.{wave_awaits}
-use Rattle.pc_coord.proofs.Fresh.{unsent_idle, unsent_many}
+use Rattle.pc_coord.proofs.Tying.{on_outbox}
+use Rattle.pc_coord.specs.Coming.{ComesOf, goes_by_sequence}
+use Rattle.pc_coord.specs.Coordination.{setting_of}
 use Rattle.pc_coord.proofs.coordinator.Coordinator.write.Goals as goal
 
 pub returns-clause-knows : goal.returns-clause-knows
-returns-clause-knows c = λ k s why r fresh is suits.
-    let w : InCall c.args.self.now.splits k c.args.txn c.in_ok-put.put.purpose c.in_ok-put.put.wave = c.in_ok-put.ensures.stands c.args.self.now.splits k s why fresh is suits in
-    c.go_on.ensures.knows k r w (unsent_many c.args.self.now.splits k c.args.txn c.in_ok-put.put.purpose c.in_ok-put.put.wave w c.in_ok-put.ensures.unsent)
+returns-clause-knows c = λ loses k s why r fresh h is none suits.
+    let self = c.args.self.now in
+    let set = setting_of loses self in
+    let x = c.args.txn in
+    let made = c.in_ok-put.put in
+    let w = c.in_ok-put.ensures.stands set k self.later s why fresh h.outbox (subst (λ (call : Call). SuitsFlightIn self.pipelining call x.in_flight) (sym is) suits) is none in
+    c.go_on.ensures.knows loses k r w (write_aside self.pipelining k x self.later h [] None fresh.t fresh.stands s c.args.key.now c.args.value.now fresh.opened is none made c.in_ok-put.ensures.made) (unsent_many set k x made.purpose made.wave w (laid_unsent c.args.txn c.args.key.now c.args.value.now c.in_ok-put.put c.in_ok-put.ensures.made))
 
 pub returns-clause-waits : goal.returns-clause-waits
-returns-clause-waits c = λ other.
-    on_ok c.go_on.result (awaits_number other c.go_on.new.self.due ≡ wave_awaits other c.in_ok-put.put.wave) (awaits_number other c.go_on.new.self.due ≡ false) (λ e. e ∙ unsent_idle other c.in_ok-put.put.wave c.in_ok-put.ensures.unsent) (c.go_on.ensures.waits other)
+returns-clause-waits c = on_outbox c.go_on.result c.in_ok-put.put.wave c.args.self.now.later c.go_on.new.self.due (λ n. unsent_idle n c.in_ok-put.put.wave (laid_unsent c.args.txn c.args.key.now c.args.value.now c.in_ok-put.put c.in_ok-put.ensures.made)) c.go_on.ensures.waits
 
 pub returns-clause-comes : goal.returns-clause-comes
 returns-clause-comes c = λ messages none.
     on_ok c.go_on.result (ComesOf c.in_ok-put.put.wave c.go_on.new.self.due) (ComesOf messages c.go_on.new.self.due)
-    (λ comes. fresh_comes messages c.in_ok-put.put.wave c.go_on.new.self.due c.in_ok-put.ensures.unsent none comes) c.go_on.ensures.comes
+    (λ comes. fresh_comes messages c.in_ok-put.put.wave c.go_on.new.self.due (to_send_go c.in_ok-put.put.wave (laid_unsent c.args.txn c.args.key.now c.args.value.now c.in_ok-put.put c.in_ok-put.ensures.made)) none comes) (c.go_on.ensures.comes (ap (λ (call : OpenCall). goes_by_sequence call.purpose) c.in_ok-put.ensures.made))
+
+pub returns-clause-left : goal.returns-clause-left
+returns-clause-left c = c.go_on.ensures.left

@@ -1,39 +1,57 @@
-use Rattle.std.proofs.Common.{◌≡◌, false, not, ◌&&◌, ◌==◌, sym, ◌∙◌, subst, ap}
+use Rattle.std.proofs.Common.{sym, ◌∙◌, subst, ap}
 use Rattle.pc_call.specs.Opening.{GoesOn}
-use Rattle.pc_coord.proofs.Onward.{write_kind, write_waits}
-use Rattle.pc_coord.proofs.Steps.{on_ok}
-use Rattle.pc_coord.proofs.Tying.{put_met, written_reply}
-use Rattle.pc_coord.specs.Coordination.{awaits_number}
-use Rattle.pc_coord.specs.Going.{HearsNow}
-use Rattle.pc_wave.specs.Messages.{wave_awaits}
 use Rattle.pc_coord.proofs.Coming.{written_none}
+use Rattle.pc_coord.proofs.Ending.{alone_idle}
+use Rattle.pc_coord.proofs.Onward.{alone, write_kind}
+use Rattle.pc_coord.proofs.Tying.{on_by, put_met, written_reply}
+use Rattle.pc_coord.specs.Coming.{goes_by_sequence}
+use Rattle.pc_coord.specs.Coordination.{setting_of}
+use Rattle.pc_coord.specs.Going.{HearsNow}
+use Rattle.pc_call.specs.declared.purpose.Purpose.TheVariants as purposes
 use Rattle.pc_proto.specs.Replies.{is_conflict}
 use Rattle.pc_wave.specs.Messages.{awaits_at, back_with, first_changed}
+use Rattle.pc_coord.proofs.Joining.{joins_ok}
 use Rattle.pc_coord.proofs.coordinator.Coordinator.write_heard.Goals as goal
 
 pub returns-in-Some-clause-knows : goal.returns-in-Some-clause-knows
-returns-in-Some-clause-knows c = λ k heard again is writes at.
+returns-in-Some-clause-knows c = λ loses k h is writes at.
     let same = written_reply c.args.reply.now c.in-Some.ts (sym c.written_at-written.ensures ∙ c.in-Some.is) in
-    c.written.ensures.knows k heard c.args.number again (subst (λ r. HearsNow c.args.self.now c.args.call c.args.txn c.args.number r k heard) same is) writes at
+    c.written.ensures.knows loses k h c.args.number (subst (λ r. HearsNow loses c.args.self.now c.args.call c.args.txn c.args.number r k h) same is) writes at
 
 pub returns-in-Some-clause-waits : goal.returns-in-Some-clause-waits
-returns-in-Some-clause-waits c = λ k other again w writes waits.
-    on_ok c.written.result (awaits_number other c.written.new.self.due ≡ false) (awaits_number other c.written.new.self.due ≡ (wave_awaits other c.args.call.wave && not (c.args.number == other)))
-    (λ e. e ∙ write_waits c.args.number other c.args.self.now.splits k c.args.txn c.args.call.purpose c.args.call.wave w again writes waits) (c.written.ensures.waits other)
+returns-in-Some-clause-waits c = λ loses k h is writes.
+    let s = c.args.self.now in
+    let m = alone (setting_of loses s) k c.args.txn c.args.call.purpose c.args.call.wave is.in_call purposes.Write writes tt in
+    on_by c.written.result (first_changed (awaits_at c.args.number) (back_with c.args.number c.args.reply.now) c.args.call.wave) s.later c.written.new.self.due
+    (alone_idle loses s c.args.call c.args.txn c.args.number c.args.reply.now k h is m.0 m.1) c.written.ensures.waits
 
 pub returns-in-None-clause-knows : goal.returns-in-None-clause-knows
-returns-in-None-clause-knows c = λ k heard again is writes at.
+returns-in-None-clause-knows c = λ loses k h is writes at.
     let none = sym c.written_at-written.ensures ∙ c.in-None.is in
-    c.come_back.ensures.knows k heard is (subst (λ p. GoesOn p c.args.reply.now) (sym writes) (put_met c.args.txn.id c.args.reply.now (write_kind c.args.self.now c.args.call c.args.txn c.args.number c.args.reply.now k heard is again writes) none))
+    c.come_back.ensures.knows loses k h is (subst (λ p. GoesOn p c.args.reply.now) (sym writes) (put_met c.args.txn.id c.args.reply.now (write_kind loses c.args.self.now c.args.call c.args.txn c.args.number c.args.reply.now k h is writes) none))
 
 pub returns-in-None-clause-waits : goal.returns-in-None-clause-waits
-returns-in-None-clause-waits c = λ k other again w writes waits. c.come_back.ensures.waits k other w waits
+returns-in-None-clause-waits c = λ loses k h is writes. c.come_back.ensures.waits
 
 pub returns-in-Some-clause-comes : goal.returns-in-Some-clause-comes
-returns-in-Some-clause-comes c = λ k heard again is writes.
+returns-in-Some-clause-comes c = λ loses k h is writes.
     let same = written_reply c.args.reply.now c.in-Some.ts (sym c.written_at-written.ensures ∙ c.in-Some.is) in
     c.written.ensures.comes (first_changed (awaits_at c.args.number) (back_with c.args.number c.args.reply.now) c.args.call.wave)
-    (written_none c.args.self.now c.args.call c.args.txn c.args.number c.args.reply.now k heard is again writes (ap is_conflict same))
+    (written_none loses c.args.self.now c.args.call c.args.txn c.args.number c.args.reply.now k h is writes (ap is_conflict same))
 
 pub returns-in-None-clause-comes : goal.returns-in-None-clause-comes
-returns-in-None-clause-comes c = λ k heard again is writes. c.come_back.ensures.comes
+returns-in-None-clause-comes c = λ loses k h is writes. c.come_back.ensures.comes (ap goes_by_sequence writes)
+
+pub returns-in-Some-clause-left : goal.returns-in-Some-clause-left
+returns-in-Some-clause-left c = c.written.ensures.left
+
+pub returns-in-None-clause-left : goal.returns-in-None-clause-left
+returns-in-None-clause-left c = c.come_back.ensures.left
+
+pub returns-in-Some-clause-joins : goal.returns-in-Some-clause-joins
+returns-in-Some-clause-joins c = λ loses k h is writes. joins_ok c.written.result c.args.self.now.later c.written.new.self.due c.written.ensures.idle
+
+pub returns-in-None-clause-joins : goal.returns-in-None-clause-joins
+returns-in-None-clause-joins c = λ loses k h is writes.
+    let none = sym c.written_at-written.ensures ∙ c.in-None.is in
+    c.come_back.ensures.joins loses k h is (subst (λ p. GoesOn p c.args.reply.now) (sym writes) (put_met c.args.txn.id c.args.reply.now (write_kind loses c.args.self.now c.args.call c.args.txn c.args.number c.args.reply.now k h is writes) none))

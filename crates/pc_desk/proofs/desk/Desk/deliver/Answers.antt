@@ -3,6 +3,7 @@ use Rattle.pc_desk.proofs.Desking.{delivers_none, newest_first}
 use Rattle.std.proofs.lemmas.Result.{err_from_is_err_and}
 use Rattle.pc_desk.proofs.Ending.{ended_later}
 use Rattle.pc_desk.specs.Desk.{HasDelivered}
+use Rattle.pc_desk.specs.Ending.{PostsInCall}
 use Rattle.pc_desk.specs.Waiting.{IsNewest}
 use Rattle.pc_desk.proofs.desk.Desk.deliver.Goals as goal
 
@@ -13,6 +14,7 @@ loop-self-init g c =
       subst (HasDelivered s) (sym same) (delivers_none s c.requires.track),
       c.note_last.ensures.clock,
       subst (λ d. IsNewest d.log.part.own d.replies c.in_ok-last.last.known) (sym same) (newest_first s.log.part.own s.replies c.in_ok-last.last.known c.requires.none_waits c.in_ok-last.ensures.behind),
+      subst PostsInCall (sym same) c.requires.in_call,
     )
 
 pub returns-in_err-last-2-clause-ended : goal.returns-in_err-last-2-clause-ended

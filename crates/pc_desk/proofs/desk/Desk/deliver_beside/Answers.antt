@@ -52,7 +52,7 @@ returns-in-Some-clause-err g c =
     let limit = ap (λ d. d.range_limit) c.self.view_is ∙ ap (λ d. d.range_limit) took.rest in
     let became = subst (λ n. AllZip (Became n) c.in_ok-wave.wave.items c.in-Ok.outcomes.items) limit c.in-Ok.ensures in
     let refusal = subst (λ os. IsRefusalIn os c.in-Some.cause) c.as_slice.ensures.value c.in-Some.ensures.some in
-    wave_halted c.args.self.now c.take_wave.new.self c.end_for.new.self c.in_ok-wave.wave.items c.in-Ok.outcomes.items c.requires.track took c.in_ok-wave.ensures.all became c.in-Some.cause c.end_for.result refusal c.end_for.ensures.ends
+    wave_halted c.args.self.now c.take_wave.new.self c.end_for.new.self c.in_ok-wave.wave.items c.in-Ok.outcomes.items c.requires.track took c.in_ok-wave.ensures.all became c.requires.in_call c.in-Some.cause c.end_for.result refusal c.end_for.ensures.ends
 
 pub returns-in-Some-clause-ended : goal.returns-in-Some-clause-ended
 returns-in-Some-clause-ended g c =
@@ -60,4 +60,4 @@ returns-in-Some-clause-ended g c =
     let limit = ap (λ d. d.range_limit) c.self.view_is ∙ ap (λ d. d.range_limit) took.rest in
     let became = subst (λ n. AllZip (Became n) c.in_ok-wave.wave.items c.in-Ok.outcomes.items) limit c.in-Ok.ensures in
     let refusal = subst (λ os. IsRefusalIn os c.in-Some.cause) c.as_slice.ensures.value c.in-Some.ensures.some in
-    wave_ended c.args.self.now c.take_wave.new.self c.end_for.new.self c.in_ok-wave.wave.items c.in-Ok.outcomes.items c.requires.track took c.in_ok-wave.ensures.all became c.in-Some.cause c.end_for.result refusal c.end_for.ensures.ends
+    wave_ended c.args.self.now c.take_wave.new.self c.end_for.new.self c.in_ok-wave.wave.items c.in-Ok.outcomes.items c.requires.track took c.in_ok-wave.ensures.all became c.requires.in_call c.in-Some.cause c.end_for.result refusal c.end_for.ensures.ends

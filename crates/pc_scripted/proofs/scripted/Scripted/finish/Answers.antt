@@ -1,4 +1,5 @@
 use Rattle.std.proofs.Common.{[], sym, ap, subst, ◌∙◌}
+use Rattle.pc_desk.specs.Ending.{all_waiting}
 use Rattle.pc_desk.specs.Keeping.{EachAfter}
 use Rattle.pc_script.specs.Steps.{KeepsWork}
 use Rattle.pc_scripted.proofs.Working.{keeps_work}
@@ -12,3 +13,6 @@ returns-clause-keeps g c = λ work session rule does same.
     subst (λ s. EachAfter (KeepsWork work session rule) [] (own_list s)) c.self.view_is
     (keeps_work work session rule (g.C.Clock.rule c.self.inside.session.desk.log.clock) _ scripted c.finish.ensures.reads (subst (λ s. DoesWork work session s) (sym c.self.view_is) does)
     (ap (λ s. g.C.Clock.rule s.session.desk.log.clock) c.self.view_is ∙ same))
+
+pub returns-clause-rest : goal.returns-clause-rest
+returns-clause-rest g c = c.finish.ensures.rest ∙ ap (λ s. all_waiting s.session.desk) c.self.view_is

@@ -1,9 +1,9 @@
-use Rattle.std.proofs.Common.{ap, refl, subst, ◌∙◌}
+use Rattle.std.proofs.Common.{ap, subst, ◌∙◌}
+use Rattle.std.proofs.lemmas.Result.{err_from_is_err_and}
 use Rattle.pc_session.proofs.Calling.{has_called}
+use Rattle.pc_session.proofs.Ending.{asked_breaks}
 use Rattle.pc_session.proofs.Inside.{asked_on}
 use Rattle.pc_session.specs.InCall.{GoesOnOrTold}
-use Rattle.std.proofs.lemmas.Result.{err_from_is_err_and}
-use Rattle.pc_session.proofs.Ending.{asked_breaks, unasked_breaks}
 use Rattle.pc_session.proofs.office.Office.call.Goals as goal
 
 pub returns-in-Some-2-clause-ok : goal.returns-in-Some-2-clause-ok
@@ -30,4 +30,4 @@ returns-in_err-answer-clause-ended g c =
 pub returns-in_err-reading-clause-ended : goal.returns-in_err-reading-clause-ended
 returns-in_err-reading-clause-ended g c =
     let p = err_from_is_err_and c.from_residual.result c.from_residual.ensures.1 in
-    rw (p.1, p.2) (unasked_breaks c.args.self.now c.args.self.now c.ask.new.self.desk refl c.args.call c.in_err-reading.field-0.0 c.requires.rest.track c.in_err-reading.ensures.ended)
+    rw (p.1, p.2) c.in_err-reading.ensures.ended

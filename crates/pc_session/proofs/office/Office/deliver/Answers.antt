@@ -1,13 +1,18 @@
-use Rattle.std.proofs.Common.{◌≡◌, [], sym, subst}
+use Rattle.std.proofs.Common.{◌≡◌, [], true, is_some, sym, ap, subst}
 use Rattle.std.proofs.lemmas.Result.{on_ok_weaker}
 use Rattle.pc_session.proofs.Hearing.{delivered_goes, delivered_open, delivered_whole}
 use Rattle.pc_session.proofs.Inside.{inside_from}
 use Rattle.pc_session.specs.InCall.{HasOpenCall, IsWholeOut}
 use Rattle.pc_session.proofs.Ending.{nothing_breaks_if}
 use Rattle.pc_session.proofs.office.Office.deliver.Goals as goal
+use Rattle.pc_desk.proofs.InCall.{open_in_call}
+use Rattle.pc_session.specs.Session.{session_knows}
 
 pub deliver_wave-requires-clause-none_waits : goal.deliver_wave-requires-clause-none_waits
 deliver_wave-requires-clause-none_waits g c κs within = subst (λ s. s.desk.replies ≡ []) (sym c.self.view_is) c.requires.none_waits
+
+pub deliver_wave-requires-clause-in_call : goal.deliver_wave-requires-clause-in_call
+deliver_wave-requires-clause-in_call g c κs within = open_in_call c.self.inside.desk (subst (λ s. is_some (session_knows s).statement ≡ true) (sym c.self.view_is) (ap is_some c.requires.calls.opened))
 
 pub returns-clause-calls : goal.returns-clause-calls
 returns-clause-calls g c =

@@ -21,7 +21,7 @@ returns-in-Ok-clause-calls g c =
     let a = c.in-Some.answered in
     let took = subst (λ heard. IfSome heard (HasHeardFirst c.self.inside.desk c.hear.new.self)) c.in-Some.is c.in_ok-answered.ensures.ok in
     let e = c.in-Ok.ensures in
-    heard_open _ c.args.reading calls c.hear.new.self c.heard.new.self a took e.knows e.waits e.session e.splits (subst IsWholeOut (sym c.self.view_is) c.requires.whole) e.comes
+    heard_open _ c.args.reading calls c.hear.new.self c.heard.new.self a took (subst IsWholeOut (sym c.self.view_is) c.requires.whole) e.knows e.waits e.left e.goes_on e.joins e.ends e.comes e.session e.splits e.pipelines
 
 pub returns-in-Ok-clause-goes : goal.returns-in-Ok-clause-goes
 returns-in-Ok-clause-goes g c =
@@ -34,7 +34,8 @@ pub returns-in-Ok-clause-whole : goal.returns-in-Ok-clause-whole
 returns-in-Ok-clause-whole g c =
     let calls = subst (λ s. HasOpenCall s c.args.reading) (sym c.self.view_is) c.requires.calls in
     let took = subst (λ heard. IfSome heard (HasHeardFirst c.self.inside.desk c.hear.new.self)) c.in-Some.is c.in_ok-answered.ensures.ok in
-    heard_whole _ c.args.reading calls c.hear.new.self c.heard.new.self c.in-Some.answered took c.in-Ok.ensures.waits c.in-Ok.ensures.comes (subst IsWholeOut (sym c.self.view_is) c.requires.whole)
+    let e = c.in-Ok.ensures in
+    heard_whole _ c.args.reading calls c.hear.new.self c.heard.new.self c.in-Some.answered took (subst IsWholeOut (sym c.self.view_is) c.requires.whole) e.knows e.waits e.left e.goes_on e.joins e.ends e.comes e.session e.splits e.pipelines
 
 pub returns-in-None-clause-goes : goal.returns-in-None-clause-goes
 returns-in-None-clause-goes g c =

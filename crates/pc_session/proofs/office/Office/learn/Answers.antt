@@ -1,7 +1,7 @@
 use Rattle.std.proofs.Common.{inr, inl, ◌≡◌, true, false, is_some, IfSome, None, Some, refl, sym, ap, subst}
 use Rattle.std.proofs.lemmas.Result.{err_from_is_err_and}
 use Rattle.pc_proto.specs.declared.answer.Answer.TheVariants as answers
-use Rattle.pc_session.proofs.Learning.{has_learnt, learn_breaks, met_last, next_told, so_far_asked, so_far_met, tellable_now, told_whole, unasked_learn}
+use Rattle.pc_session.proofs.Learning.{has_learnt, learn_aside, learn_breaks, met_last, next_told, so_far_asked, so_far_met, tellable_now, told_whole, unasked_learn}
 use Rattle.pc_session.specs.InCall.{GoesOnOrTold}
 use Rattle.pc_session.specs.Learning.{HasMet, IsLearning}
 use Rattle.pc_session.specs.Session.{session_knows}
@@ -53,6 +53,17 @@ returns-in_ok-tell-in-Some-clause-ok g c =
     let answered = c.in_ok-tell-in-Some.ensures in
     let told = subst (λ o. GoesOnOrTold c.meet.new.self c.tell.new.self reading o) answered.told answered.ok in
     has_learnt c.args.self.now c.meet.new.self c.args.id reading (Some step) so c.tell.new.self c.requires.rest told
+
+pub meet-requires-clause-between : goal.meet-requires-clause-between
+meet-requires-clause-between g c = c.in_ok-reading.ensures.between
+
+pub tell-requires-in-None-clause-puts : goal.tell-requires-in-None-clause-puts
+tell-requires-in-None-clause-puts g c = c.in_ok-reading.ensures.between.puts
+
+pub tell-requires-in-None-clause-aside : goal.tell-requires-in-None-clause-aside
+tell-requires-in-None-clause-aside g c =
+    let asked = c.in_ok-reading.ensures.learns c.args.id refl in
+    learn_aside c.ask.new.self c.in_ok-reading.reading c.args.id c.in_ok-reading.ensures.calls asked.learning
 
 pub tell-requires-in-None-clause-due : goal.tell-requires-in-None-clause-due
 tell-requires-in-None-clause-due g c =

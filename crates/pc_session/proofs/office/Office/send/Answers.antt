@@ -1,9 +1,9 @@
-use Rattle.std.proofs.Common.{◌≡◌, ℕ, sym, subst, ◌∙◌}
-use Rattle.pc_coord.specs.Coordination.{next_of}
+use Rattle.std.proofs.Common.{◌≡◌, ℕ, false, sym, ap, subst}
+use Rattle.pc_coord.specs.Coordination.{next_of, request_next}
 use Rattle.pc_coord.specs.declared.next.Next.TheVariants as nexts
 use Rattle.pc_coord.specs.Knows.{MayCome}
 use Rattle.pc_session.proofs.Inside.{inside_from}
-use Rattle.pc_session.proofs.Sending.{may_go, sent_ends, sent_goes, sent_open}
+use Rattle.pc_session.proofs.Sending.{may_go, sent_between, sent_goes, sent_open}
 use Rattle.pc_session.specs.InCall.{HasOpenCall, IsBetweenWaves}
 use Rattle.pc_session.specs.Session.{session_knows}
 use Rattle.std.proofs.lemmas.Result.{err_from_is_err_and}
@@ -16,9 +16,9 @@ pub send-requires-clause-may : goal.send-requires-clause-may
 send-requires-clause-may g c =
     let calls = subst (λ s. HasOpenCall s c.args.reading) (sym c.self.view_is) c.requires.calls in
     let due = subst (λ s. next_of s.coordinator ≡ nexts.Send c.args.request) (sym c.self.view_is) c.requires.due in
-    let may = subst (λ s. MayCome s.coordinator (session_knows s) (nexts.Send c.args.request)) (sym c.self.view_is) c.requires.may in
+    let may = subst (λ s. MayCome false s.coordinator (session_knows s) (nexts.Send c.args.request)) (sym c.self.view_is) c.requires.may in
     let between = subst (λ s. IsBetweenWaves s.desk) (sym c.self.view_is) c.requires.between in
-    may_go _ c.args.reading c.args.request calls due may.0 may.1 may.2 between.ends
+    may_go _ c.args.reading c.args.request calls (ap request_next due) may.0 may.2 between
 
 pub send-requires-clause-none_waits : goal.send-requires-clause-none_waits
 send-requires-clause-none_waits g c = (subst (λ s. IsBetweenWaves s.desk) (sym c.self.view_is) c.requires.between).none_waits
@@ -27,14 +27,17 @@ pub returns-in-Ok-clause-ok : goal.returns-in-Ok-clause-ok
 returns-in-Ok-clause-ok g c =
     let calls = subst (λ s. HasOpenCall s c.args.reading) (sym c.self.view_is) c.requires.calls in
     let due = subst (λ s. next_of s.coordinator ≡ nexts.Send c.args.request) (sym c.self.view_is) c.requires.due in
-    let may = subst (λ s. MayCome s.coordinator (session_knows s) (nexts.Send c.args.request)) (sym c.self.view_is) c.requires.may in
+    let may = subst (λ s. MayCome false s.coordinator (session_knows s) (nexts.Send c.args.request)) (sym c.self.view_is) c.requires.may in
     let between = subst (λ s. IsBetweenWaves s.desk) (sym c.self.view_is) c.requires.between in
+    let is = ap request_next due in
     let e = c.in-Ok.ensures in
     let d = c.send.new.self in
-    let n = c.in_ok-number.number in (
-      sent_open _ c.args.reading c.args.request calls due may.0 may.1 may.2 between.ends d c.sent.new.self n c.in_ok-number.ensures.ok e.knows (λ other. e.waits c.args.request other due) e.session e.splits e.comes,
-      inside_from _ c.args.self.now _ c.self.view_is (sent_goes _ c.args.reading c.args.request calls due may.0 may.1 may.2 between.ends d c.sent.new.self n c.in_ok-number.ensures.ok e.session),
-      record { ends = sent_ends _ c.args.reading c.args.request calls due may.0 may.1 may.2 between.ends d c.sent.new.self n c.in_ok-number.ensures.ok; none_waits = c.in_ok-number.ensures.ok.replies ∙ between.none_waits },
+    let n = c.in_ok-number.number in
+    let sent = c.in_ok-number.ensures.ok in
+    let kept = e.kept c.args.request due in (
+      sent_open _ c.args.reading c.args.request calls is may.0 may.2 between d c.sent.new.self n sent due e.knows (λ other. e.waits c.args.request other due) kept e.session e.splits e.pipelines (λ o opened. e.comes o c.args.request opened due),
+      inside_from _ c.args.self.now _ c.self.view_is (sent_goes _ c.args.reading c.args.request calls is may.0 may.2 between d c.sent.new.self n sent e.session),
+      sent_between _ c.args.reading c.args.request calls is may.0 may.2 between d c.sent.new.self n sent due e.knows (λ other. e.waits c.args.request other due) kept e.session e.splits e.pipelines (λ o opened. e.comes o c.args.request opened due),
     )
 
 pub returns-in_err-number-clause-ended : goal.returns-in_err-number-clause-ended

@@ -5,7 +5,7 @@ use Rattle.pc_wave.specs.Standing.{WaveStands}
 use Rattle.pc_wave.proofs.wave.Wave.add.Goals as goal
 
 pub returns-clause-stands : goal.returns-clause-stands
-returns-clause-stands c k w join =
+returns-clause-stands c co k w join =
     let made : c.push.new.self.items ≡ c.args.self.now ++ message_to_send c.args.request ∷ [] =
     c.in_ok-push.ensures.items ∙ ap (λ ms. ms ++ c.to_send.result ∷ []) c.self.view_is ∙ ap (λ m. c.args.self.now ++ m ∷ []) c.to_send.ensures in
-    subst (λ ms. WaveStands k ms) (sym made) (wave_joined k c.args.self.now c.args.request w join)
+    subst (λ ms. WaveStands co k ms) (sym made) (wave_joined co k c.args.self.now c.args.request w join)

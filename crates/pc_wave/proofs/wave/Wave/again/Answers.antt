@@ -12,15 +12,15 @@ returns-in-Some-clause-made c =
     c.self.view_is c.place_in_conflict.ensures c.in-Some.is c.index_mut.ensures.value c.go_again.ensures
 
 pub returns-in-Some-clause-stands : goal.returns-in-Some-clause-stands
-returns-in-Some-clause-stands c k now conflict w due made =
-    subst (λ ms. WaveStands now ms) (sym (returns-in-Some-clause-made c)) (wave_again k now c.args.self.now c.args.number conflict w due made)
+returns-in-Some-clause-stands c co k now conflict w due made =
+    subst (λ ms. WaveStands co now ms) (sym (returns-in-Some-clause-made c)) (wave_again co k now c.args.self.now c.args.number conflict w due made)
 
 pub returns-in_default-clause-made : goal.returns-in_default-clause-made
 returns-in_default-clause-made c = set_none (conflicts_at c.args.number) goes_again c.args.self.now c.place_in_conflict.result c.place_in_conflict.ensures c.in_default.not-Some
 
 pub returns-in_default-clause-stands : goal.returns-in_default-clause-stands
-returns-in_default-clause-stands c k now conflict w due made =
-    subst (λ ms. WaveStands now ms) (sym (returns-in_default-clause-made c)) (wave_again k now c.args.self.now c.args.number conflict w due made)
+returns-in_default-clause-stands c co k now conflict w due made =
+    subst (λ ms. WaveStands co now ms) (sym (returns-in_default-clause-made c)) (wave_again co k now c.args.self.now c.args.number conflict w due made)
 
 pub returns-in-Some-clause-awaited : goal.returns-in-Some-clause-awaited
 returns-in-Some-clause-awaited c conflict other due = ap (wave_awaits other) (returns-in-Some-clause-made c) ∙ again_awaits c.args.number other conflict c.args.self.now due

@@ -12,19 +12,19 @@ returns-in-Some-clause-made c =
     c.self.view_is c.place_awaited.ensures c.in-Some.is c.index_mut.ensures.value c.hear.ensures
 
 pub returns-in-Some-clause-stands : goal.returns-in-Some-clause-stands
-returns-in-Some-clause-stands c k now h w waited is more =
-    subst (λ ms. WaveStands now ms) (sym (returns-in-Some-clause-made c)) (wave_heard k now c.args.self.now c.args.number c.args.reply h w waited is more)
+returns-in-Some-clause-stands c co k now h w waited is more =
+    subst (λ ms. WaveStands co now ms) (sym (returns-in-Some-clause-made c)) (wave_heard co k now c.args.self.now c.args.number c.args.reply h w waited is more)
 
 pub returns-in_default-clause-made : goal.returns-in_default-clause-made
 returns-in_default-clause-made c =
     set_none (awaits_at c.args.number) (back_with c.args.number c.args.reply) c.args.self.now c.place_awaited.result c.place_awaited.ensures c.in_default.not-Some
 
 pub returns-in_default-clause-stands : goal.returns-in_default-clause-stands
-returns-in_default-clause-stands c k now h w waited is more =
-    subst (λ ms. WaveStands now ms) (sym (returns-in_default-clause-made c)) (wave_heard k now c.args.self.now c.args.number c.args.reply h w waited is more)
+returns-in_default-clause-stands c co k now h w waited is more =
+    subst (λ ms. WaveStands co now ms) (sym (returns-in_default-clause-made c)) (wave_heard co k now c.args.self.now c.args.number c.args.reply h w waited is more)
 
 pub returns-in-Some-clause-awaited : goal.returns-in-Some-clause-awaited
-returns-in-Some-clause-awaited c k other w waited = ap (wave_awaits other) (returns-in-Some-clause-made c) ∙ heard_awaits c.args.number other c.args.reply k c.args.self.now w waited
+returns-in-Some-clause-awaited c co k other w waited = ap (wave_awaits other) (returns-in-Some-clause-made c) ∙ heard_awaits c.args.number other c.args.reply co k c.args.self.now w waited
 
 pub returns-in_default-clause-awaited : goal.returns-in_default-clause-awaited
-returns-in_default-clause-awaited c k other w waited = ap (wave_awaits other) (returns-in_default-clause-made c) ∙ heard_awaits c.args.number other c.args.reply k c.args.self.now w waited
+returns-in_default-clause-awaited c co k other w waited = ap (wave_awaits other) (returns-in_default-clause-made c) ∙ heard_awaits c.args.number other c.args.reply co k c.args.self.now w waited

@@ -4,4 +4,4 @@ use Rattle.pc_wave.specs.Standing.{WaveStands}
 use Rattle.pc_wave.proofs.wave.Wave.new.Goals as goal
 
 pub returns-clause-stands : goal.returns-clause-stands
-returns-clause-stands c k = subst (λ ms. WaveStands k ms) (sym c.new.ensures.items) (none_stand k)
+returns-clause-stands c co k = subst (λ ms. WaveStands co k ms) (sym c.new.ensures.items) (none_stand co k)

@@ -12,15 +12,15 @@ returns-in-Some-clause-made c =
     c.self.view_is c.place_to_send.ensures c.in-Some.is c.index_mut.ensures.value c.go_out.ensures
 
 pub returns-in-Some-clause-stands : goal.returns-in-Some-clause-stands
-returns-in-Some-clause-stands c k now range request w numbered due next more =
-    subst (λ ms. WaveStands now ms) (sym (returns-in-Some-clause-made c)) (wave_sent k now c.args.self.now c.args.number range request w numbered due next more)
+returns-in-Some-clause-stands c co k now range request w numbered due next more =
+    subst (λ ms. WaveStands co now ms) (sym (returns-in-Some-clause-made c)) (wave_sent co k now c.args.self.now c.args.number range request w numbered due next more)
 
 pub returns-in_default-clause-made : goal.returns-in_default-clause-made
 returns-in_default-clause-made c = set_none is_to_send (sent_under c.args.number) c.args.self.now c.place_to_send.result c.place_to_send.ensures c.in_default.not-Some
 
 pub returns-in_default-clause-stands : goal.returns-in_default-clause-stands
-returns-in_default-clause-stands c k now range request w numbered due next more =
-    subst (λ ms. WaveStands now ms) (sym (returns-in_default-clause-made c)) (wave_sent k now c.args.self.now c.args.number range request w numbered due next more)
+returns-in_default-clause-stands c co k now range request w numbered due next more =
+    subst (λ ms. WaveStands co now ms) (sym (returns-in_default-clause-made c)) (wave_sent co k now c.args.self.now c.args.number range request w numbered due next more)
 
 pub returns-in-Some-clause-awaited : goal.returns-in-Some-clause-awaited
 returns-in-Some-clause-awaited c request other due = ap (wave_awaits other) (returns-in-Some-clause-made c) ∙ sent_awaits c.args.number other c.args.self.now request due

@@ -7,14 +7,14 @@ use Rattle.pc_wave.specs.Messages.{first_in_conflict, has_answer, is_to_send, st
 use Rattle.pc_wave.proofs.wave.Wave.step.Goals as goal
 
 pub returns-in-Some-clause-may : goal.returns-in-Some-clause-may
-returns-in-Some-clause-may c k w =
+returns-in-Some-clause-may c co k w =
     let ms : List Message = c.args.self.now in
     let m : Message = c.in-Some.message.now in
     let first : first_in_conflict ms ≡ Some m = sym c.first_in_conflict.ensures ∙ ap option_copied c.in-Some.is in
-    step_may k ms w (step_in m.conflicts m.progress) (ap (λ o. step_by o (find is_to_send ms) (list_all has_answer ms)) first) c.step.result c.step.ensures
+    step_may co k ms w (step_in m.conflicts m.progress) (ap (λ o. step_by o (find is_to_send ms) (list_all has_answer ms)) first) c.step.result c.step.ensures
 
 pub returns-in-None-clause-may : goal.returns-in-None-clause-may
-returns-in-None-clause-may c k w =
+returns-in-None-clause-may c co k w =
     let ms : List Message = c.args.self.now in
     let first : first_in_conflict ms ≡ None = sym c.first_in_conflict.ensures ∙ ap option_copied c.in-None.is in
-    step_may k ms w (step_without (find is_to_send ms) (list_all has_answer ms)) (ap (λ o. step_by o (find is_to_send ms) (list_all has_answer ms)) first) c.step_without.result c.step_without.ensures
+    step_may co k ms w (step_without (find is_to_send ms) (list_all has_answer ms)) (ap (λ o. step_by o (find is_to_send ms) (list_all has_answer ms)) first) c.step_without.result c.step_without.ensures

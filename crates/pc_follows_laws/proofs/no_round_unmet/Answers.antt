@@ -1,0 +1,5 @@
+use Rattle.pc_follows_laws.proofs.PipelinedRounds.{no_round_unmet}
+use Rattle.pc_follows_laws.proofs.no_round_unmet.Goals as goal
+
+pub returns : goal.returns
+returns c = no_round_unmet

@@ -1,0 +1,4 @@
+pub mod Lists
+pub mod OneCall
+pub mod OneRound
+pub mod OneRun

@@ -1,5 +1,0 @@
-use Rattle.pc_work.proofs.Built.{value_is_accepted}
-use Rattle.pc_work.proofs.workload.Workload.read_accepted.Goals as goal
-
-pub returns-in-Ok-workload_of-clause-form : goal.returns-in-Ok-workload_of-clause-form
-returns-in-Ok-workload_of-clause-form c = value_is_accepted _ c.in-Ok-workload_of.work c.in-Ok-workload_of.ensures
