@@ -328,7 +328,7 @@ module _ (loses : Bool) (c : Coordination) (k : Known) (x : OpenTxn) (call : Ope
       };
     }
 
-module _ (loses : Bool) (c : Coordination) (start k : Known) (x : OpenTxn) (call : OpenCall) (knows : Knows loses c start) (held : c.txn ≡ Some x) (due : c.due ≡ dues.Call call) (later : IsLaterBeside c start k) where
+module _ (loses : Bool) (c : Coordination) (start k : Known) (x : OpenTxn) (call : OpenCall) (knows : Knows loses c start) (held : c.txn ≡ Some x) (due : c.due ≡ dues.Call call) (later : IsLaterBeside loses c start k) where
   w : InCall (setting_of loses c) start x call.purpose call.wave
   w = in_call loses c start x call knows held due
 
@@ -340,7 +340,7 @@ module _ (loses : Bool) (c : Coordination) (start k : Known) (x : OpenTxn) (call
   settles txn rest =
       let n = calls loses c start call knows due in
       record {
-        course = course-beside c start k later loses (record (with_clock k.high c) { txn = txn; due = rest }) refl refl refl refl knows.course;
+        course = course-beside c start k later (record (with_clock k.high c) { txn = txn; due = rest }) refl refl refl refl knows.course;
         counted = counted-beside c start k later n.counted;
         asked_at = λ reading is. same_Some reading c.reading (sym is ∙ ap reading_in later.statement ∙ n.asked_at);
         handed = n.handed;

@@ -228,8 +228,8 @@ module _ {C : Type 0} (old : SessionMeaning C) (reading number : ℕ) (conflict 
     aside_same : (n : ℕ) → waits_aside n d ≡ waits_aside n old.desk
     aside_same n = ap (list_any (λ (m : Posted). m.number == n)) later_same
 
-    module _ (settles : (loses : Bool) (c' : Coordination) (start k : Known) (conflict : Reply) (reader : Option ℕ) → Knows loses c' start → c ≡ with_clock k.high c' → next_of c' ≡ nexts.Conflict number conflict reader → IsLaterBeside c' start k → EndsRound loses conflict round start k → Knows loses e k)
-        (quiets : (loses : Bool) (c' : Coordination) (start k : Known) (conflict : Reply) (reader : Option ℕ) (other : ℕ) → loses ≡ false → Knows loses c' start → c ≡ with_clock k.high c' → next_of c' ≡ nexts.Conflict number conflict reader → IsLaterBeside c' start k → EndsRound loses conflict round start k
+    module _ (settles : (loses : Bool) (c' : Coordination) (start k : Known) (conflict : Reply) (reader : Option ℕ) → Knows loses c' start → c ≡ with_clock k.high c' → next_of c' ≡ nexts.Conflict number conflict reader → IsLaterBeside loses c' start k → EndsRound loses conflict round start k → Knows loses e k)
+        (quiets : (loses : Bool) (c' : Coordination) (start k : Known) (conflict : Reply) (reader : Option ℕ) (other : ℕ) → loses ≡ false → Knows loses c' start → c ≡ with_clock k.high c' → next_of c' ≡ nexts.Conflict number conflict reader → IsLaterBeside loses c' start k → EndsRound loses conflict round start k
         → awaits_number other e.due ≡ false)
         (left : (number : ℕ) → has_waited number e.later ≡ true → has_waited number c.later ≡ true) (session : e.session ≡ c.session) (splits : e.splits ≡ c.splits) (pipelines : e.pipelining ≡ c.pipelining)
         (comes : (o : Opened) (conflict : Reply) → opened_by c.txn c.due ≡ Some o → step_of o.call.wave ≡ steps.Round number conflict → goes_by_sequence o.call.purpose ≡ false → ComesOfRound round number conflict o.call.wave e.due) where

@@ -309,10 +309,10 @@ module _ (c : Coordination) (k : Known) (number : ℕ) (conflict : Reply) (reade
   step_rounds = round_step c rounds_of.o.txn rounds_of.o.call number conflict reader rounds_of.held rounds_of.due due
 
   -- what the round made is known of it
-  pub made_round : (now : Known) → IsLaterBeside c k now → (holder : TxnMeta) (ts : ℕ) (key : List ℕ) → conflict ≡ replies.Conflict holder ts key → IsSettledRound holder.id key k now → MakesRound k now rounds_of.o.txn.id (replies.Conflict holder ts key)
+  pub made_round : (now : Known) → IsLaterBeside false c k now → (holder : TxnMeta) (ts : ℕ) (key : List ℕ) → conflict ≡ replies.Conflict holder ts key → IsSettledRound holder.id key k now → MakesRound k now rounds_of.o.txn.id (replies.Conflict holder ts key)
   made_round now later holder ts key is settled = had_round false c k now rounds_of.o.txn rounds_of.o.call knows rounds_of.held rounds_of.due later rounds.Again (replies.Conflict holder ts key) settled
 
-  pub refused_round : (now : Known) → IsLaterBeside c k now → (holder : TxnMeta) (ts : ℕ) (key : List ℕ) → IsRefusedRound holder.id k now → RefusesRound k now rounds_of.o.txn.id (replies.Conflict holder ts key)
+  pub refused_round : (now : Known) → IsLaterBeside false c k now → (holder : TxnMeta) (ts : ℕ) (key : List ℕ) → IsRefusedRound holder.id k now → RefusesRound k now rounds_of.o.txn.id (replies.Conflict holder ts key)
   refused_round now later holder ts key refused = had_round false c k now rounds_of.o.txn rounds_of.o.call knows rounds_of.held rounds_of.due later rounds.Refused (replies.Conflict holder ts key) refused
 
   module _ (met : IsConflictNow (setting_of false c).course k number conflict reader) (once : AreHeardOnce k) where
@@ -343,7 +343,7 @@ module _ (c : Coordination) (k : Known) (number : ℕ) (conflict : Reply) (reade
       pub next_round : IsNextRound k met.h
       next_round = record { placed = first.placed ∙ ap Some same; over = t.over; answered = t.answered; below = below }
 
-      module _ (e : Coordination) (now : Known) (round : Round) (begun : rounds_begun now ≡ rounds_begun k + 1) (ends : EndsRound false conflict round k now) (later : IsLaterBeside c k now) (once_now : AreHeardOnce now) (quiet : (n : ℕ) → awaits_number n e.due ≡ false)
+      module _ (e : Coordination) (now : Known) (round : Round) (begun : rounds_begun now ≡ rounds_begun k + 1) (ends : EndsRound false conflict round k now) (later : IsLaterBeside false c k now) (once_now : AreHeardOnce now) (quiet : (n : ℕ) → awaits_number n e.due ≡ false)
           (comes : goes_by_sequence rounds_of.o.call.purpose ≡ false → ComesOfRound round number conflict wave e.due) where
         goes_plainly : goes_by_sequence rounds_of.o.call.purpose ≡ false
         goes_plainly = unpiped_goes false c k rounds_of.o.call knows rounds_of.due plain
