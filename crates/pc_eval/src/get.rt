@@ -8,7 +8,7 @@ ghost use Rattle.pc_world.specs.Evaluation.Get.{found_at, get_blocker, own_value
 
 use crate::state::RangeState;
 use pc_base::{Key, NoMemory, Timestamp, TryCopy, TxnId, Value, Version};
-use pc_intent::{Intent, conflict, value_by};
+use pc_intent::{Intent, conflict};
 use pc_proto::{Origin, Reply, Request};
 
 impl RangeState {
@@ -62,11 +62,7 @@ impl RangeState {
     fn own_value(&self, id: TxnId, epoch: u32, seq: u32, key: &Key) -> Option<&Option<Value>>
         ensures { option_copied result ≡ own_value id epoch seq key.now self.now }
     {
-        let own = self
-            .intents
-            .own_at(id, key)
-            .filter(|own| own.meta.epoch == epoch)?;
-        value_by(own, seq)
+        self.intents.own_value(id, epoch, seq, key)
     }
 }
 

@@ -2,11 +2,10 @@
 //! nothing, the read bound goes up to the staged timestamp under no owner, so that the write never lands at or below it.
 
 ghost use Rattle.std.specs.Prelude.{◌≡◌};
-ghost use Rattle.pc_world.specs.Evaluation.Query.{bound_after_query, is_it, query, write_stands};
+ghost use Rattle.pc_world.specs.Evaluation.Query.{bound_after_query, query, write_stands};
 
 use crate::state::RangeState;
 use pc_base::{Key, Timestamp, TxnId};
-use pc_intent::{Intent, last_seq};
 use pc_proto::Reply;
 
 impl RangeState {
@@ -33,15 +32,6 @@ impl RangeState {
     pub fn stands(&self, id: TxnId, epoch: u32, seq: u32, ts: Timestamp, key: &Key) -> bool
         ensures { result ≡ write_stands id epoch seq ts key.now self.now }
     {
-        self.intents
-            .own_at(id, key)
-            .is_some_and(|own| is_it(own, epoch, seq, ts))
+        self.intents.stands(id, epoch, seq, ts, key)
     }
-}
-
-/// Whether the intent is of this epoch, has this sequence or a later one, and lies at or below this timestamp.
-fn is_it(intent: &Intent, epoch: u32, seq: u32, ts: Timestamp) -> bool
-    ensures { result ≡ is_it epoch seq ts intent.now }
-{
-    intent.meta.epoch == epoch && seq <= last_seq(intent) && intent.ts <= ts
 }

@@ -1,5 +1,5 @@
-pub mod Folds
 mod FirstOther
-mod Laying
 mod InSpan
+mod OwnIntent
 mod Putting
+mod Rising

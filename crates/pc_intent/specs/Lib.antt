@@ -1,2 +1,2 @@
 pub mod Coming
-pub mod WithWrite
+pub mod Rising

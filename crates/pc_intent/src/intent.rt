@@ -1,9 +1,11 @@
-ghost use Rattle.std.specs.Prelude.{◌≡◌, IfOk, OnOk, OnErr, Some, false};
+ghost use Rattle.std.specs.Prelude.{◌≡◌, IfOk, OnOk, OnErr, None, Some, false};
+ghost use Rattle.std.specs.List.{last_or};
 ghost use Rattle.std.specs.Option.{option_copied};
 ghost use Rattle.pc_intent.specs.Coming.{comes_to, intent_then, stands_already};
-ghost use Rattle.pc_intent.specs.WithWrite.{with_write};
-ghost use Rattle.pc_proto.specs.Intents.{fresh, last_seq, last_value, later_write, value_by};
-ghost use Rattle.pc_world.specs.Evaluation.Put.{is_overtaken_by, put_change, put_reply};
+ghost use Rattle.pc_intent.specs.Rising.{WritesRise};
+ghost use Rattle.pc_proto.specs.Intents.{fresh, last_seq, last_value, value_by};
+ghost use Rattle.pc_world.specs.Evaluation.Put.{is_overtaken_by, laid, put_change, put_reply};
+ghost use Rattle.pc_world.specs.Evaluation.Query.{is_it};
 
 use pc_base::{Items, Key, NoMemory, Timestamp, TryCopy, Value};
 use pc_proto::{Intent, Reply, TxnMeta};
@@ -13,50 +15,45 @@ use std::alloc::Global;
 type Write = (u32, Option<Value>);
 
 /// The greatest sequence that the intent has.
-pub fn last_seq(intent: &Intent) -> u32
+fn last_seq(intent: &Intent) -> u32
+    requires { WritesRise intent.now }
     ensures { result ≡ last_seq intent.now }
 {
-    intent
-        .history
-        .as_slice()
-        .iter()
-        .fold(0, |most, write| most.max(write.0))
+    last(intent.history.as_slice()).map_or(0, |write| write.0)
 }
 
 /// What the intent's write of the greatest sequence says.
-pub fn last_value(intent: &Intent) -> Option<&Option<Value>>
+pub(crate) fn last_value(intent: &Intent) -> Option<&Option<Value>>
+    requires { WritesRise intent.now }
     ensures { option_copied result ≡ last_value intent.now }
 {
-    let mut last = None;
-    for write in intent.history.as_slice() {
-        last = later_write(last, write);
-    }
-    let write = last?;
+    let write = last(intent.history.as_slice())?;
     Some(&write.1)
 }
 
 /// What the intent's write of the greatest sequence that is not above this one says.
-#[tactic(auto, using(crate::proofs::Folds::of_kept_more))]
-pub fn value_by(intent: &Intent, seq: u32) -> Option<&Option<Value>>
+pub(crate) fn value_by(intent: &Intent, seq: u32) -> Option<&Option<Value>>
+    requires { WritesRise intent.now }
     ensures { option_copied result ≡ value_by seq intent.now }
 {
-    let mut last = None;
-    for write in intent.history.as_slice() {
-        if write.0 <= seq {
-            last = later_write(last, write);
-        }
-    }
-    let write = last?;
+    let history = intent.history.as_slice();
+    let count = history.partition_point(|write| write.0 <= seq);
+    let write = last(&history[..count])?;
     Some(&write.1)
 }
 
-fn later_write<'a>(best: Option<&'a Write>, write: &'a Write) -> Option<&'a Write>
-    ensures { option_copied result ≡ later_write (option_copied best.entry) write.now }
+fn last(writes: &[Write]) -> Option<&Write>
+    ensures { option_copied result ≡ last_or None writes.now }
 {
-    match best {
-        Some(best) if write.0 < best.0 => Some(best),
-        _ => Some(write),
-    }
+    writes.last()
+}
+
+/// Whether the intent is of this epoch, has this sequence or a later one, and lies at or below this timestamp.
+pub(crate) fn is_it(intent: &Intent, epoch: u32, seq: u32, ts: Timestamp) -> bool
+    requires { WritesRise intent.now }
+    ensures { result ≡ is_it epoch seq ts intent.now }
+{
+    intent.meta.epoch == epoch && seq <= last_seq(intent) && intent.ts <= ts
 }
 
 /// What a put comes to at a key where this intent stands. Where the write stands already, it wants no memory.
@@ -69,6 +66,7 @@ pub(crate) fn put_there(
     key: &Key,
     value: &Option<Value>,
 ) -> Result<Reply, NoMemory>
+    requires { WritesRise intent.old }
     ensures reply { IfOk result (λ made. made ≡ put_reply key.now (comes_to meta.now seq ts value.now (Some intent.old))) }
     ensures after { OnOk result (intent.new ≡ intent_then (put_change (comes_to meta.now seq ts value.now (Some intent.old))) intent.old) }
     ensures err { OnErr result (intent.new ≡ intent.old) }
@@ -100,6 +98,7 @@ pub fn conflict(other: &Intent, key: &Key) -> Result<Reply, NoMemory>
 
 /// Whether the transaction's own intent is of a later epoch, or has this sequence or a later one already.
 fn is_overtaken_by(meta: &TxnMeta, seq: u32, own: &Intent) -> bool
+    requires { WritesRise own.now }
     ensures { result ≡ is_overtaken_by meta.now seq own.now }
 {
     let (epoch, at) = (meta.epoch, own.meta.epoch);
@@ -107,7 +106,7 @@ fn is_overtaken_by(meta: &TxnMeta, seq: u32, own: &Intent) -> bool
 }
 
 /// Adds a write to the transaction's own intent, or begins the intent anew where it is of another epoch.
-pub(crate) fn add_write(
+fn add_write(
     alloc: Global,
     intent: &mut Intent,
     meta: TxnMeta,
@@ -115,7 +114,7 @@ pub(crate) fn add_write(
     ts: Timestamp,
     value: Option<Value>,
 ) -> Result<(), NoMemory>
-    ensures ok { OnOk result (intent.new ≡ with_write meta seq ts value (Some intent.old)) }
+    ensures ok { OnOk result (intent.new ≡ laid meta seq ts value (Some intent.old)) }
     ensures err { OnErr result (intent.new ≡ intent.old) }
 {
     if intent.meta.epoch == meta.epoch {
@@ -141,7 +140,7 @@ pub(crate) fn first(
 }
 
 /// A new intent of one write.
-pub(crate) fn fresh(
+fn fresh(
     alloc: Global,
     meta: TxnMeta,
     seq: u32,

@@ -1,21 +1,22 @@
-ghost use Rattle.std.specs.Prelude.{◌≡◌, [], IfOk, MatchOption, None, OnErr, OnOk, filter, fold, map, max};
+ghost use Rattle.std.specs.Prelude.{◌≡◌, ◌==◌, [], IfOk, IfSome, MatchOption, OnErr, OnOk, filter, fold, map, max};
 ghost use Rattle.std.specs.BTreeMap.{insert_entry};
 ghost use Rattle.std.specs.BTreeSet.{insert_key};
 ghost use Rattle.std.specs.Cmp.Lexicographic.{slice_cmp};
 ghost use Rattle.std.specs.List.{list_any};
-ghost use Rattle.std.specs.Option.{option_copied, option_map};
+ghost use Rattle.std.specs.Option.{option_and_then, option_copied, option_map};
 ghost use Rattle.std.specs.Ordering.{nat_cmp};
 ghost use Rattle.pc_base.specs.Keyed.{without};
 ghost use Rattle.pc_base.specs.Span.{contains, same_key};
 ghost use Rattle.pc_base.specs.Versions.{with_version};
 ghost use Rattle.pc_intent.specs.Coming.{comes_to};
-ghost use Rattle.pc_intent.specs.WithWrite.{with_write};
-ghost use Rattle.pc_proto.specs.Intents.{first_other, intent_at, other_at, own_at};
+ghost use Rattle.pc_intent.specs.Rising.{WritesRise};
+ghost use Rattle.pc_proto.specs.Intents.{first_other, intent_at, kept_if, other_at, own_at, value_by};
 ghost use Rattle.pc_world.specs.Evaluation.IntentChange.{intents_with};
 ghost use Rattle.pc_world.specs.Evaluation.Put.{put_change, put_reply};
+ghost use Rattle.pc_world.specs.Evaluation.Query.{is_found};
 ghost use Rattle.pc_world.specs.Evaluation.Resolve.{versions_of};
 
-use crate::intent::{add_write, first, fresh, put_there};
+use crate::intent::{first, is_it, put_there, value_by};
 use crate::settle::keep;
 use pc_base::{Key, NoMemory, Span, Timestamp, TryCopy, TxnId, Value};
 use pc_mvcc::Versions;
@@ -35,17 +36,14 @@ pub struct Intents {
 
 impl Model for Intents {
     ghost use Rattle.std.specs.Prelude.{ℕ, List};
-    ghost use Rattle.std.specs.Cmp.Lexicographic.{slice_cmp};
-    ghost use Rattle.std.specs.List.Sorted.{IsStrictlySortedBy};
-    ghost use Rattle.std.specs.Map.{keys_of};
-    ghost use Rattle.std.specs.Ordering.{nat_cmp};
+    ghost use Rattle.pc_intent.specs.Rising.{IsIntentTable};
     ghost use Rattle.pc_proto.specs.declared.record.Intent.{Intent as intent};
 
     ghost Value = { List (List ℕ × intent) };
 
     ghost view = { λ s. s.entries.entries };
 
-    ghost invariant = { λ s. IsStrictlySortedBy (slice_cmp nat_cmp) (keys_of s.entries.entries) };
+    ghost invariant = { λ s. IsIntentTable s.entries.entries };
 }
 
 impl Intents {
@@ -61,16 +59,39 @@ impl Intents {
 
     /// The intent at a key.
     pub fn at(&self, key: &Key) -> Option<&Intent>
-        ensures { option_copied result ≡ intent_at key.now self.now }
+        ensures found { option_copied result ≡ intent_at key.now self.now }
+        ensures rises { IfSome result (λ intent. WritesRise intent.now) }
     {
         self.entries.get(key)
     }
 
     /// The transaction's own intent at a key.
     pub fn own_at(&self, id: TxnId, key: &Key) -> Option<&Intent>
-        ensures { option_copied result ≡ own_at id key.now self.now }
+        ensures found { option_copied result ≡ own_at id key.now self.now }
+        ensures rises { IfSome result (λ intent. WritesRise intent.now) }
     {
         self.at(key).filter(|intent| intent.meta.id == id)
+    }
+
+    /// What the transaction's own intent of this epoch says at a key, by its writes up to this sequence.
+    pub fn own_value(&self, id: TxnId, epoch: u32, seq: u32, key: &Key) -> Option<&Option<Value>>
+        ensures { option_copied result ≡ option_and_then (value_by seq) (kept_if (λ i. i.meta.epoch == epoch) (own_at id key.now self.now)) }
+    {
+        match self.own_at(id, key) {
+            Some(own) if own.meta.epoch == epoch => value_by(own, seq),
+            _ => None,
+        }
+    }
+
+    /// Whether the transaction's own intent at a key is of this epoch, has this sequence or a later one, and lies at or below
+    /// this timestamp.
+    pub fn stands(&self, id: TxnId, epoch: u32, seq: u32, ts: Timestamp, key: &Key) -> bool
+        ensures { result ≡ is_found epoch seq ts (own_at id key.now self.now) }
+    {
+        match self.own_at(id, key) {
+            Some(own) => is_it(own, epoch, seq, ts),
+            None => false,
+        }
     }
 
     /// Another transaction's intent at a key.
@@ -104,29 +125,6 @@ impl Intents {
             keys.insert(key.copy()?)?;
         }
         Ok(())
-    }
-
-    /// Lays a write: one more of the transaction's intent of this epoch, or the first one.
-    pub fn lay(
-        &mut self,
-        meta: TxnMeta,
-        seq: u32,
-        ts: Timestamp,
-        key: Key,
-        value: Option<Value>,
-    ) -> Result<(), NoMemory>
-        requires { other_at meta.id key self.old ≡ None }
-        ensures ok { OnOk result (self.new ≡ insert_entry (slice_cmp nat_cmp) self.old key (with_write meta seq ts value (own_at meta.id key self.old))) }
-        ensures err { OnErr result (self.new ≡ self.old) }
-    {
-        match self.entries.get_mut(&key) {
-            Some(intent) => add_write(self.alloc, intent, meta, seq, ts, value),
-            None => {
-                let intent = fresh(self.alloc, meta, seq, ts, value)?;
-                self.entries.insert(key, intent)?;
-                Ok(())
-            }
-        }
     }
 
     /// Lays a copy of a write where no other transaction's intent stands and no later write of the transaction has overtaken it,

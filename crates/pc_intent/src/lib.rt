@@ -5,6 +5,6 @@ mod intent;
 mod intents;
 mod settle;
 
-pub use intent::{conflict, last_seq, last_value, value_by};
+pub use intent::conflict;
 pub use intents::Intents;
 pub use pc_proto::{History, Intent};

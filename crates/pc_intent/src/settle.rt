@@ -4,6 +4,7 @@
 ghost use Rattle.std.specs.Prelude.{◌≡◌, IfOk, OnOk, OnErr, fold};
 ghost use Rattle.std.specs.Option.{option_to_list};
 ghost use Rattle.pc_base.specs.Versions.{with_version};
+ghost use Rattle.pc_intent.specs.Rising.{WritesRise};
 ghost use Rattle.pc_world.specs.Evaluation.Resolve.{is_committed_by, versions_of};
 
 use crate::intent::last_value;
@@ -19,6 +20,7 @@ pub(crate) fn keep(
     fate: Fate,
     versions: &mut Versions,
 ) -> Result<(), NoMemory>
+    requires { WritesRise own.now }
     ensures ok { OnOk result (versions.new ≡ fold with_version versions.old (versions_of id key.now fate own.now)) }
     ensures err { OnErr result (versions.new ≡ versions.old) }
 {
@@ -30,6 +32,7 @@ pub(crate) fn keep(
 
 /// The version that the intent becomes, if it becomes one.
 fn version_of(own: &Intent, id: TxnId, key: &Key, fate: Fate) -> Result<Option<Version>, NoMemory>
+    requires { WritesRise own.now }
     ensures { IfOk result (λ made. option_to_list made ≡ versions_of id key.now fate own.now) }
 {
     let Fate::Committed { epoch, ts } = fate else {

@@ -16,5 +16,5 @@ returns c =
     find_from_yields_List (λ (e : List ℕ × Intent). nat_le e.1.ts c.args.ts && not (same_txn e.1.meta.id c.args.id)) _ _ _ c.find.ensures.ran
     (YieldsList-from_rest (filter (λ (e : List ℕ × Intent). contains c.args.span.now e.0) es) inside) (λ x b q k. search (rules, tests))
     ∙ (found_kept (λ (e : List ℕ × Intent). contains c.args.span.now e.0) (λ e. nat_le e.1.ts c.args.ts && not (same_txn e.1.meta.id c.args.id)) es
-    ∙ (first_is_least (is_met c.args.span.now c.args.ts c.args.id) es c.self.invariant
+    ∙ (first_is_least (is_met c.args.span.now c.args.ts c.args.id) es c.self.invariant.keys
     ∙ ap (first_other c.args.span.now c.args.ts c.args.id) c.self.view_is))

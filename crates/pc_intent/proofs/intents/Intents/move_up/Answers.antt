@@ -1,4 +1,4 @@
-use Rattle.std.proofs.Common.{◌≡◌, ℕ, max, List, Some, None, true, false, sym, ap, ◌∙◌, rules}
+use Rattle.std.proofs.Common.{◌≡◌, ℕ, max, List, Some, None, true, false, sym, ap, subst, ◌∙◌, rules}
 use Rattle.std.proofs.lemmas.Map.Steps.{set_value_same}
 use Rattle.std.specs.BTreeMap.{BTreeMap, insert_entry, is_at}
 use Rattle.std.specs.Cmp.Lexicographic.{slice_cmp}
@@ -8,7 +8,9 @@ use Rattle.pc_base.specs.declared.key.Key.{Key}
 use Rattle.pc_base.specs.Transaction.{same_txn}
 use Rattle.pc_proto.specs.declared.record.Intent.{Intent}
 use Rattle.pc_proto.specs.Intents.{own_at}
-use Rattle.pc_intent.proofs.Laying.{own_is_not, own_is_nothing, own_is_there}
+use Rattle.pc_intent.proofs.OwnIntent.{own_is_not, own_is_nothing, own_is_there}
+use Rattle.pc_intent.proofs.Rising.{found_rises, table_after_set}
+use Rattle.pc_intent.specs.Rising.{IsIntentTable}
 use Rattle.pc_intent.proofs.intents.Intents.move_up.Goals as goal
 
 pub returns-in_default : goal.returns-in_default
@@ -39,6 +41,23 @@ returns c =
     let most : c.max-intent.result ≡ max i.ts c.args.ts = search rules in
     rw own
     ((c.get_mut.follows.holds (record { meta = i.meta; ts = c.max-intent.result; history = i.history })).0
-    ∙ (key_written key es i (record { meta = i.meta; ts = c.max-intent.result; history = i.history }) c.self.invariant (sym c.in-Some.ensures.value)
+    ∙ (key_written key es i (record { meta = i.meta; ts = c.max-intent.result; history = i.history }) c.self.invariant.keys (sym c.in-Some.ensures.value)
     ∙ (ap (λ (n : ℕ). insert_entry (slice_cmp nat_cmp) es key (record { meta = i.meta; ts = n; history = i.history })) most
     ∙ ap (λ (es : List (List ℕ × Intent)). insert_entry (slice_cmp nat_cmp) es key (record { meta = i.meta; ts = max i.ts c.args.ts; history = i.history })) is)))
+
+pub invariant_of-self-then-ne : goal.invariant_of-self-then-ne
+invariant_of-self-then-ne c =
+    let es : List (List ℕ × Intent) = c.self.inside.entries.entries in
+    let test = is_at (slice_cmp nat_cmp c.args.key.now) in
+    let i : Intent = c.in-Some.intent.now in
+    let rise = found_rises test es i c.self.invariant.writes (sym c.in-Some.ensures.value) in
+    subst IsIntentTable (sym (c.get_mut.follows.holds i).0) (table_after_set test es i c.self.invariant rise)
+
+pub invariant_of-self-2 : goal.invariant_of-self-2
+invariant_of-self-2 c =
+    let es : List (List ℕ × Intent) = c.self.inside.entries.entries in
+    let test = is_at (slice_cmp nat_cmp c.args.key.now) in
+    let i : Intent = c.in-Some.intent.now in
+    let moved : Intent = record { meta = i.meta; ts = c.max-intent.result; history = i.history } in
+    let rise = found_rises test es i c.self.invariant.writes (sym c.in-Some.ensures.value) in
+    subst IsIntentTable (sym (c.get_mut.follows.holds moved).0) (table_after_set test es moved c.self.invariant rise)
