@@ -119,7 +119,7 @@ ends 'no input' 5 'pcommit: workload refused: W1'
 call run < <(printf x)
 ends 'no JSON' 5 'pcommit: workload refused: W1'
 call run < <(printf '{}')
-ends 'no workload' 5 'pcommit: workload refused: W10'
+ends 'no workload' 5 'pcommit: workload refused: W2'
 call run < <(head -c 16777217 /dev/zero)
 ends 'an input that is too long' 7 'pcommit: more than 16777216 bytes'
 call check < <(head -c 268435457 /dev/zero)

@@ -61,20 +61,24 @@ while read -r number workload; do
     same "the workload $workload" "$number" "$(printf '%s' "$workload" | number_of)"
 done <"$rows/accepted.txt"
 same 'a text that is no UTF-8' 1 "$(printf '"\377"' | number_of)"
-same '127 lists in one another' 10 "$({ printf '[%.0s' {1..127}; printf ']%.0s' {1..127}; } | number_of)"
+same '127 lists in one another' 2 "$({ printf '[%.0s' {1..127}; printf ']%.0s' {1..127}; } | number_of)"
 same '128 lists in one another' 1 "$({ printf '[%.0s' {1..128}; printf ']%.0s' {1..128}; } | number_of)"
 head='{"version":1,"pipelining":false,"turns":[],"sessions":'
 clock='"clock":{"start":10,"step":1}'
 session="{$clock,\"script\":[{\"do\":[]}]}"
 letters=$(printf 'k%.0s' {1..64})
 same 'a key of 64 letters' 0 "$(number_of <<<"$head[{$clock,\"script\":[{\"do\":[{\"put\":[\"$letters\",\"x\"]}]}]}]}")"
-same 'a key of 65 letters' 10 "$(number_of <<<"$head[{$clock,\"script\":[{\"do\":[{\"put\":[\"k$letters\",\"x\"]}]}]}]}")"
-same 'no session' 10 "$(number_of <<<"$head[]}")"
+same 'a key of 65 letters' 6 "$(number_of <<<"$head[{$clock,\"script\":[{\"do\":[{\"put\":[\"k$letters\",\"x\"]}]}]}]}")"
+same 'no session' 5 "$(number_of <<<"$head[]}")"
 same '64 sessions' 0 "$(number_of <<<"$head[$(repeated "$session" 64)]}")"
-same '65 sessions' 10 "$(number_of <<<"$head[$(repeated "$session" 65)]}")"
+same '65 sessions' 5 "$(number_of <<<"$head[$(repeated "$session" 65)]}")"
 # (an empty transaction counts as two statements, its begin and its end)
 same '100,000 statements' 0 "$(number_of <<<"$head[{$clock,\"script\":[$(repeated '{"do":[]}' 50000)]}]}")"
-same '100,002 statements' 10 "$(number_of <<<"$head[{$clock,\"script\":[$(repeated '{"do":[]}' 50001)]}]}")"
+same '100,002 statements' 8 "$(number_of <<<"$head[{$clock,\"script\":[$(repeated '{"do":[]}' 50001)]}]}")"
+
+same '100,000 statements, an add among them' 0 "$(number_of <<<"$head[{$clock,\"script\":[$(repeated '{"do":[]}' 49998),{\"do\":[{\"add\":[\"a\",1]}]}]}]}")"
+same '100,001 statements, an add among them' 8 "$(number_of <<<"$head[{$clock,\"script\":[$(repeated '{"do":[]}' 49998),{\"do\":[{\"get\":\"a\"},{\"add\":[\"a\",1]}]}]}]}")"
+same '1,000,001 turns' 7 "$(number_of <<<"{\"version\":1,\"sessions\":[$session],\"turns\":[$(yes '"s2"' | head -n 1000001 | paste -sd,)]}")"
 
 # What a session is told of its learns, and where its transactions begin. The first session of `lagging` writes; the second one's clock lags, and it learns of that
 # write's commit before it begins. The session of `own` learns of its own commit, once before it and once behind it.

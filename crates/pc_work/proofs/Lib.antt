@@ -1,9 +1,17 @@
 pub mod Accepted
+pub mod Answering
+pub mod Complete
 pub mod Digits
+pub mod Judging
 pub mod Learns
 pub mod Loop
 pub mod Names
+pub mod Numbers
+pub mod Only
 pub mod Opening
 pub mod Pairs
+pub mod Refused
+pub mod RightParts
 pub mod Rises
+pub mod Sole
 pub mod Turns

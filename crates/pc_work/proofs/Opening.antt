@@ -1,16 +1,15 @@
 -- How many items the first session has, against the count of all statements.
-use Rattle.std.proofs.Common.{◌≡◌, ℕ, ◌+◌, ◌^◌, ◌≤◌, ◌<◌, ◌==◌, ◌&&◌, true, nat_le, Option, List, [], ◌∷◌, length, sum_by, arith}
-use Rattle.std.specs.List.{list_all}
+use Rattle.std.proofs.Common.{◌≡◌, ◌+◌, ◌^◌, ◌≤◌, ◌<◌, nat_le, None, List, [], ◌∷◌, length, sum_by, arith}
 use Rattle.std.proofs.lemmas.Bool.{and_parts, leb-true}
 use Rattle.std.proofs.lemmas.List.Sums.{sum_by-cons}
-use Rattle.pc_base.specs.declared.limits.TheConstants.{MOST_SESSIONS, MOST_STATEMENTS}
+use Rattle.pc_base.specs.declared.limits.TheConstants.{MOST_STATEMENTS}
 use Rattle.pc_work.specs.Count.{item_count, session_count}
-use Rattle.pc_work.specs.Workload.{are_others_within, first_items, is_script_there, is_within_limits, are_sessions}
+use Rattle.pc_work.specs.Together.{are_few_turns, first_items, together_refusal}
 use Rattle.pc_work.specs.declared.item.Item.{Item}
 use Rattle.pc_work.specs.declared.item.Item.TheVariants.{Learn, Txn}
-use Rattle.pc_work.specs.declared.recoverer.RecovererWork.{RecovererWork}
 use Rattle.pc_work.specs.declared.session.SessionWork.{SessionWork}
-use Rattle.pc_work.specs.declared.turn.Turn.{Turn}
+use Rattle.pc_work.specs.declared.stated.Stated.{Stated}
+use Rattle.pc_work.proofs.Refused.{together_holds}
 
 item_counts : (item : Item) → 1 ≤ item_count item
 item_counts (Learn id) = omega arith
@@ -29,13 +28,10 @@ first_counts (first ∷ others) =
     goal
 
 -- An opening that is within its limit fits 32 bits.
-pub opening_fits : (version : ℕ) (opening : ℕ) (sessions : List SessionWork) (recoverers : List RecovererWork) (turns : Option (List Turn)) → is_within_limits version opening sessions recoverers turns ≡ true → opening < 2 ^ 32
-opening_fits version opening sessions recoverers turns e =
-    let all_but_opening = and_parts (version == 1 && are_sessions sessions && are_others_within sessions recoverers turns && list_all (is_script_there (length sessions) turns) sessions) (nat_le opening (first_items sessions)) e in
-    let all_but_learns = and_parts (version == 1 && are_sessions sessions && are_others_within sessions recoverers turns) (list_all (is_script_there (length sessions) turns) sessions) all_but_opening.0 in
-    let all_but_turns = and_parts (version == 1 && are_sessions sessions) (are_others_within sessions recoverers turns) all_but_learns.0 in
-    let all_but_sessions = and_parts (version == 1) (are_sessions sessions) all_but_turns.0 in
-    let counted = and_parts (nat_le 1 (length sessions) && nat_le (length sessions) MOST_SESSIONS) (nat_le (sum_by session_count sessions) MOST_STATEMENTS) all_but_sessions.1 in
-    let few = leb-true (sum_by session_count sessions) MOST_STATEMENTS counted.1 in
-    let within = leb-true opening (first_items sessions) all_but_opening.1 in
-    omega (arith, few, within, first_counts sessions)
+pub opening_fits : (stated : Stated) → together_refusal stated ≡ None → stated.opening < 2 ^ 32
+opening_fits stated none =
+    let facts = together_holds stated none in
+    let numbers = and_parts (nat_le stated.opening (first_items stated.sessions)) (are_few_turns stated.turns) facts.0 in
+    let few = leb-true (sum_by session_count stated.sessions) MOST_STATEMENTS facts.1.0 in
+    let within = leb-true stated.opening (first_items stated.sessions) numbers.0 in
+    omega (arith, few, within, first_counts stated.sessions)

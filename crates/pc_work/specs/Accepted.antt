@@ -1,14 +1,15 @@
 -- The form of a workload that is accepted, as a fact about the workload itself: what runs it may rest on it, once all such workloads are run.
-use Rattle.std.specs.Prelude.{◌≡◌, ◌≤◌, ℕ, false, length, sum_by, IfSome, None, All, ⊤}
-use Rattle.pc_base.specs.declared.limits.TheConstants.{DEFAULT_TRIES, LEAST_ENTRIES, MOST_ENTRIES, MOST_RECOVERERS, MOST_RERUNS, MOST_SESSIONS, MOST_SPLITS, MOST_STATEMENTS}
+use Rattle.std.specs.Prelude.{◌≡◌, ◌≤◌, ℕ, length, sum_by, IfSome, None, All, ⊤}
+use Rattle.pc_base.specs.declared.limits.TheConstants.{LEAST_ENTRIES, MOST_ENTRIES, MOST_RECOVERERS, MOST_RERUNS, MOST_SESSIONS, MOST_SPLITS, MOST_STATEMENTS}
 use Rattle.pc_base.specs.Rising.{AreRising}
 use Rattle.pc_work.specs.Named.{AreTurnsOf, IsItemOf}
 use Rattle.pc_work.specs.Count.{session_count}
 use Rattle.pc_work.specs.Recoverer.{IsRecovererWithin}
 use Rattle.pc_work.specs.Stop.{IsStop}
-use Rattle.pc_work.specs.Workload.{first_items}
+use Rattle.pc_work.specs.Together.{first_items}
 use Rattle.pc_work.specs.declared.item.Item.{Item}
 use Rattle.pc_work.specs.declared.item.Item.TheVariants.{Learn, Txn}
+use Rattle.pc_work.specs.declared.limits.TheConstants.{MOST_TRIES}
 use Rattle.pc_work.specs.declared.session.SessionWork.{SessionWork}
 use Rattle.pc_work.specs.declared.workload.Workload.{Workload}
 
@@ -29,8 +30,7 @@ IsTransaction (Txn priority statements commits) = ⊤
 abbrev pub HasTransactions : SessionWork → Type 0
 HasTransactions session = All IsTransaction session.script
 
--- Of a workload that is read the numbers, sessions, recoverers and turns are within their limits, and what it cannot state is at its
--- default.
+-- Of a workload that is read the numbers, sessions, recoverers and turns are within their limits.
 pub record IsAccepted (work : Workload) : Type 0 where
   -- The version is the one that is known.
   pub version : work.version ≡ 1
@@ -40,8 +40,8 @@ pub record IsAccepted (work : Workload) : Type 0 where
   pub few_splits : length work.splits ≤ MOST_SPLITS
   -- The limit of an actor's entries is between its own limits.
   pub limit : (LEAST_ENTRIES ≤ work.limit) × (work.limit ≤ MOST_ENTRIES)
-  -- The tries of a request are the default ones.
-  pub tries : work.tries ≡ DEFAULT_TRIES
+  -- A request is tried once at least, and no more often than the limit.
+  pub tries : (1 ≤ work.tries) × (work.tries ≤ MOST_TRIES)
   -- The reruns are no more than their limit.
   pub reruns : work.reruns ≤ MOST_RERUNS
   -- No more items run ahead than the first session has.

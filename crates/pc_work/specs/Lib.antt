@@ -1,6 +1,7 @@
 -- What bytes are as a workload, and how large a workload is.
 pub mod Accepted
 pub mod Amount
+pub mod Answered
 pub mod Clock
 pub mod Count
 pub mod Ending
@@ -13,11 +14,21 @@ pub mod Number
 pub mod Priority
 pub mod Reading
 pub mod Recoverer
+pub mod Refusal
+pub mod RefusedActor
+pub mod RefusedItem
+pub mod RefusedStatement
+pub mod RefusedTexts
+pub mod RefusedWire
+pub mod RefusedWork
 pub mod Session
+pub mod Sole
 pub mod Span
 pub mod Splits
+pub mod Stated
 pub mod Statement
 pub mod Stop
 pub mod Texts
+pub mod Together
 pub mod Turn
 pub mod Workload

@@ -11,9 +11,9 @@ use Rattle.pc_work.specs.Stop.{IsStop, stop_of}
 use Rattle.pc_work.specs.declared.recoverer.RecovererWork.{RecovererWork}
 use Rattle.pc_base.specs.declared.limits.TheConstants.{DEFAULT_ROUNDS, MOST_ROUNDS}
 
--- The names of a recoverer's members, none of which is required.
+-- The names of a recoverer's members, none of which is required. A wire is judged and not read, since none is accepted yet.
 abbrev pub recoverer_names : List (List ℕ)
-recoverer_names = codes "clock" ∷ codes "level" ∷ codes "rounds" ∷ codes "stop" ∷ []
+recoverer_names = codes "clock" ∷ codes "level" ∷ codes "rounds" ∷ codes "stop" ∷ codes "wire" ∷ []
 
 -- The recoverer that a value states: an object, at the normal level and with one round unless it states otherwise, with a clock where it is not
 -- the one that is handed in, and with a stop where it has one.

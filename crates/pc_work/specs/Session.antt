@@ -11,9 +11,9 @@ use Rattle.pc_work.specs.Item.{item_of}
 use Rattle.pc_work.specs.Stop.{stop_of}
 use Rattle.pc_work.specs.declared.session.SessionWork.{SessionWork}
 
--- The names of a session's members, of which the script is required.
+-- The names of a session's members, of which the script is required. A wire is judged and not read, since none is accepted yet.
 abbrev pub session_names : List (List ℕ)
-session_names = codes "clock" ∷ codes "script" ∷ codes "stop" ∷ []
+session_names = codes "clock" ∷ codes "script" ∷ codes "stop" ∷ codes "wire" ∷ []
 
 -- The session that a value states: an object with a script, a clock where it is not the one that is handed in, and a stop where it has one.
 unfoldable pub session_of : Data → Option SessionWork

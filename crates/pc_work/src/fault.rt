@@ -5,8 +5,7 @@ use thiserror::Error;
 /// Why bytes are no workload.
 #[derive(Clone, Copy, Debug, PartialEq, Eq, Error)]
 pub enum WorkFault {
-    /// The least number of a refusal that applies: 1 where the bytes are no JSON, 10 where the value is of another form
-    /// than a workload's.
+    /// The least number of a refusal that applies: 1 where the bytes are no JSON, and else that of a rule which the value breaks.
     #[error("workload refused: W{number}")]
     Refused { number: u8 },
     /// Memory ran out before the answer was known.

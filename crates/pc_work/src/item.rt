@@ -2,13 +2,16 @@ ghost use Rattle.std.specs.Prelude.{◌≡◌};
 ghost use Rattle.serde_json.specs.View.{view};
 ghost use Rattle.pc_work.specs.Item.{item_of, txn_item};
 ghost use Rattle.pc_work.specs.Reading.{Gives};
-ghost use Rattle.pc_work.specs.Workload.{is_item_there};
+ghost use Rattle.pc_work.specs.RefusedItem.{item_refusal, txn_refusal};
+ghost use Rattle.pc_work.specs.Together.{is_item_there};
 
-use crate::ending::commits_or_true;
+use crate::ending::{Ending, commits_or_true};
 use crate::fault::Misfit;
 use crate::json::{FromJson, has_only, list, member};
+use crate::judge::{Judged, in_member, in_stated};
 use crate::learn::learn_item;
 use crate::priority::priority_or_normal;
+use crate::refusal::{OTHER_FORM, least};
 use crate::statement::Statements;
 use crate::turn::Turns;
 use pc_base::{Items, Priority, TxnId};
@@ -74,4 +77,31 @@ fn txn_item(alloc: Global, json: &Json) -> Result<Item, Misfit>
         statements,
         commits,
     })
+}
+
+impl Judged for Item {
+    ghost refusal_in = { item_refusal };
+
+    #[tactic(auto, unfolding(crate::specs::RefusedItem::item_refusal))]
+    fn refusal(json: &Json) -> Option<u8> {
+        if has_only(json, &["learn"]) {
+            in_member::<TxnId>(json, "learn")
+        } else {
+            txn_refusal(json)
+        }
+    }
+}
+
+/// Which rule a transaction breaks.
+#[tactic(auto, unfolding(crate::specs::RefusedItem::txn_refusal))]
+fn txn_refusal(json: &Json) -> Option<u8>
+    ensures { result ≡ txn_refusal (view json.now) }
+{
+    if !has_only(json, &["do", "priority", "end"]) {
+        return Some(OTHER_FORM);
+    }
+    let statements = in_member::<Statements>(json, "do");
+    let priority = in_stated::<Priority>(json, "priority");
+    let ending = in_stated::<Ending>(json, "end");
+    least(statements, least(priority, ending))
 }

@@ -1,12 +1,13 @@
-ghost use Rattle.std.specs.Prelude.{◌≡◌, Option, map, string_bytes};
+ghost use Rattle.std.specs.Prelude.{◌≡◌, IfNone, IfSome, Option, map, option_map, string_bytes};
 ghost use Rattle.std.specs.List.{list_all};
 ghost use Rattle.std.specs.BTreeMap.{keys};
-ghost use Rattle.serde_json.specs.Data.{Data};
+ghost use Rattle.serde_json.specs.Data.{Data, object};
 ghost use Rattle.serde_json.specs.Find.{get, as_bool};
-ghost use Rattle.serde_json.specs.View.{view, items_view};
+ghost use Rattle.serde_json.specs.View.{view, items_view, members_view};
 ghost use Rattle.pc_work.specs.Reading.{Gives, GivesBy};
 ghost use Rattle.pc_work.specs.Lists.{items_by, list_by, two_of, pair_of};
-ghost use Rattle.pc_work.specs.Members.{is_among, has_only, whole_between, whole_of, whole_up_to, whole_in};
+ghost use Rattle.pc_work.specs.Members.{is_among, has_only, whole_between, whole_of, whole_up_to};
+ghost use Rattle.pc_work.specs.Sole.{sole, HasNoSole};
 
 use crate::fault::Misfit;
 use pc_base::Items;
@@ -34,6 +35,25 @@ fn is_among(name: &str, names: &[&str]) -> bool
     ensures { result ≡ is_among (map (λ name. name.now) names.now) name.now }
 {
     names.contains(&name)
+}
+
+/// The name and the value of an object's only member, where it has exactly one.
+pub(crate) fn sole(json: &Json) -> Option<(&str, &Json)>
+    ensures some { IfSome result (λ found. view json.now ≡ sole found.0.now (view found.1.now)) }
+    ensures none { IfNone result (HasNoSole (view json.now)) }
+{
+    sole_of(json.as_object()?)
+}
+
+fn sole_of(members: &Map<String, Json>) -> Option<(&str, &Json)>
+    ensures some { IfSome result (λ found. object (members_view members.now.entries) ≡ sole found.0.now (view found.1.now)) }
+    ensures none { IfNone result (HasNoSole (object (members_view members.now.entries))) }
+{
+    if members.len() != 1 {
+        return None;
+    }
+    let (name, value) = members.first_key_value()?;
+    Some((name.as_str(), value))
 }
 
 /// The member of this name.
@@ -72,13 +92,6 @@ pub(crate) fn whole_between(json: &Json, least: u64, most: u64) -> Result<u64, M
     Ok(number)
 }
 
-/// The whole number in the member of this name.
-pub(crate) fn whole_member(json: &Json, name: &str) -> Result<u64, Misfit>
-    ensures { Gives result (whole_in name.now (view json.now)) }
-{
-    whole(member(json, name)?)
-}
-
 /// The truth value that this is.
 pub(crate) fn flag(json: &Json) -> Result<bool, Misfit>
     ensures { Gives result (as_bool (view json.now)) }
@@ -114,19 +127,26 @@ fn all_of<T: FromJson>(alloc: Global, values: &[Json]) -> Result<Vec<T>, Misfit>
 }
 
 /// The two items of a list of exactly two.
-#[tactic(auto, unfolding(crate::specs::Lists::pair_of))]
 pub(crate) fn pair(json: &Json) -> Result<(&Json, &Json), Misfit>
     ensures { GivesBy (λ both. (view both.0.now, view both.1.now)) result (pair_of (view json.now)) }
 {
-    two(json.as_array().ok_or(Misfit::OtherForm)?.as_slice())
+    two_of(json).ok_or(Misfit::OtherForm)
+}
+
+/// The two items of a list of exactly two, where it is one.
+#[tactic(auto, unfolding(crate::specs::Lists::pair_of))]
+pub(crate) fn two_of(json: &Json) -> Option<(&Json, &Json)>
+    ensures { option_map (λ both. (view both.0.now, view both.1.now)) result ≡ pair_of (view json.now) }
+{
+    two(json.as_array()?.as_slice())
 }
 
 #[tactic(auto, using(crate::proofs::Pairs::two_of_none))]
-fn two(values: &[Json]) -> Result<(&Json, &Json), Misfit>
-    ensures { GivesBy (λ both. (view both.0.now, view both.1.now)) result (two_of (items_view values.now)) }
+fn two(values: &[Json]) -> Option<(&Json, &Json)>
+    ensures { option_map (λ both. (view both.0.now, view both.1.now)) result ≡ two_of (items_view values.now) }
 {
     if values.len() != 2 {
-        return Err(Misfit::OtherForm);
+        return None;
     }
-    Ok((&values[0], &values[1]))
+    Some((&values[0], &values[1]))
 }

@@ -2,10 +2,13 @@ ghost use Rattle.std.specs.Prelude.{◌≡◌};
 ghost use Rattle.serde_json.specs.View.{view};
 ghost use Rattle.pc_work.specs.Learn.{learn_item, learnt_in, positive_in};
 ghost use Rattle.pc_work.specs.Reading.{Gives};
+ghost use Rattle.pc_work.specs.RefusedTexts.{learn_refusal};
 
 use crate::fault::Misfit;
 use crate::item::Item;
+use crate::judge::Judged;
 use crate::number::is_number;
+use crate::refusal::{OTHER_FORM, WRONG_TEXT, unless};
 use pc_base::TxnId;
 use serde_json::Value as Json;
 
@@ -39,5 +42,16 @@ fn positive_in(text: &str) -> Option<u32>
     match text.parse::<u32>() {
         Ok(number) if number >= 1 => Some(number),
         _ => None,
+    }
+}
+
+impl Judged for TxnId {
+    ghost refusal_in = { learn_refusal };
+
+    fn refusal(json: &Json) -> Option<u8> {
+        match json.as_str() {
+            Some(text) => unless(learnt_in(text).is_some(), WRONG_TEXT),
+            None => Some(OTHER_FORM),
+        }
     }
 }

@@ -3,8 +3,11 @@ ghost use Rattle.serde_json.specs.View.{view};
 ghost use Rattle.pc_work.specs.Reading.{Gives};
 ghost use Rattle.pc_work.specs.Members.{member_or};
 ghost use Rattle.pc_work.specs.Priority.{priority_in, priority_of};
+ghost use Rattle.pc_work.specs.RefusedItem.{priority_refusal};
 
 use crate::fault::Misfit;
+use crate::judge::Judged;
+use crate::refusal::{OTHER_FORM, unless};
 use pc_base::Priority;
 use serde_json::Value as Json;
 
@@ -21,8 +24,21 @@ pub(crate) fn priority_or_normal(json: &Json, name: &str) -> Result<Priority, Mi
 fn priority_of(json: &Json) -> Result<Priority, Misfit>
     ensures { Gives result (priority_of (view json.now)) }
 {
-    let text = json.as_str().ok_or(Misfit::OtherForm)?;
-    priority_in(text).ok_or(Misfit::OtherForm)
+    priority_if(json).ok_or(Misfit::OtherForm)
+}
+
+fn priority_if(json: &Json) -> Option<Priority>
+    ensures { result ≡ priority_of (view json.now) }
+{
+    priority_in(json.as_str()?)
+}
+
+impl Judged for Priority {
+    ghost refusal_in = { priority_refusal };
+
+    fn refusal(json: &Json) -> Option<u8> {
+        unless(priority_if(json).is_some(), OTHER_FORM)
+    }
 }
 
 #[tactic(auto, unfolding(crate::specs::Priority::priority_in))]

@@ -3,13 +3,17 @@ ghost use Rattle.pc_work.specs.Members.{member_or, whole_up_to};
 ghost use Rattle.pc_base.specs.declared.limits.TheConstants.{DEFAULT_ROUNDS, MOST_ROUNDS};
 ghost use Rattle.pc_work.specs.Reading.{Gives};
 ghost use Rattle.pc_work.specs.Recoverer.{recoverer_of};
+ghost use Rattle.pc_work.specs.RefusedActor.{recoverer_refusal};
 
 use crate::clock::{ClockWork, clock_if};
 use crate::fault::Misfit;
 use crate::json::{FromJson, has_only, whole_up_to};
+use crate::judge::{Judged, in_number, in_stated};
 use crate::priority::priority_or_normal;
+use crate::refusal::{OTHER_FORM, least};
 use crate::stop::stop_if;
-use pc_base::limits::{DEFAULT_ROUNDS, MOST_ROUNDS};
+use crate::wire::Wire;
+use pc_base::limits::{DEFAULT_ROUNDS, MOST_ENTRIES, MOST_ROUNDS};
 use pc_base::{Items, Priority};
 use serde_json::Value as Json;
 use std::alloc::Global;
@@ -35,7 +39,7 @@ impl FromJson for RecovererWork {
 
     #[tactic(auto, unfolding(crate::specs::Recoverer::recoverer_of))]
     fn from_json(_alloc: Global, json: &Json) -> Result<RecovererWork, Misfit> {
-        if !has_only(json, &["clock", "level", "rounds", "stop"]) {
+        if !has_only(json, &["clock", "level", "rounds", "stop", "wire"]) {
             return Err(Misfit::OtherForm);
         }
         let clock = clock_if(json, "clock")?;
@@ -58,5 +62,22 @@ fn rounds_or_one(json: &Json, name: &str) -> Result<u32, Misfit>
     match json.get(name) {
         Some(stated) => whole_up_to(stated, MOST_ROUNDS),
         None => Ok(DEFAULT_ROUNDS),
+    }
+}
+
+impl Judged for RecovererWork {
+    ghost refusal_in = { recoverer_refusal };
+
+    #[tactic(auto, unfolding(crate::specs::RefusedActor::recoverer_refusal))]
+    fn refusal(json: &Json) -> Option<u8> {
+        if !has_only(json, &["clock", "level", "rounds", "stop", "wire"]) {
+            return Some(OTHER_FORM);
+        }
+        let clock = in_stated::<ClockWork>(json, "clock");
+        let level = in_stated::<Priority>(json, "level");
+        let rounds = in_number(json, "rounds", 0, u64::from(MOST_ROUNDS));
+        let wire = in_stated::<Wire>(json, "wire");
+        let stop = in_number(json, "stop", 1, MOST_ENTRIES);
+        least(clock, least(level, least(rounds, least(wire, stop))))
     }
 }

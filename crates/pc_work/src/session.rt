@@ -1,11 +1,16 @@
+ghost use Rattle.pc_work.specs.RefusedActor.{session_refusal};
 ghost use Rattle.pc_work.specs.Session.{session_of};
 
 use crate::clock::{ClockWork, clock_if};
 use crate::fault::Misfit;
 use crate::item::Script;
 use crate::json::{FromJson, has_only, list, member};
+use crate::judge::{Judged, in_member, in_number, in_stated};
+use crate::refusal::{OTHER_FORM, least};
 use crate::stop::stop_if;
+use crate::wire::Wire;
 use pc_base::Items;
+use pc_base::limits::MOST_ENTRIES;
 use serde_json::Value as Json;
 use std::alloc::Global;
 
@@ -27,7 +32,7 @@ impl FromJson for SessionWork {
 
     #[tactic(auto, unfolding(crate::specs::Session::session_of))]
     fn from_json(alloc: Global, json: &Json) -> Result<SessionWork, Misfit> {
-        if !has_only(json, &["clock", "script", "stop"]) {
+        if !has_only(json, &["clock", "script", "stop", "wire"]) {
             return Err(Misfit::OtherForm);
         }
         let clock = clock_if(json, "clock")?;
@@ -38,5 +43,21 @@ impl FromJson for SessionWork {
             clock,
             stop,
         })
+    }
+}
+
+impl Judged for SessionWork {
+    ghost refusal_in = { session_refusal };
+
+    #[tactic(auto, unfolding(crate::specs::RefusedActor::session_refusal))]
+    fn refusal(json: &Json) -> Option<u8> {
+        if !has_only(json, &["clock", "script", "stop", "wire"]) {
+            return Some(OTHER_FORM);
+        }
+        let clock = in_stated::<ClockWork>(json, "clock");
+        let stop = in_number(json, "stop", 1, MOST_ENTRIES);
+        let wire = in_stated::<Wire>(json, "wire");
+        let script = in_member::<Script>(json, "script");
+        least(clock, least(stop, least(wire, script)))
     }
 }

@@ -1,10 +1,15 @@
+ghost use Rattle.std.specs.Prelude.{◌≡◌};
 ghost use Rattle.serde_json.specs.View.{view};
 ghost use Rattle.pc_work.specs.Reading.{Gives};
+ghost use Rattle.pc_work.specs.RefusedStatement.{add_refusal, put_refusal, statement_refusal};
+ghost use Rattle.pc_work.specs.Sole.{refusal_named, statement_named};
 ghost use Rattle.pc_work.specs.Statement.{add_statement, delete_statement, get_statement, put_statement, scan_statement, statement_of};
 
-use crate::amount::amount_of;
+use crate::amount::{amount_of, amount_refusal};
 use crate::fault::Misfit;
-use crate::json::{FromJson, has_only, member, pair};
+use crate::json::{FromJson, pair, sole, two_of};
+use crate::judge::Judged;
+use crate::refusal::{OTHER_FORM, least};
 use crate::span::span_of;
 use pc_base::{Items, Key, Span, Value};
 use serde_json::Value as Json;
@@ -27,21 +32,26 @@ pub type Statements = Items<Statement>;
 impl FromJson for Statement {
     ghost found_in = { statement_of };
 
-    #[tactic(auto, unfolding(crate::specs::Statement::statement_of))]
     fn from_json(alloc: Global, json: &Json) -> Result<Statement, Misfit> {
-        if has_only(json, &["get"]) {
-            get(alloc, member(json, "get")?)
-        } else if has_only(json, &["scan"]) {
-            scan(alloc, member(json, "scan")?)
-        } else if has_only(json, &["put"]) {
-            put(alloc, member(json, "put")?)
-        } else if has_only(json, &["delete"]) {
-            delete(alloc, member(json, "delete")?)
-        } else if has_only(json, &["add"]) {
-            add(alloc, member(json, "add")?)
-        } else {
-            Err(Misfit::OtherForm)
+        match sole(json) {
+            Some((name, stated)) => named(alloc, name, stated),
+            None => Err(Misfit::OtherForm),
         }
+    }
+}
+
+/// The statement that the only member states, which has this name.
+#[tactic(auto, unfolding(crate::specs::Sole::statement_named))]
+fn named(alloc: Global, name: &str, json: &Json) -> Result<Statement, Misfit>
+    ensures { Gives result (statement_named name.now (view json.now)) }
+{
+    match name {
+        "get" => get(alloc, json),
+        "scan" => scan(alloc, json),
+        "put" => put(alloc, json),
+        "delete" => delete(alloc, json),
+        "add" => add(alloc, json),
+        _ => Err(Misfit::OtherForm),
     }
 }
 
@@ -81,4 +91,60 @@ fn add(alloc: Global, json: &Json) -> Result<Statement, Misfit>
     let key = Key::from_json(alloc, key)?;
     let amount = amount_of(amount)?;
     Ok(Statement::Add(key, amount))
+}
+
+/// What a put states: a key and a value.
+#[derive(Drop)]
+struct PutPair;
+
+/// What an add states: a key and an amount.
+#[derive(Drop)]
+struct AddPair;
+
+impl Judged for Statement {
+    ghost refusal_in = { statement_refusal };
+
+    fn refusal(json: &Json) -> Option<u8> {
+        match sole(json) {
+            Some((name, stated)) => refusal_named(name, stated),
+            None => Some(OTHER_FORM),
+        }
+    }
+}
+
+/// Which rule the only member breaks, which has this name.
+#[tactic(auto, unfolding(crate::specs::Sole::refusal_named))]
+fn refusal_named(name: &str, json: &Json) -> Option<u8>
+    ensures { result ≡ refusal_named name.now (view json.now) }
+{
+    match name {
+        "get" => Key::refusal(json),
+        "scan" => Span::refusal(json),
+        "put" => PutPair::refusal(json),
+        "delete" => Key::refusal(json),
+        "add" => AddPair::refusal(json),
+        _ => Some(OTHER_FORM),
+    }
+}
+
+impl Judged for PutPair {
+    ghost refusal_in = { put_refusal };
+
+    fn refusal(json: &Json) -> Option<u8> {
+        match two_of(json) {
+            Some((key, value)) => least(Key::refusal(key), Value::refusal(value)),
+            None => Some(OTHER_FORM),
+        }
+    }
+}
+
+impl Judged for AddPair {
+    ghost refusal_in = { add_refusal };
+
+    fn refusal(json: &Json) -> Option<u8> {
+        match two_of(json) {
+            Some((key, amount)) => least(Key::refusal(key), amount_refusal(amount)),
+            None => Some(OTHER_FORM),
+        }
+    }
 }

@@ -1,10 +1,14 @@
 ghost use Rattle.std.specs.Prelude.{◌≡◌};
+ghost use Rattle.serde_json.specs.View.{view};
 ghost use Rattle.pc_work.specs.Number.{number_in};
+ghost use Rattle.pc_work.specs.RefusedWork.{turn_refusal};
 ghost use Rattle.pc_work.specs.Turn.{is_turn_there, turn_in, turn_of};
 
 use crate::fault::Misfit;
 use crate::json::FromJson;
+use crate::judge::Judged;
 use crate::number::is_number;
+use crate::refusal::{OTHER_FORM, unless};
 use pc_base::Items;
 use serde_json::Value as Json;
 use std::alloc::Global;
@@ -38,11 +42,24 @@ impl Turn {
 impl FromJson for Turn {
     ghost found_in = { turn_of };
 
-    #[tactic(auto, unfolding(crate::specs::Turn::turn_of))]
     fn from_json(_alloc: Global, json: &Json) -> Result<Turn, Misfit> {
-        let text = json.as_str().ok_or(Misfit::OtherForm)?;
-        turn_in(text).ok_or(Misfit::OtherForm)
+        turn_of(json).ok_or(Misfit::OtherForm)
     }
+}
+
+impl Judged for Turn {
+    ghost refusal_in = { turn_refusal };
+
+    fn refusal(json: &Json) -> Option<u8> {
+        unless(turn_of(json).is_some(), OTHER_FORM)
+    }
+}
+
+#[tactic(auto, unfolding(crate::specs::Turn::turn_of))]
+fn turn_of(json: &Json) -> Option<Turn>
+    ensures { result ≡ turn_of (view json.now) }
+{
+    turn_in(json.as_str()?)
 }
 
 fn turn_in(text: &str) -> Option<Turn>
