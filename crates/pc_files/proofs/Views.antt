@@ -1,5 +1,5 @@
 -- What is heard of a transaction by what is filed under it is what is heard of it at all.
-use Rattle.std.proofs.Common.{◌≡◌, ◌↔◌, ◌&&◌, ◌||◌, ◌==◌, ℕ, Bool, true, false, cond, Any, IsTrue, List, [], ◌∷◌, Some, filter, find, refl, sym, ap, subst, ◌∙◌}
+use Rattle.std.proofs.Common.{◌≡◌, ◌↔◌, ◌&&◌, ◌||◌, ◌==◌, ℕ, Bool, true, false, cond, Any, IsTrue, List, [], ◌∷◌, Option, None, Some, if◌then◌else◌, filter, find, is_some, refl, sym, ap, subst, ◌∙◌}
 use Rattle.std.proofs.lemmas.Bool.{and_parts}
 use Rattle.std.proofs.lemmas.List.Elements.{All-weaker}
 use Rattle.std.specs.List.{list_any}
@@ -9,12 +9,13 @@ use Rattle.pc_base.specs.declared.transaction.TxnId.{TxnId}
 use Rattle.pc_base.specs.declared.transaction.Who.{Who}
 use Rattle.pc_base.specs.Transaction.{same_txn}
 use Rattle.pc_files.proofs.Narrow.{any_narrow, itself, record_named}
-use Rattle.pc_files.specs.Filing.{decided_by, deciding_of, is_txn, replies_of, txn_named}
+use Rattle.pc_files.specs.Filing.{decided_by, deciding_of, is_txn, replies_of, txn_named, txn_viewed, views_of}
 use Rattle.pc_lists.proofs.Lists.{contains_filter, contains_in_filter}
 use Rattle.pc_proto.specs.declared.fate.Fate.{Fate}
 use Rattle.pc_proto.specs.declared.request.Request.{Request}
 use Rattle.pc_proto.specs.declared.request.Request.TheVariants as requests
 use Rattle.pc_proto.specs.declared.why.Why.{Why}
+use Rattle.pc_proto.specs.Replies.{view_in}
 use Rattle.pc_proto.specs.Requests.{is_about, is_push_of, subject_anchor}
 use Rattle.pc_world.specs.Known.Reads.{IsGoodAt, IsGoodTo, WasRefreshed}
 use Rattle.pc_world.specs.Known.Traffic.{Heard, Sent}
@@ -61,6 +62,13 @@ module _ (id : TxnId) where
   abbrev about : Heard → Bool
   about h = is_txn id (txn_named h.request)
 
+  -- It is, and the reply has a view.
+  abbrev viewed : Heard → Bool
+  viewed h = is_txn id (txn_viewed h)
+
+  has-view : (h : Heard) → about h ≡ true → is_some (view_in h.reply) ≡ true → viewed h ≡ true
+  has-view h names has = ap (λ b. is_txn id (if b then txn_named h.request else None)) has ∙ names
+
   asked : (request : Request) (h : Heard) → txn_named request ≡ Some id → h.request ≡ request → about h ≡ true
   asked request h names is = subst (λ r. is_txn id (txn_named r) ≡ true) (sym is) (subst (λ o. is_txn id o ≡ true) (sym names) (itself id))
 
@@ -71,28 +79,19 @@ module _ (id : TxnId) where
     pub aborted : (why : Why) → WasAborted (replies_of id heard) id why ↔ WasAborted heard id why
     aborted why = any_narrow about (ShowsAborted id why) (λ h a. record_named id h.request a.about) heard
 
-    pub anchored : anchor_heard id (replies_of id heard) ≡ anchor_heard id heard
+    pub anchored : anchor_heard id (views_of id heard) ≡ anchor_heard id heard
     anchored =
         ap (option_and_then (λ h. subject_anchor h.request))
-        (find_narrow about (shows_view id) (λ h t. record_named id h.request (and_parts (is_about id h.request) _ t).0) heard)
+        (find_narrow viewed (shows_view id) (λ h t. let parts = and_parts (is_about id h.request) _ t in has-view h (record_named id h.request parts.0) parts.1) heard)
 
     pub staged : (epoch ts : ℕ) → Any (λ h. IsTrue (shows_staging id epoch ts h)) (replies_of id heard) ↔ Any (λ h. IsTrue (shows_staging id epoch ts h)) heard
     staged epoch ts = any_narrow about (λ h. IsTrue (shows_staging id epoch ts h)) (λ h t. record_named id h.request (and_parts (is_about id h.request) _ t).0) heard
 
-    pub has_fate : (fate : Fate) → Any (ShowsFate id fate) (replies_of id heard) ↔ Any (ShowsFate id fate) heard
-    has_fate fate = any_narrow about (ShowsFate id fate) (λ h f. record_named id h.request f.about) heard
+    pub has_fate : (fate : Fate) → Any (ShowsFate id fate) (views_of id heard) ↔ Any (ShowsFate id fate) heard
+    has_fate fate = any_narrow viewed (ShowsFate id fate) (λ h f. has-view h (record_named id h.request f.about) (ap is_some f.told)) heard
 
-    pub final : (shown : List (List ℕ)) → Any (ShowsFinal id shown) (replies_of id heard) ↔ Any (ShowsFinal id shown) heard
-    final shown = any_narrow about (ShowsFinal id shown) (λ h f. record_named id h.request f.about) heard
-
-    one-resolved : (key : List ℕ) → Any (WasResolved id key) (replies_of id heard) ↔ Any (WasResolved id key) heard
-    one-resolved key = any_narrow about (WasResolved id key) (λ h r. asked (requests.Resolve id key r.0) h refl r.1.asked) heard
-
-    pub resolved : (keys : List (List ℕ)) → AllResolved (replies_of id heard) id keys ↔ AllResolved heard id keys
-    resolved keys = (
-      All-weaker (λ key. Any (WasResolved id key) (replies_of id heard)) (λ key. Any (WasResolved id key) heard) (λ key. (one-resolved key).0) keys,
-      All-weaker (λ key. Any (WasResolved id key) heard) (λ key. Any (WasResolved id key) (replies_of id heard)) (λ key. (one-resolved key).1) keys,
-    )
+    pub final : (P : Heard → Type 0) → ((h : Heard) → P h → (IsTrue (is_about id h.request)) × (is_some (view_in h.reply) ≡ true)) → Any P (views_of id heard) ↔ Any P heard
+    final P shows = any_narrow viewed P (λ h f. let s = shows h f in has-view h (record_named id h.request s.0) s.1) heard
 
     push-named : (request : Request) → is_push_of id request ≡ true → is_txn id (txn_named request) ≡ true
     push-named (requests.Push holder by level now goal) t = t

@@ -1,13 +1,15 @@
--- What is filed under a transaction: the stages and commits that decide it, and the replies to requests that name it.
-use Rattle.std.specs.Prelude.{◌≡◌, Bool, false, if◌then◌else◌, Option, None, Some, List, [], ◌∷◌, ◌++◌, filter}
+-- What is filed under a transaction: the stages and commits that decide it, the replies to requests that name it, and their views.
+use Rattle.std.specs.Prelude.{◌≡◌, Bool, false, if◌then◌else◌, Option, None, Some, List, [], ◌∷◌, ◌++◌, filter, is_some}
 use Rattle.std.specs.BTreeMap.{get}
 use Rattle.std.specs.Option.{option_map_or}
 use Rattle.pc_base.specs.declared.transaction.TxnId.{TxnId}
 use Rattle.pc_base.specs.Transaction.{same_txn, txn_cmp}
 use Rattle.pc_files.specs.declared.filed.Filed.{Filed}
 use Rattle.pc_files.specs.declared.files.Files.{Files}
+use Rattle.pc_files.specs.Noted.{AreFirstPuts, AreSettledKeys}
 use Rattle.pc_proto.specs.declared.request.Request.{Request}
 use Rattle.pc_proto.specs.declared.request.Request.TheVariants as requests
+use Rattle.pc_proto.specs.Replies.{view_in}
 use Rattle.pc_world.specs.Known.{Known}
 use Rattle.pc_world.specs.Known.Traffic.{Heard, Sent}
 
@@ -39,6 +41,10 @@ txn_named (requests.Resolve id key fate) = Some id
 txn_named (requests.Remove id anchor) = Some id
 txn_named requests.Records = None
 
+-- The transaction that the request names, where the reply has a view.
+abbrev pub txn_viewed : Heard → Option TxnId
+txn_viewed h = if is_some (view_in h.reply) then txn_named h.request else None
+
 -- This is the transaction.
 abbrev pub is_txn : TxnId → Option TxnId → Bool
 is_txn id name = option_map_or (λ other. same_txn other id) name false
@@ -47,13 +53,13 @@ is_txn id name = option_map_or (λ other. same_txn other id) name false
 abbrev pub deciding_of : TxnId → List Sent → List Sent
 deciding_of id sent = filter (λ m. is_txn id (decided_by m.request)) sent
 
--- The messages that put a write of the transaction.
-abbrev pub puts_by : TxnId → List Sent → List Sent
-puts_by id sent = filter (λ m. is_txn id (put_by m.request)) sent
-
 -- The replies to requests that name the transaction.
 abbrev pub replies_of : TxnId → List Heard → List Heard
 replies_of id heard = filter (λ h. is_txn id (txn_named h.request)) heard
+
+-- Those of them that have a view.
+abbrev pub views_of : TxnId → List Heard → List Heard
+views_of id heard = filter (λ h. is_txn id (txn_viewed h)) heard
 
 -- What is filed under the transaction.
 abbrev pub filed_under : {X : Type 0} → TxnId → Filed X → List X
@@ -71,16 +77,18 @@ FilesNext name x before after = (id : TxnId) → filed_under id after ≡ filed_
 abbrev pub AreFiledSends : List Sent → Filed Sent → Type 0
 AreFiledSends sent f = (id : TxnId) → filed_under id f ≡ deciding_of id sent
 
--- Under each transaction stand the puts of it among these messages.
-abbrev pub AreFiledPuts : List Sent → Filed Sent → Type 0
-AreFiledPuts sent f = (id : TxnId) → filed_under id f ≡ puts_by id sent
-
 -- Under each transaction stand those of these replies that are to requests that name it.
 abbrev pub AreFiledReplies : List Heard → Filed Heard → Type 0
 AreFiledReplies heard f = (id : TxnId) → filed_under id f ≡ replies_of id heard
 
--- All stages, commits, puts and replies of the actor are filed.
+-- Under each transaction stand those of these replies that are to requests that name it, and have a view.
+abbrev pub AreFiledViews : List Heard → Filed Heard → Type 0
+AreFiledViews heard f = (id : TxnId) → filed_under id f ≡ views_of id heard
+
+-- All stages, commits and replies of the actor are filed, and its first puts and the keys that were settled are noted.
 pub record KeepsFiles (k : Known) (x : Files) : Type 0 where
   pub deciding : AreFiledSends k.sent x.deciding
-  pub puts : AreFiledPuts k.sent x.puts
+  pub firsts : AreFirstPuts k.sent x.firsts
   pub replies : AreFiledReplies k.heard x.replies
+  pub views : AreFiledViews k.heard x.views
+  pub settled : AreSettledKeys k.heard x.settled

@@ -1,2 +1,3 @@
 -- How what was sent and heard is filed.
 pub mod Filing
+pub mod Noted

@@ -1,13 +1,17 @@
 ghost use Rattle.std.specs.Prelude.{◌≡◌, ◌↔◌, ℕ, IsTrue, List, OnOk};
+ghost use Rattle.std.specs.List.{list_any};
 ghost use Rattle.std.specs.Option.{option_copied};
-ghost use Rattle.pc_files.specs.Filing.{AreFiledPuts, AreFiledReplies, AreFiledSends, KeepsFiles, deciding_of, puts_by, replies_of};
+ghost use Rattle.pc_files.specs.Filing.{AreFiledReplies, AreFiledSends, AreFiledViews, KeepsFiles, deciding_of, replies_of, views_of};
+ghost use Rattle.pc_files.specs.Noted.{first_put_of, settles_key};
 ghost use Rattle.pc_world.specs.Known.{Known, known_after, nothing_known};
 ghost use Rattle.pc_world.specs.Known.Traffic.{Heard, Sent, heard_after, sent_after};
 ghost use Rattle.pc_world.specs.StageFate.{IsUncommitted};
 
 use crate::filed::Filed;
-use crate::named::{decided_by, put_by, txn_named};
-use pc_base::{NoMemory, TxnId};
+use crate::firsts::Firsts;
+use crate::named::{decided_by, txn_named, txn_viewed};
+use crate::settled_keys::SettledKeys;
+use pc_base::{Key, NoMemory, TxnId};
 use pc_known::fate::is_uncommitted;
 use pc_known::{Hearing, Message};
 use pc_proto::{Event, Request};
@@ -18,10 +22,14 @@ use std::alloc::Global;
 pub struct Files<'a> {
     /// The stages and commits that were sent.
     deciding: Filed<Message<'a>>,
-    /// The puts that were sent.
-    puts: Filed<Message<'a>>,
+    /// The number of the first put of each write.
+    firsts: Firsts,
     /// The replies that were heard, by the transaction that the request names.
     replies: Filed<Hearing<'a>>,
+    /// Those of them that have a view.
+    views: Filed<Hearing<'a>>,
+    /// The keys that were settled, by transaction.
+    settled: SettledKeys<'a>,
 }
 
 impl<'a> Files<'a> {
@@ -31,8 +39,10 @@ impl<'a> Files<'a> {
     {
         Files {
             deciding: Filed::new(alloc),
-            puts: Filed::new(alloc),
+            firsts: Firsts::new(alloc),
             replies: Filed::new(alloc),
+            views: Filed::new(alloc),
+            settled: SettledKeys::new(alloc),
         }
     }
 
@@ -43,11 +53,11 @@ impl<'a> Files<'a> {
         self.deciding.of(id)
     }
 
-    /// The puts of the transaction that were sent.
-    pub fn puts(&self, id: TxnId) -> &[Message<'a>]
-        ensures { (k : Known) → KeepsFiles k self.now → result.now ≡ puts_by id k.sent }
+    /// The number of the first put of this write that was sent.
+    pub fn first_put(&self, id: TxnId, epoch: u32, seq: u32) -> Option<u64>
+        ensures { (k : Known) → KeepsFiles k self.now → result ≡ first_put_of id epoch seq k.sent }
     {
-        self.puts.of(id)
+        self.firsts.of(id, epoch, seq)
     }
 
     /// The replies that were heard to requests that name the transaction.
@@ -55,6 +65,20 @@ impl<'a> Files<'a> {
         ensures { (k : Known) → KeepsFiles k self.now → result.now ≡ replies_of id k.heard }
     {
         self.replies.of(id)
+    }
+
+    /// Those of them that have a view.
+    pub fn views(&self, id: TxnId) -> &[Hearing<'a>]
+        ensures { (k : Known) → KeepsFiles k self.now → result.now ≡ views_of id k.heard }
+    {
+        self.views.of(id)
+    }
+
+    /// Whether the intent at the key was settled for the transaction.
+    pub fn is_settled(&self, id: TxnId, key: &'a Key) -> bool
+        ensures { (k : Known) → KeepsFiles k self.now → result ≡ list_any (settles_key id key.now) k.heard }
+    {
+        self.settled.has(id, key)
     }
 
     /// Whether every stage of the transaction is dead, and every commit refused.
@@ -69,7 +93,9 @@ impl<'a> Files<'a> {
         ensures { (k : Known) (top high : ℕ) → KeepsFiles k self.old → OnOk result (KeepsFiles (known_after event.now (option_copied heard.entry) top high k) self.new) }
     {
         file_sent(&mut self.deciding, event)?;
-        file_put(&mut self.puts, event)?;
+        self.firsts.learn(event)?;
+        self.settled.learn(heard)?;
+        file_view(&mut self.views, heard)?;
         file_heard(&mut self.replies, heard)
     }
 }
@@ -84,20 +110,6 @@ fn file_sent<'a>(deciding: &mut Filed<Message<'a>>, event: &'a Event) -> Result<
             range,
             request,
         } => deciding.next(decided_by(request), sent_as(*number, *range, request)),
-        _ => Ok(()),
-    }
-}
-
-/// Files the message that the event sends, if it is a put.
-fn file_put<'a>(puts: &mut Filed<Message<'a>>, event: &'a Event) -> Result<(), NoMemory>
-    ensures { (sent : List Sent) → AreFiledPuts sent puts.old → OnOk result (AreFiledPuts (sent_after event.now sent) puts.new) }
-{
-    match event {
-        Event::Send {
-            number,
-            range,
-            request,
-        } => puts.next(put_by(request), sent_as(*number, *range, request)),
         _ => Ok(()),
     }
 }
@@ -122,6 +134,19 @@ fn file_heard<'a>(
     match heard {
         None => Ok(()),
         Some(hearing) => replies.next(txn_named(hearing.request), copy_of(hearing)),
+    }
+}
+
+/// Files the reply that was heard, if one was and it has a view.
+fn file_view<'a>(
+    views: &mut Filed<Hearing<'a>>,
+    heard: Option<&Hearing<'a>>,
+) -> Result<(), NoMemory>
+    ensures { (all : List Heard) → AreFiledViews all views.old → OnOk result (AreFiledViews (heard_after (option_copied heard.entry) all) views.new) }
+{
+    match heard {
+        None => Ok(()),
+        Some(hearing) => views.next(txn_viewed(hearing), copy_of(hearing)),
     }
 }
 

@@ -3,8 +3,12 @@
 
 mod filed;
 mod files;
+mod firsts;
 mod named;
+mod settled_keys;
 
 pub use filed::Filed;
 pub use files::Files;
+pub use firsts::Firsts;
 pub use named::put_by;
+pub use settled_keys::SettledKeys;

@@ -1,8 +1,9 @@
 ghost use Rattle.std.specs.Prelude.{◌≡◌};
-ghost use Rattle.pc_files.specs.Filing.{decided_by, put_by, txn_named};
+ghost use Rattle.pc_files.specs.Filing.{decided_by, put_by, txn_named, txn_viewed};
 
 use pc_base::TxnId;
-use pc_proto::Request;
+use pc_known::Hearing;
+use pc_proto::{Reply, Request};
 
 /// The transaction that a stage or commit decides, if the request is one.
 pub(crate) fn decided_by(request: &Request) -> Option<TxnId>
@@ -43,5 +44,15 @@ pub(crate) fn txn_named(request: &Request) -> Option<TxnId>
         | Request::Abort { meta, .. } => Some(meta.id),
         Request::Push { holder, .. } => Some(holder.id),
         Request::Records => None,
+    }
+}
+
+/// The transaction that the request names, where the reply has a view.
+pub(crate) fn txn_viewed(hearing: &Hearing<'_>) -> Option<TxnId>
+    ensures { result ≡ txn_viewed hearing.now }
+{
+    match hearing.reply {
+        Reply::Status(_) | Reply::Refused(_) | Reply::Unsure(_) => txn_named(hearing.request),
+        _ => None,
     }
 }

@@ -1,9 +1,9 @@
 //! How far the reads of a transaction are good, by the replies that its session heard.
 
-ghost use Rattle.std.specs.Prelude.{◌≡◌, ◌↔◌, ◌≤◌, ◌<◌, All, IsTrue};
+ghost use Rattle.std.specs.Prelude.{◌≡◌, ◌↔◌, ◌≤◌, ◌<◌, ℕ, All, IsTrue};
 ghost use Rattle.pc_known.specs.Parts.{part_span};
 ghost use Rattle.pc_knowledge.specs.Good.{IsGoodJustTo, good_after_all, good_from, taken_further};
-ghost use Rattle.pc_world.specs.Known.Reads.{IsGoodAt};
+ghost use Rattle.pc_world.specs.Known.Reads.{IsGoodAt, IsGoodTo};
 ghost use Rattle.pc_world.specs.Known.Transactions.{IsGood};
 
 use pc_base::{Timestamp, TxnId};
@@ -82,10 +82,17 @@ pub fn good_to(id: TxnId, heard: &[Hearing<'_>], span: Part<'_>, ts: Timestamp) 
     good
 }
 
+/// Whether the read is good at this timestamp, or at a later one.
+pub fn is_good_up_to(id: TxnId, heard: &[Hearing<'_>], read: &OwnRead<'_>, ts: Timestamp) -> bool
+    ensures { IsTrue result ↔ ((good : ℕ) × IsGoodTo id heard.now read.now.span read.now.ts good × (ts ≤ good)) }
+{
+    is_by(ts, read.ts) || is_by(ts, good_to(id, heard, read.span, read.ts))
+}
+
 fn is_good_at(id: TxnId, heard: &[Hearing<'_>], ts: Timestamp, read: &OwnRead<'_>) -> bool
     ensures { IsTrue result ↔ IsGoodAt id heard.now ts read.now }
 {
-    read.ts <= ts && ts <= good_to(id, heard, read.span, read.ts)
+    is_by(read.ts, ts) && is_good_up_to(id, heard, read, ts)
 }
 
 fn are_good_at(id: TxnId, heard: &[Hearing<'_>], ts: Timestamp, reads: &[OwnRead<'_>]) -> bool

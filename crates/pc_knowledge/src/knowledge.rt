@@ -1,6 +1,8 @@
 ghost use Rattle.std.specs.Prelude.{◌≡◌, ◌↔◌, cond, map, OnOk, Contains, IsTrue, Some};
+ghost use Rattle.std.specs.List.{list_any};
 ghost use Rattle.std.specs.Option.{option_copied};
-ghost use Rattle.pc_files.specs.Filing.{KeepsFiles, deciding_of, puts_by, replies_of};
+ghost use Rattle.pc_files.specs.Filing.{KeepsFiles, deciding_of, replies_of, views_of};
+ghost use Rattle.pc_files.specs.Noted.{first_put_of, settles_key};
 ghost use Rattle.pc_history.specs.Own.{pair};
 ghost use Rattle.pc_known.specs.Calls.{BeginsNext, KeepsCalls};
 ghost use Rattle.pc_known.specs.Heards.{KeepsHeards};
@@ -13,7 +15,7 @@ ghost use Rattle.pc_world.specs.Known.Traffic.{replies_to};
 ghost use Rattle.pc_world.specs.Known.Transactions.{Txn, txn_heard};
 ghost use Rattle.pc_world.specs.StageFate.{IsUncommitted};
 
-use pc_base::{Entry, NoMemory, Priority, Timestamp, TxnId};
+use pc_base::{Entry, Key, NoMemory, Priority, Timestamp, TxnId};
 use pc_files::Files;
 use pc_known::{Calls, Heards, Hearing, Message, Open, Sends};
 use pc_own::{OwnTxn, Txns};
@@ -113,11 +115,11 @@ impl<'a> Knowledge<'a> {
         self.files.deciding(id)
     }
 
-    /// The puts of the transaction that were sent.
-    pub fn puts(&self, id: TxnId) -> &[Message<'a>]
-        ensures { (k : Known) → KeepsKnowledge k self.now → result.now ≡ puts_by id k.sent }
+    /// The number of the first put of this write that was sent.
+    pub fn first_put(&self, id: TxnId, epoch: u32, seq: u32) -> Option<u64>
+        ensures { (k : Known) → KeepsKnowledge k self.now → result ≡ first_put_of id epoch seq k.sent }
     {
-        self.files.puts(id)
+        self.files.first_put(id, epoch, seq)
     }
 
     /// The replies that were heard to requests that name the transaction.
@@ -125,6 +127,20 @@ impl<'a> Knowledge<'a> {
         ensures { (k : Known) → KeepsKnowledge k self.now → result.now ≡ replies_of id k.heard }
     {
         self.files.replies(id)
+    }
+
+    /// Those of them that have a view.
+    pub fn views(&self, id: TxnId) -> &[Hearing<'a>]
+        ensures { (k : Known) → KeepsKnowledge k self.now → result.now ≡ views_of id k.heard }
+    {
+        self.files.views(id)
+    }
+
+    /// Whether the intent at the key was settled for the transaction.
+    pub fn is_settled(&self, id: TxnId, key: &'a Key) -> bool
+        ensures { (k : Known) → KeepsKnowledge k self.now → result ≡ list_any (settles_key id key.now) k.heard }
+    {
+        self.files.is_settled(id, key)
     }
 
     /// Whether every stage of the transaction is dead, and every commit refused.

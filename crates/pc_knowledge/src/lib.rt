@@ -7,7 +7,7 @@ mod knowledge;
 mod same;
 mod views;
 
-pub use good::{good_to, is_good};
+pub use good::{good_to, is_good, is_good_up_to};
 pub use kinds::{
     are_proved_by, asks_for, is_own_cause, is_push_of, is_put_of, some_refused, was_refused,
 };

@@ -1,12 +1,12 @@
 -- What is so of a transaction by what is filed under it is so by all that was sent and heard.
-use Rattle.std.proofs.Common.{◌≡◌, ◌≢◌, ◌↔◌, ◌≤◌, ℕ, true, Any, List, Option, refl, sym, subst, inl, inr}
+use Rattle.std.proofs.Common.{◌≡◌, ◌≢◌, ◌↔◌, ◌≤◌, ℕ, true, Any, List, Option, ap, is_some, refl, sym, subst, inl, inr}
 use Rattle.std.proofs.lemmas.List.Elements.{All-weaker}
 use Rattle.pc_base.specs.declared.span.Span.{Span}
 use Rattle.pc_base.specs.declared.transaction.TxnId.{TxnId}
 use Rattle.pc_base.specs.declared.transaction.Who.{Who}
 use Rattle.pc_files.proofs.Narrow.{any_narrow, each_commit, each_stage, itself, late, late_by_record, record_named, refused}
-use Rattle.pc_files.proofs.Views.{found, good_to, missed, pushed, reads_good, resolved}
-use Rattle.pc_files.specs.Filing.{decided_by, deciding_of, is_txn, replies_of, txn_named}
+use Rattle.pc_files.proofs.Views.{final, found, good_to, missed, pushed, reads_good}
+use Rattle.pc_files.specs.Filing.{decided_by, deciding_of, is_txn, replies_of, views_of}
 use Rattle.pc_may_send.specs.Deciding.{IsReadyToCommit}
 use Rattle.pc_may_send.specs.Listed.{HasFoundAll, HasListed, HasMissed}
 use Rattle.pc_may_send.specs.Refreshing.{IsRefreshIn}
@@ -17,7 +17,6 @@ use Rattle.pc_world.specs.Known.Reads.{IsGoodTo, Read}
 use Rattle.pc_world.specs.Known.Traffic.{Heard, Sent}
 use Rattle.pc_world.specs.Known.Transactions.{Txn}
 use Rattle.pc_world.specs.Send.Recovery.{WasFound}
-use Rattle.pc_world.specs.Send.Settling.{AllResolved}
 use Rattle.pc_world.specs.Send.Stage.{IsPassed}
 use Rattle.pc_world.specs.StageFate.{EachCommit, EachStage, IsLate, SentStage, WasCommitRefused, stage_request}
 
@@ -82,23 +81,11 @@ module _ (sent : List Sent) (heard : List Heard) (t : Txn) where
       )
 
 module _ (id : TxnId) (heard : List Heard) where
-  final-about : Any (IsFinalAbout id) (replies_of id heard) ↔ Any (IsFinalAbout id) heard
-  final-about = any_narrow (λ (h : Heard). is_txn id (txn_named h.request)) (IsFinalAbout id) (λ h f. record_named id h.request f.1.about) heard
+  pub final_about : Any (IsFinalAbout id) (views_of id heard) ↔ Any (IsFinalAbout id) heard
+  final_about = final id heard (IsFinalAbout id) (λ h f. (f.1.about, ap is_some f.1.told))
 
-  pub own_final : (locks : List (List ℕ)) → (Any (IsFinalAbout id) (replies_of id heard) × AllResolved (replies_of id heard) id locks) ↔ (Any (IsFinalAbout id) heard × AllResolved heard id locks)
-  own_final locks = (
-    λ h. (final-about.0 h.0, (resolved id heard locks).0 h.1),
-    λ h. (final-about.1 h.0, (resolved id heard locks).1 h.1),
-  )
-
-  pub other_final : Any (IsSettledBy (replies_of id heard) id) (replies_of id heard) ↔ Any (IsSettledBy heard id) heard
-  other_final = (
-    λ a. let b = (narrow (replies_of id heard)).0 a in (b.0, b.1, b.2, b.3, (b.4.0, b.4.1, (resolved id heard b.4.0).0 b.4.2)),
-    λ a. (narrow (replies_of id heard)).1 (a.0, a.1, a.2, a.3, (a.4.0, a.4.1, (resolved id heard a.4.0).1 a.4.2)),
-  )
-    where
-      narrow : (replies : List Heard) → Any (IsSettledBy replies id) (replies_of id heard) ↔ Any (IsSettledBy replies id) heard
-      narrow replies = any_narrow (λ (h : Heard). is_txn id (txn_named h.request)) (IsSettledBy replies id) (λ h s. record_named id h.request s.1.about) heard
+  pub other_final : Any (IsSettledBy heard id) (views_of id heard) ↔ Any (IsSettledBy heard id) heard
+  other_final = final id heard (IsSettledBy heard id) (λ h s. (s.1.about, ap is_some s.1.told))
 
   pub listed : (epoch seq ts : ℕ) (key : List ℕ) → Any (HasListed id epoch seq ts key) (replies_of id heard) ↔ Any (HasListed id epoch seq ts key) heard
   listed epoch seq ts key = pushed id heard (HasListed id epoch seq ts key) (λ h l. l.1.pushed)

@@ -1,13 +1,12 @@
 //! Put: for the first time by the call that asks for it; again, as long as the write is not proved.
 
-ghost use Rattle.std.specs.Prelude.{◌≡◌, ◌↔◌, ◌+◌, ◌⊎◌, All, Contains, IsTrue, unwrap_or};
+ghost use Rattle.std.specs.Prelude.{◌≡◌, ◌↔◌, ◌+◌, ◌⊎◌, Contains, IsTrue, unwrap_or};
 ghost use Rattle.std.specs.Option.{option_copied};
-ghost use Rattle.pc_base.specs.Span.{same_key};
 ghost use Rattle.pc_knowledge.specs.Keeping.{KeepsKnowledge};
 ghost use Rattle.pc_may_send.specs.Again.{IsSentAgain, IsAnySentAgain};
 ghost use Rattle.pc_world.specs.Known.{Known};
 ghost use Rattle.pc_world.specs.Known.Transactions.{IsMetaOf, meta_of};
-ghost use Rattle.pc_world.specs.Known.Writes.{is_proved, last_seq_of};
+ghost use Rattle.pc_world.specs.Known.Writes.{last_seq_of};
 ghost use Rattle.pc_world.specs.Send.Put.{MaySendAgain, MaySendFirst, MaySendPut};
 
 use pc_base::{Key, Timestamp, Value};
@@ -42,19 +41,6 @@ fn is_next_seq(t: &OwnTxn<'_>, seq: u32) -> bool
     seq as u64 == t.writes().last_seq() as u64 + 1
 }
 
-fn is_clear(key: &Key, write: &OwnWrite<'_>) -> bool
-    ensures { IsTrue result ↔ (IsTrue (same_key write.now.key key.now) → IsTrue (is_proved write.now)) }
-{
-    write.key != key || write.is_proved()
-}
-
-/// Whether the epoch's earlier writes of the key are proved.
-fn are_proved_on(key: &Key, writes: &[OwnWrite<'_>]) -> bool
-    ensures { IsTrue result ↔ All (λ w. IsTrue (same_key w.key key.now) → IsTrue (is_proved w)) writes.now }
-{
-    writes.iter().all(|write| is_clear(key, write))
-}
-
 /// Whether the transaction may send this put for the first time.
 fn may_send_first(known: &Knowledge<'_>, put: &Put<'_>) -> bool
     ensures { (k : Known) → KeepsKnowledge k known.now → IsTrue result ↔ MaySendFirst k put.now.meta.now put.now.seq put.now.ts put.now.key.now (option_copied put.now.value) }
@@ -66,7 +52,7 @@ fn may_send_first(known: &Knowledge<'_>, put: &Put<'_>) -> bool
                 && is_first_meta(t, put.meta, put.key)
                 && is_next_seq(t, put.seq)
                 && number(put.ts) == t.write_ts()
-                && are_proved_on(put.key, t.writes().as_slice())
+                && t.writes().are_proved_on(put.key)
                 && known.is_uncommitted(t.id())
         }
     }

@@ -5,31 +5,16 @@ ghost use Rattle.std.specs.Option.{option_copied};
 ghost use Rattle.pc_base.specs.declared.span.Span.TheVariants.{One};
 ghost use Rattle.pc_known.specs.Parts.{part_span};
 ghost use Rattle.pc_knowledge.specs.Keeping.{KeepsKnowledge};
-ghost use Rattle.pc_base.specs.Span.{contains};
-ghost use Rattle.pc_world.specs.Known.Writes.{is_proved};
 ghost use Rattle.pc_world.specs.Known.{Known};
 ghost use Rattle.pc_world.specs.RangeOf.{pieces};
-ghost use Rattle.pc_world.specs.Send.Reading.{IsProvedIn, IsReadOf, MaySendGet, MaySendScan};
+ghost use Rattle.pc_world.specs.Send.Reading.{IsReadOf, MaySendGet, MaySendScan};
 
 use pc_base::{Key, NoMemory, Span, Timestamp, TxnId};
 use pc_knowledge::Knowledge;
 use pc_known::{Part, Piece, is_key, is_span, number, pieces};
-use pc_own::{OwnTxn, OwnWrite, contains, part_of};
+use pc_own::{OwnTxn, part_of};
 use pc_proto::{Call, Keys};
 use std::alloc::Global;
-
-/// Whether each write of the epoch in the span is proved.
-fn is_proved_in(span: Part<'_>, writes: &[OwnWrite<'_>]) -> bool
-    ensures { IsTrue result ↔ IsProvedIn (part_span span.entry) writes.now }
-{
-    writes.iter().all(|write| is_clear(span, write))
-}
-
-fn is_clear(span: Part<'_>, write: &OwnWrite<'_>) -> bool
-    ensures { IsTrue result ↔ (IsTrue (contains (part_span span.entry) write.now.key) → IsTrue (is_proved write.now)) }
-{
-    !contains(span, write.key) || write.is_proved()
-}
 
 fn is_read_of(
     t: &OwnTxn<'_>,
@@ -45,7 +30,7 @@ fn is_read_of(
         && t.is_epoch(epoch)
         && seq == t.writes().last_seq()
         && number(ts) == t.read_ts()
-        && is_proved_in(span, t.writes().as_slice())
+        && t.writes().are_proved_in(span)
 }
 
 fn asks_get(call: Option<&Call>, key: &Key) -> bool

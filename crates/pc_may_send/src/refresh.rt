@@ -10,7 +10,7 @@ ghost use Rattle.pc_world.specs.Send.Refresh.{MaySendRefresh};
 
 use crate::call::asks_commit;
 use pc_base::{Span, Timestamp, TxnId};
-use pc_knowledge::{Knowledge, good_to};
+use pc_knowledge::{Knowledge, is_good_up_to};
 use pc_known::{Hearing, number};
 use pc_own::{OwnRead, OwnTxn, Reads, holds, part_of};
 use pc_proto::Call;
@@ -22,16 +22,10 @@ fn holds_read(span: &Span, reads: &[OwnRead<'_>]) -> bool
     reads.iter().any(|read| holds(part_of(span), read.span))
 }
 
-fn is_by(one: Timestamp, other: Timestamp) -> bool
-    ensures { IsTrue result ↔ (one ≤ other) }
-{
-    one <= other
-}
-
 fn is_good_from(id: TxnId, heard: &[Hearing<'_>], from: Timestamp, read: &OwnRead<'_>) -> bool
     ensures { IsTrue result ↔ ((good : ℕ) × IsGoodTo id heard.now read.now.span read.now.ts good × (from ≤ good)) }
 {
-    is_by(from, good_to(id, heard, read.span, read.ts))
+    is_good_up_to(id, heard, read, from)
 }
 
 fn are_good_from(id: TxnId, heard: &[Hearing<'_>], from: Timestamp, reads: &[OwnRead<'_>]) -> bool

@@ -74,56 +74,40 @@ fn some_shows_fate(id: TxnId, fate: Fate, heard: &[Hearing<'_>]) -> bool
 pub fn may_send_resolve(known: &Knowledge<'_>, id: TxnId, fate: Fate) -> bool
     ensures { (k : Known) → KeepsKnowledge k known.now → IsTrue result ↔ MaySendResolve k id fate }
 {
-    some_shows_fate(id, fate, known.replies(id))
+    some_shows_fate(id, fate, known.views(id))
 }
 
 /// Whether the intent at the key was settled for this transaction.
-fn was_resolved(id: TxnId, key: &Key, hearing: &Hearing<'_>) -> bool
-    ensures { IsTrue result ↔ WasResolved id key.now hearing.now }
+fn was_resolved<'a>(known: &Knowledge<'a>, id: TxnId, key: &'a Key) -> bool
+    ensures { (k : Known) → KeepsKnowledge k known.now → IsTrue result ↔ Any (WasResolved id key.now) k.heard }
 {
-    match (hearing.request, hearing.reply) {
-        (
-            Request::Resolve {
-                id: other,
-                key: place,
-                ..
-            },
-            Reply::Resolved,
-        ) => *other == id && is_key(place, key),
-        _ => false,
-    }
-}
-
-fn some_resolved(id: TxnId, key: &Key, heard: &[Hearing<'_>]) -> bool
-    ensures { IsTrue result ↔ Any (WasResolved id key.now) heard.now }
-{
-    heard.iter().any(|hearing| was_resolved(id, key, hearing))
+    known.is_settled(id, key)
 }
 
 /// Whether the intent at each of these keys was settled for this transaction.
-fn all_resolved(heard: &[Hearing<'_>], id: TxnId, keys: &[Key]) -> bool
-    ensures { IsTrue result ↔ AllResolved heard.now id keys.now }
+fn all_resolved<'a>(known: &Knowledge<'a>, id: TxnId, keys: &'a [Key]) -> bool
+    ensures { (k : Known) → KeepsKnowledge k known.now → IsTrue result ↔ AllResolved k.heard id keys.now }
 {
     for key in keys {
-        if !some_resolved(id, key, heard) {
+        if !was_resolved(known, id, key) {
             return false;
         }
     }
     true
 }
 
-fn is_lock_resolved(id: TxnId, lock: &Lock<'_>, heard: &[Hearing<'_>]) -> bool
-    ensures { IsTrue result ↔ Any (WasResolved id lock.now) heard.now }
+fn is_lock_resolved<'a>(known: &Knowledge<'a>, id: TxnId, lock: &Lock<'a>) -> bool
+    ensures { (k : Known) → KeepsKnowledge k known.now → IsTrue result ↔ Any (WasResolved id lock.now) k.heard }
 {
-    some_resolved(id, lock.key, heard)
+    was_resolved(known, id, lock.key)
 }
 
 /// The same of the keys that the transaction itself wrote.
-fn are_own_resolved(heard: &[Hearing<'_>], id: TxnId, locks: &Locks<'_>) -> bool
-    ensures { IsTrue result ↔ AllResolved heard.now id locks.now }
+fn are_own_resolved<'a>(known: &Knowledge<'a>, id: TxnId, locks: &Locks<'a>) -> bool
+    ensures { (k : Known) → KeepsKnowledge k known.now → IsTrue result ↔ AllResolved k.heard id locks.now }
 {
     for lock in locks.iter() {
-        if !is_lock_resolved(id, lock, heard) {
+        if !is_lock_resolved(known, id, lock) {
             return false;
         }
     }
@@ -153,39 +137,42 @@ fn was_final(id: TxnId, heard: &[Hearing<'_>]) -> bool
     heard.iter().any(|hearing| shows_final(id, hearing))
 }
 
-fn are_keys_resolved(heard: &[Hearing<'_>], id: TxnId, keys: &Keys) -> bool
-    ensures { IsTrue result ↔ AllResolved heard.now id keys.now }
+fn are_keys_resolved<'a>(known: &Knowledge<'a>, id: TxnId, keys: &'a Keys) -> bool
+    ensures { (k : Known) → KeepsKnowledge k known.now → IsTrue result ↔ AllResolved k.heard id keys.now }
 {
-    all_resolved(heard, id, keys.as_slice())
+    all_resolved(known, id, keys.as_slice())
 }
 
 /// Whether the view is final, and each of its locks was settled.
-fn are_locks_resolved(heard: &[Hearing<'_>], id: TxnId, view: &View) -> bool
-    ensures { IsTrue result ↔ ((shown : List (List ℕ)) × HasLocks view.now shown × AllResolved heard.now id shown) }
+fn are_locks_resolved<'a>(known: &Knowledge<'a>, id: TxnId, view: &'a View) -> bool
+    ensures { (k : Known) → KeepsKnowledge k known.now → IsTrue result ↔ ((shown : List (List ℕ)) × HasLocks view.now shown × AllResolved k.heard id shown) }
 {
     match view {
-        View::Committed { locks, .. } => are_keys_resolved(heard, id, locks),
-        View::Aborted { locks, .. } => are_keys_resolved(heard, id, locks),
+        View::Committed { locks, .. } => are_keys_resolved(known, id, locks),
+        View::Aborted { locks, .. } => are_keys_resolved(known, id, locks),
         View::Nothing | View::Pending { .. } | View::Staging { .. } => false,
     }
 }
 
-fn is_settled_by<'b>(heard: &[Hearing<'b>], id: TxnId, hearing: &Hearing<'b>) -> bool
-    ensures { IsTrue result ↔ IsSettledBy heard.now id hearing.now }
+fn is_settled_by<'a>(known: &Knowledge<'a>, id: TxnId, hearing: &Hearing<'a>) -> bool
+    ensures { (k : Known) → KeepsKnowledge k known.now → IsTrue result ↔ IsSettledBy k.heard id hearing.now }
 {
     match view_in(hearing.reply) {
-        Some(view) => is_about(id, hearing.request) && are_locks_resolved(heard, id, view),
+        Some(view) => is_about(id, hearing.request) && are_locks_resolved(known, id, view),
         None => false,
     }
 }
 
 /// Whether one of these replies shows a final view of the transaction all of whose locks were settled.
-fn is_some_settled_by<'b>(replies: &[Hearing<'b>], heard: &[Hearing<'b>], id: TxnId) -> bool
-    ensures { IsTrue result ↔ Any (IsSettledBy heard.now id) replies.now }
+fn is_some_settled_by<'a>(known: &Knowledge<'a>, id: TxnId, replies: &[Hearing<'a>]) -> bool
+    ensures { (k : Known) → KeepsKnowledge k known.now → IsTrue result ↔ Any (IsSettledBy k.heard id) replies.now }
 {
-    replies
-        .iter()
-        .any(|hearing| is_settled_by(heard, id, hearing))
+    for hearing in replies {
+        if is_settled_by(known, id, hearing) {
+            return true;
+        }
+    }
+    false
 }
 
 fn is_anchor(id: TxnId, anchor: &Key, heard: &[Hearing<'_>]) -> bool
@@ -201,7 +188,7 @@ fn is_anchor(id: TxnId, anchor: &Key, heard: &[Hearing<'_>]) -> bool
 pub(crate) fn is_own_anchor(known: &Knowledge<'_>, id: TxnId, anchor: &Key) -> bool
     ensures { (k : Known) → KeepsKnowledge k known.now → IsTrue result ↔ (anchor_heard id k.heard ≡ Some anchor.now) }
 {
-    is_anchor(id, anchor, known.replies(id))
+    is_anchor(id, anchor, known.views(id))
 }
 
 /// Whether the actor may send this removal of the transaction's record.
@@ -211,27 +198,33 @@ pub fn may_send_remove(known: &Knowledge<'_>, id: TxnId, anchor: &Key) -> bool
     is_own_anchor(known, id, anchor) && is_settled(known, id)
 }
 
-/// Whether a final view of the actor's own transaction was heard, and each of its locks was settled.
-fn is_own_settled(heard: &[Hearing<'_>], id: TxnId, locks: &Locks<'_>) -> bool
-    ensures { IsTrue result ↔ (Any (IsFinalAbout id) heard.now × AllResolved heard.now id locks.now) }
+/// Whether a final view of the transaction was heard.
+fn was_final_heard(known: &Knowledge<'_>, id: TxnId) -> bool
+    ensures { (k : Known) → KeepsKnowledge k known.now → IsTrue result ↔ Any (IsFinalAbout id) k.heard }
 {
-    was_final(id, heard) && are_own_resolved(heard, id, locks)
+    was_final(id, known.views(id))
+}
+
+/// Whether a final view of the actor's own transaction was heard, and each of its locks was settled.
+fn is_own_settled<'a>(known: &Knowledge<'a>, id: TxnId, locks: &Locks<'a>) -> bool
+    ensures { (k : Known) → KeepsKnowledge k known.now → IsTrue result ↔ (Any (IsFinalAbout id) k.heard × AllResolved k.heard id locks.now) }
+{
+    was_final_heard(known, id) && are_own_resolved(known, id, locks)
 }
 
 /// Whether a final view of the transaction was heard all of whose locks were settled.
-fn is_other_settled<'b>(heard: &[Hearing<'b>], id: TxnId) -> bool
-    ensures { IsTrue result ↔ Any (IsSettledBy heard.now id) heard.now }
+fn is_other_settled(known: &Knowledge<'_>, id: TxnId) -> bool
+    ensures { (k : Known) → KeepsKnowledge k known.now → IsTrue result ↔ Any (IsSettledBy k.heard id) k.heard }
 {
-    is_some_settled_by(heard, heard, id)
+    is_some_settled_by(known, id, known.views(id))
 }
 
 /// Whether the transaction's record is final and its locks are settled: its own in its session, else those of a final view.
 fn is_settled(known: &Knowledge<'_>, id: TxnId) -> bool
     ensures { (k : Known) → KeepsKnowledge k known.now → IsTrue result ↔ IsSettledFor k id }
 {
-    let replies = known.replies(id);
     match known.own_txn(id) {
-        Some(t) => is_own_settled(replies, id, t.locks()),
-        None => is_other_settled(replies, id),
+        Some(t) => is_own_settled(known, id, t.locks()),
+        None => is_other_settled(known, id),
     }
 }

@@ -17,10 +17,6 @@ use Rattle.pc_world.specs.Tell.Data.{IsPutFor, IsValueOf}
 abbrev pub HasValueNow : Sends → Option (List ℕ) → Heard → Type 0
 HasValueNow x value h = IsTrue (is_number_now x h.number) × IsValueOf value h.request h.reply
 
--- The message is a put of this write, sent before the open call, as is kept.
-abbrev pub is_put_before : Sends → TxnId → ℕ → ℕ → Sent → Bool
-is_put_before x id epoch seq m = not (is_number_now x m.number) && is_put_of id epoch seq m.request
-
 -- A put of the call's write, under a sequence that was not sent before, among these messages.
 pub record IsFirstAfter (before : List Sent) (call : Call) (t : Txn) (m : Sent) : Type 0 where
   pub seq : ℕ

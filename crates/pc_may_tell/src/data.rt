@@ -1,16 +1,17 @@
 //! Value and Written: what was heard in the open call to its get; and a write, once it was sent.
 
-ghost use Rattle.std.specs.Prelude.{◌≡◌, ◌↔◌, Any, IsTrue};
+ghost use Rattle.std.specs.Prelude.{◌≡◌, ◌↔◌, Any, IsTrue, false, not};
 ghost use Rattle.std.specs.List.{list_any};
-ghost use Rattle.std.specs.Option.{option_copied};
+ghost use Rattle.std.specs.Option.{option_copied, option_map_or};
+ghost use Rattle.pc_known.specs.Sends.{is_number_now};
 ghost use Rattle.pc_knowledge.specs.Keeping.{KeepsKnowledge};
-ghost use Rattle.pc_may_tell.specs.Heard.{HasValueNow, IsFirstAfter, IsGetCall, is_put_before};
+ghost use Rattle.pc_may_tell.specs.Heard.{HasValueNow, IsFirstAfter, IsGetCall};
 ghost use Rattle.pc_proto.specs.Requests.{is_put_of};
 ghost use Rattle.pc_world.specs.Known.{Known};
 ghost use Rattle.pc_world.specs.Tell.Data.{IsValueOf, MayTellValue, MayTellWritten, sent_before, was_sent_now};
 
 use pc_base::{TxnId, Value};
-use pc_knowledge::{Knowledge, asks_for, is_put_of, same_value};
+use pc_knowledge::{Knowledge, asks_for, same_value};
 use pc_known::{Hearing, Message, Open, Sends};
 use pc_own::OwnTxn;
 use pc_proto::{Call, Reply, Request};
@@ -62,30 +63,21 @@ pub(crate) fn may_tell_value(known: &Knowledge<'_>, call: &Open<'_>, value: Opti
     is_get(call) && was_value_heard(known, value)
 }
 
-fn is_put_before(sends: &Sends<'_>, id: TxnId, epoch: u32, seq: u32, message: &Message<'_>) -> bool
-    ensures { result ≡ is_put_before sends.now id epoch seq message.now }
+/// Whether this is the number of a message that was sent before the last call was asked, where it is that of one that was sent.
+fn is_before(sends: &Sends<'_>, first: Option<u64>) -> bool
+    ensures { result ≡ option_map_or (λ number. not (is_number_now sends.now number)) first false }
 {
-    !sends.was_sent_now(message.number) && is_put_of(id, epoch, seq, message.request)
-}
-
-fn some_is_put_before(
-    sends: &Sends<'_>,
-    id: TxnId,
-    epoch: u32,
-    seq: u32,
-    puts: &[Message<'_>],
-) -> bool
-    ensures { result ≡ list_any (is_put_before sends.now id epoch seq) puts.now }
-{
-    puts.iter()
-        .any(|message| is_put_before(sends, id, epoch, seq, message))
+    match first {
+        Some(number) => !sends.was_sent_now(number),
+        None => false,
+    }
 }
 
 /// Whether a put of this write was sent before the last call was asked.
 fn was_put(known: &Knowledge<'_>, id: TxnId, epoch: u32, seq: u32) -> bool
     ensures { (k : Known) → KeepsKnowledge k known.now → result ≡ list_any (λ other. is_put_of id epoch seq other.request) (sent_before k) }
 {
-    some_is_put_before(known.sends(), id, epoch, seq, known.puts(id))
+    is_before(known.sends(), known.first_put(id, epoch, seq))
 }
 
 /// Whether the message is a put of the call's write, under a sequence that was not sent before the call.

@@ -5,3 +5,4 @@ pub mod Inserted
 pub mod Walking
 pub mod ByPlace
 pub mod Indexed
+pub mod Unproved

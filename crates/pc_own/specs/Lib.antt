@@ -2,3 +2,4 @@
 pub mod Changes
 pub mod Numbered
 pub mod Places
+pub mod Flying

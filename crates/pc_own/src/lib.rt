@@ -1,6 +1,7 @@
 //! The transactions of a session as it knows them by its own entries, kept step by step and by number.
 #![tactic(auto)]
 
+mod flying;
 mod locks;
 mod places;
 mod read;

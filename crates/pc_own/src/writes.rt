@@ -1,11 +1,17 @@
-ghost use Rattle.std.specs.Prelude.{◌≡◌, ◌<◌, ◌∷◌, ◌++◌, [], None, OnErr, OnOk, length, map, slice_index_or, slice_set};
+ghost use Rattle.std.specs.Prelude.{◌≡◌, ◌↔◌, ◌<◌, ◌∷◌, ◌++◌, [], All, Contains, IsTrue, None, OnErr, OnOk, Some, false, length, map, slice_index_or, slice_set};
 ghost use Rattle.std.specs.Option.{option_copied};
+ghost use Rattle.pc_base.specs.Span.{same_key};
+ghost use Rattle.pc_known.specs.Parts.{part_span};
+ghost use Rattle.pc_own.specs.Flying.{without_write};
 ghost use Rattle.pc_own.specs.Places.{ArePlacesOf, place_by_sequence};
-ghost use Rattle.pc_world.specs.Known.Writes.{Write, asked_again, last_seq_of, proved_at, with_put};
+ghost use Rattle.pc_world.specs.Known.Writes.{Write, asked_again, is_proved, last_seq_of, listed_as, proved_at, unproved, with_put};
+ghost use Rattle.pc_world.specs.Send.Reading.{IsProvedIn};
 
+use crate::flying::{Flying, add_flying, land, none_in, none_on};
 use crate::places::Places;
 use crate::write::OwnWrite;
 use pc_base::{Key, NoMemory, Timestamp, Value};
+use pc_known::Part;
 use std::alloc::Global;
 use std::marker::Model;
 
@@ -14,18 +20,20 @@ use std::marker::Model;
 pub struct Writes<'a> {
     writes: Vec<OwnWrite<'a>>,
     places: Places,
+    /// Those that are not proved yet.
+    flying: Vec<Flying<'a>>,
 }
 
 impl<'a> Model for Writes<'a> {
     ghost use Rattle.std.specs.Prelude.{List};
-    ghost use Rattle.pc_own.specs.Places.{ArePlacesOf};
+    ghost use Rattle.pc_own.specs.Flying.{AreKeptOf};
     ghost use Rattle.pc_world.specs.Known.Writes.{Write};
 
     ghost Value = { List Write };
 
     ghost view = { λ ws. ws.writes.items };
 
-    ghost invariant = { λ ws. ArePlacesOf ws.writes.items ws.places };
+    ghost invariant = { λ ws. AreKeptOf ws.writes.items ws.places ws.flying.items };
 }
 
 impl<'a> Writes<'a> {
@@ -36,6 +44,7 @@ impl<'a> Writes<'a> {
         Writes {
             writes: Vec::new(alloc),
             places: Places::new(alloc),
+            flying: Vec::new(alloc),
         }
     }
 
@@ -57,6 +66,21 @@ impl<'a> Writes<'a> {
     {
         self.writes.clear();
         self.places.clear();
+        self.flying.clear();
+    }
+
+    /// Whether each write of the key is proved.
+    pub fn are_proved_on(&self, key: &Key) -> bool
+        ensures { IsTrue result ↔ All (λ w. IsTrue (same_key w.key key.now) → IsTrue (is_proved w)) self.now }
+    {
+        none_on(self.flying.as_slice(), key)
+    }
+
+    /// Whether each write in the span is proved.
+    pub fn are_proved_in(&self, span: Part<'_>) -> bool
+        ensures { IsTrue result ↔ IsProvedIn (part_span span.entry) self.now }
+    {
+        none_in(self.flying.as_slice(), span)
     }
 
     /// The writes after a put was sent: a new one stands last, one that was sent before is sent once more.
@@ -81,13 +105,15 @@ impl<'a> Writes<'a> {
 
     /// One more write, of a sequence that none has, stands last. After a refusal none is kept.
     fn add(&mut self, write: OwnWrite<'a>) -> Result<(), NoMemory>
-        requires { place_by_sequence write.seq self.old ≡ None }
+        requires free { place_by_sequence write.seq self.old ≡ None }
+        requires unproved { is_proved write ≡ false }
         ensures { OnOk result (self.new ≡ self.old ++ write.entry ∷ []) }
     {
-        let added = add(&mut self.writes, &mut self.places, write);
+        let added = add(&mut self.writes, &mut self.places, &mut self.flying, write);
         if added.is_err() {
             self.writes.clear();
             self.places.clear();
+            self.flying.clear();
         }
         added
     }
@@ -97,7 +123,7 @@ impl<'a> Writes<'a> {
         ensures { OnOk result (self.new ≡ map (proved_at key.now seq ts) self.old) }
     {
         match self.places.place(seq) {
-            Some(place) => prove_at(&mut self.writes, place, key, seq, ts),
+            Some(place) => prove_at(&mut self.writes, &mut self.flying, place, key, seq, ts),
             None => Ok(()),
         }
     }
@@ -106,14 +132,17 @@ impl<'a> Writes<'a> {
 fn add<'a>(
     writes: &mut Vec<OwnWrite<'a>>,
     places: &mut Places,
+    flying: &mut Vec<Flying<'a>>,
     write: OwnWrite<'a>,
 ) -> Result<(), NoMemory>
     requires free { place_by_sequence write.seq writes.old.items ≡ None }
     requires kept { ArePlacesOf writes.old.items places.old }
     ensures pushed { OnOk result (writes.new.items ≡ writes.old.items ++ write.entry ∷ []) }
     ensures kept { OnOk result (ArePlacesOf writes.new.items places.new) }
+    ensures flying { OnOk result (flying.new.items ≡ flying.old.items ++ (write.entry.key, write.entry.seq) ∷ []) }
 {
     places.add(write.seq, writes.len())?;
+    add_flying(flying, write.key, write.seq)?;
     writes.push(write)?;
     Ok(())
 }
@@ -135,6 +164,7 @@ fn ask_at(
 
 fn prove_at(
     writes: &mut Vec<OwnWrite<'_>>,
+    flying: &mut Vec<Flying<'_>>,
     place: usize,
     key: &Key,
     seq: u32,
@@ -142,9 +172,12 @@ fn prove_at(
 ) -> Result<(), NoMemory>
     ensures ok { (d : Write) → place < length writes.old.items → OnOk result (writes.new.items ≡ slice_set writes.old.items place (proved_at key.now seq ts (slice_index_or writes.old.items place d))) }
     ensures err { OnErr result (writes.new.items ≡ writes.old.items) }
+    ensures landed { OnOk result (flying.new.items ≡ without_write key.now seq flying.old.items) }
+    ensures flying { OnErr result (flying.new.items ≡ flying.old.items) }
 {
     if let Some(write) = writes.get_mut(place) {
         write.prove_at(key, seq, ts)?;
     }
+    land(flying, key, seq);
     Ok(())
 }

@@ -7,4 +7,4 @@ pub returns : goal.returns
 returns c k keeps =
     let id = c.args.id in
     subst (λ o. IsTrue c.is_anchor.result ↔ (o ≡ Some c.args.anchor.now)) (anchored id k.heard)
-    (subst (λ hs. IsTrue c.is_anchor.result ↔ (anchor_heard id hs ≡ Some c.args.anchor.now)) (c.replies.ensures k keeps) c.is_anchor.ensures)
+    (subst (λ hs. IsTrue c.is_anchor.result ↔ (anchor_heard id hs ≡ Some c.args.anchor.now)) (c.views.ensures k keeps) c.is_anchor.ensures)

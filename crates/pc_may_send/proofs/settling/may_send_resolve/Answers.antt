@@ -6,4 +6,4 @@ use Rattle.pc_world.specs.Send.Settling.{ShowsFate}
 
 pub returns : goal.returns
 returns c k keeps =
-    both (subst (λ hs. IsTrue c.some_shows_fate.result ↔ Any (ShowsFate c.args.id c.args.fate) hs) (c.replies.ensures k keeps) c.some_shows_fate.ensures) (has_fate c.args.id k.heard c.args.fate)
+    both (subst (λ hs. IsTrue c.some_shows_fate.result ↔ Any (ShowsFate c.args.id c.args.fate) hs) (c.views.ensures k keeps) c.some_shows_fate.ensures) (has_fate c.args.id k.heard c.args.fate)
