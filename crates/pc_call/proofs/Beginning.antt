@@ -111,10 +111,6 @@ beat_no_put : (t : Txn) (key : List ℕ) (value : Option (List ℕ)) (seq : ℕ)
 beat_no_put t key value seq (requests.Beat meta ts now) beat put = put
 beat_no_put t key value seq r beat put = absurd cc
 
-beat_not_put : (id : TxnId) (epoch seq : ℕ) (r : Request) → is_heartbeat r ≡ true → IsTrue (is_put_of id epoch seq r) → ⊥
-beat_not_put id epoch seq (requests.Beat meta ts now) beat put = cc
-beat_not_put id epoch seq r beat put = absurd cc
-
 module _ (test : Heard → Bool) (no : (h : Heard) → is_heartbeat h.request ≡ true → test h ≡ false) where
   none_counted : (hs : List Heard) → All ShowsAlive hs → count_by test hs ≡ 0
   none_counted [] a = refl

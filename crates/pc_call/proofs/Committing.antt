@@ -214,29 +214,6 @@ module _ (set : Setting) (n : ℕ) (k : Known) (t : Txn) (x : OpenTxn) (s : Stat
       none_gone (requests.Refresh id from to span) up = λ same. absurd (omega (arith, same, up, reads_at, writes_now, behind))
       none_gone q up = tt
 
--- what was refreshed up to where it reads was refreshed up to where it writes
-pub up_to_write : (loses : Bool) (n : ℕ) (k : Known) (t : Txn) (x : OpenTxn) (s : Statement) → CommitsUpTo loses t.read_ts n k t x s → CommitsUpTo loses t.write_ts n k t x s
-up_to_write loses n k t x s c = record {
-  open_in = c.open_in;
-  stages = c.stages;
-  stands = c.stands;
-  late = c.late;
-  client = c.client;
-  opened = c.opened;
-  split = c.split;
-  paced = c.paced;
-  commits = c.commits;
-  refused = c.refused;
-  refreshes =
-      All-weaker (λ m. IsRefreshUpTo t.read_ts m.request) (λ m. IsRefreshUpTo t.write_ts m.request) (λ m up. refresh-more t.read_ts t.write_ts m.request (omega (arith, c.stands.behind)) up) k.sent_now c.refreshes;
-  held = c.held;
-  beaten = c.beaten;
-  none_eighth = c.none_eighth;
-  below = c.below;
-  settled = c.settled;
-  done = c.done;
-}
-
 -- a heartbeat decides nothing, and its reply moves nothing
 beat_no_commit : (r : Request) → is_heartbeat r ≡ true → IsTrue (is_commit r) → ⊥
 beat_no_commit (requests.Beat meta ts now) beat commits = cc

@@ -1,6 +1,6 @@
 -- A call begins by proving the writes for which it waits.
 use Rattle.std.proofs.Common.{◌≡◌, ℕ, ◌<◌, ◌≤◌, Bool, true, false, cond, ◌⊎◌, inl, inr, List, [], ◌∷◌, length, map, Option, None, Some, refl, sym, ap, ◌∙◌, subst, arith, All, Any, Contains, count_by, suc, lit<, IsTrue}
-use Rattle.std.proofs.lemmas.Bool.{leb-false, leb-true, lt-ltb}
+use Rattle.std.proofs.lemmas.Bool.{leb-false, lt-ltb}
 use Rattle.std.proofs.lemmas.Option.{same_Some}
 use Rattle.std.proofs.lemmas.List.Elements.{All-cons, All-contains, All-head, All-nil, All-tail, All-weaker}
 use Rattle.pc_base.specs.declared.limits.TheConstants.{MOST_IN_FLIGHT}
@@ -57,11 +57,6 @@ writes_all : (call : Call) (flight : List WriteInFlight) → waits_for_all call 
 writes_all (calls.Put key value) flight is = (key, Some value, refl)
 writes_all (calls.Delete key) flight is = (key, None, refl)
 writes_all call flight is = absurd cc
-
-many_all : (call : Call) (flight : List WriteInFlight) → waits_for_all call flight ≡ true → MOST_IN_FLIGHT ≤ length flight
-many_all (calls.Put key value) flight is = leb-true MOST_IN_FLIGHT (length flight) is
-many_all (calls.Delete key) flight is = leb-true MOST_IN_FLIGHT (length flight) is
-many_all call flight is = absurd cc
 
 room_else : (call : Call) (flight : List WriteInFlight) (key : List ℕ) (value : Option (List ℕ)) → call ≡ write_call key value → waits_for_all call flight ≡ false → length flight < MOST_IN_FLIGHT
 room_else call flight key None e none = leb-false MOST_IN_FLIGHT (length flight) (ap (λ c. waits_for_all c flight) (sym e) ∙ none)

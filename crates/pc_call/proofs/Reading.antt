@@ -158,12 +158,6 @@ module _ (c : Course) (k : Known) where
       (span_read m.request) tells)
       (told_spans ms (All-tail (WasAnsweredWith c k) m ms a) (All-tail (SentHere c k) m ms here))
 
--- the spans of one of the messages are among those of all
-in_spans : (m : Message) (ms : List Message) (span : Span) → Contains ms m → Contains (span_read m.request) span → Contains (spans_read ms) span
-in_spans m [] span (n, low, is) there = absurd (omega arith)
-in_spans m (y ∷ ms) span (zero, low, is) there = Contains-append_left (span_read y.request) (spans_read ms) span (subst (λ (y : Message). Contains (span_read y.request) span) (sym is) there)
-in_spans m (y ∷ ms) span (suc n, low, is) there = Contains-append_right (span_read y.request) (spans_read ms) span (in_spans m ms span (n, omega arith, is) there)
-
 every : {X : Type 0} (P : X → Type 0) → ((x : X) → P x) → (xs : List X) → All P xs
 every P all [] = All-nil P
 every P all (x ∷ xs) = All-cons P x xs (all x) (every P all xs)

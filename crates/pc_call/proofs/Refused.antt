@@ -48,7 +48,6 @@ use Rattle.pc_txn.specs.Standing.{TxnStands}
 use Rattle.pc_wave.proofs.Hearing.{came_request}
 use Rattle.pc_wave.proofs.Lists.{at_least-before, at_least-fewer}
 use Rattle.pc_wave.specs.declared.message.Message.{Message}
-use Rattle.pc_wave.specs.declared.message.Progress.TheVariants as progresses
 use Rattle.pc_wave.specs.Messages.{awaits_at, back_with, first_changed, progress_awaits, progress_to_send, wave_awaits}
 use Rattle.pc_wave.specs.Standing.{IsHeardTo, IsMessageAt, IsPastWhereUndecided, goes_beside, messages_of}
 use Rattle.pc_world.specs.Answering.{MayAnswer}
@@ -291,9 +290,6 @@ used_up k now h ts recorded n n2 made few counts last eight = record { eight = e
 pub used_otherwise : (b : Bool) → b ≡ false → IsTrue b → ⊥
 used_otherwise true e is = cc
 used_otherwise false e is = cc
-
-pub same_count : (p : Purpose) (n m : ℕ) → p ≡ purposes.Commit n → p ≡ purposes.Commit m → n ≡ m
-same_count p n m one other = let e : purposes.Commit n ≡ purposes.Commit m = sym one ∙ other in cc
 
 pub same_commit : (p : Purpose) (n m : ℕ) → p ≡ purposes.Commit n → p ≡ purposes.Commit m → n ≡ m
 same_commit p n m one other = let e : purposes.Commit n ≡ purposes.Commit m = sym one ∙ other in cc

@@ -29,7 +29,6 @@ use Rattle.pc_call.specs.declared.refreshes.Refreshed.{Refreshed}
 use Rattle.pc_call.specs.declared.refreshes.Refreshed.TheVariants as refreshes
 use Rattle.pc_call.specs.Serving.{HasBeatenBy, InCall, IsAnswerTo, IsMetUpTo, KeepsStages, MetNoOtherWrite, MetNoWrite, Serves, ServesRefresh, WaitsMeanwhile, out_of, is_last_beat}
 use Rattle.pc_lists.proofs.Anywhere.{any_head, any_later, any_of, any_weaker}
-use Rattle.pc_proto.specs.declared.answer.Answer.{Answer}
 use Rattle.pc_proto.specs.declared.answer.Answer.TheVariants as answers
 use Rattle.pc_proto.specs.declared.reply.Reply.{Reply}
 use Rattle.pc_proto.specs.declared.reply.Reply.TheVariants as replies
@@ -71,10 +70,6 @@ unrefreshed_is reply key ts e = absurd cc
 unshown : (o : Option (List ℕ × ℕ)) → is_some o ≡ false → o ≡ None
 unshown None e = refl
 unshown (Some w) e = absurd cc
-
-shown_as : (o : Option (List ℕ × ℕ)) → is_some o ≡ true → (w : List ℕ × ℕ) × (o ≡ Some w)
-shown_as None e = absurd cc
-shown_as (Some w) e = (w, refl)
 
 not_less : (o : Ordering) → o ≡ Less → is_lt (ordering_reverse o) ≡ true → ⊥
 not_less Less e h = cc

@@ -162,10 +162,6 @@ proves_blockable s (calls.Put key value) is begins = writes_blockable s key (Som
 proves_blockable s (calls.Delete key) is begins = writes_blockable s key None is
 proves_blockable s call is begins = absurd begins
 
-blocked_conflict : (o : Option TxnId) (number : ℕ) (conflict : Reply) (holder : TxnId) → conflict_by o number conflict ≡ steps.Blocked holder → o ≡ Some holder
-blocked_conflict None number conflict holder e = absurd cc
-blocked_conflict (Some other) number conflict holder e = cc
-
 eighth_by : (b : Bool) (o : Option TxnId) (number : ℕ) (conflict : Reply) (holder : TxnId) → conflict_by (cond b o None) number conflict ≡ steps.Blocked holder → (b ≡ true) × (o ≡ Some holder)
 eighth_by true (Some other) number conflict holder e = (refl, cc)
 eighth_by true None number conflict holder e = absurd cc

@@ -22,6 +22,7 @@ ghost use Rattle.pc_txn.specs.Counted.{IsCounted};
 ghost use Rattle.pc_txn.specs.declared.txn.OpenTxn.{OpenTxn};
 ghost use Rattle.pc_wave.specs.Standing.{IsHeardTo};
 ghost use Rattle.pc_wave.specs.declared.step.Step.TheVariants as steps;
+ghost use Rattle.pc_wave.specs.State.{state_by};
 ghost use Rattle.pc_wave.specs.Messages.{awaits_at, back_with, conflicts_at, first_changed, goes_again, is_to_send, sent_under, step_of, wave_awaits};
 ghost use Rattle.pc_follows.specs.Refreshes.{RefreshesInOneWave};
 ghost use Rattle.pc_world.specs.Known.{Known, call_of, next_number};
@@ -32,7 +33,7 @@ use crate::purpose::Purpose;
 use pc_base::{Key, NoMemory, Timestamp, TryCopy, Value};
 use pc_proto::{Reply, Request};
 use pc_txn::OpenTxn;
-use pc_wave::{Message, Step, Wave};
+use pc_wave::{Message, Step, Wave, WaveState};
 use std::alloc::Global;
 
 /// The messages of an open call, and what they are sent for.
@@ -49,6 +50,13 @@ impl OpenCall {
         ensures may { (session clock begun : ℕ) (set : Setting) (k : Known) (x : OpenTxn) → IsCounted session clock begun k → InCall set k x self.now.purpose self.now.wave → IfOk result (MayBeGiven session set k x self.now.purpose self.now.wave) }
     {
         self.wave.step()
+    }
+
+    /// How far its messages are.
+    pub fn state(&self) -> WaveState
+        ensures { result ≡ state_by (step_of self.now.wave) }
+    {
+        self.wave.state()
     }
 
     /// The timestamp at which its messages read, if they do.

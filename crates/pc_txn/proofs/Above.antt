@@ -1,19 +1,14 @@
 -- Writes that stand only above a timestamp, and how far the write timestamp reaches, while the transaction goes on.
-use Rattle.std.proofs.Common.{◌≡◌, ℕ, ◌<◌, ◌≤◌, max, nat_lt, Bool, true, false, cond, ◌&&◌, ◌==◌, ◌⊎◌, inl, inr, List, [], ◌∷◌, ◌++◌, map, refl, sym, ap, ◌∙◌, subst, arith, All, Any, Contains}
+use Rattle.std.proofs.Common.{◌≡◌, ℕ, ◌<◌, ◌≤◌, max, nat_lt, Bool, true, false, cond, ◌&&◌, ◌==◌, ◌⊎◌, inl, inr, List, [], ◌∷◌, ◌++◌, map, refl, sym, ap, subst, arith, Any, Contains}
 use Rattle.std.specs.List.{list_any}
 use Rattle.std.proofs.lemmas.Bool.{and_parts, eqb-true, ltb-false, ltb-true}
-use Rattle.std.proofs.lemmas.List.Elements.{All-append, All-cons, All-nil, All-weaker}
-use Rattle.pc_base.specs.declared.transaction.TxnId.{TxnId}
+use Rattle.std.proofs.lemmas.List.Elements.{All-cons, All-nil}
 use Rattle.pc_base.specs.Span.{same_key}
-use Rattle.pc_lists.proofs.Anywhere.{any_kept, any_of, any_weaker}
+use Rattle.pc_lists.proofs.Anywhere.{any_kept, any_weaker}
 use Rattle.pc_lists.proofs.Lists.{all_from_contains}
-use Rattle.pc_lists.proofs.Same.{same_key-is, same_txn-is, same_txn-self}
-use Rattle.pc_proto.specs.declared.reply.Reply.TheVariants as replies
-use Rattle.pc_proto.specs.declared.request.Request.{Request}
-use Rattle.pc_proto.specs.declared.request.Request.TheVariants as requests
+use Rattle.pc_lists.proofs.Same.{same_key-is}
 use Rattle.pc_txn.proofs.Lists.{any_before, any_mapped}
-use Rattle.pc_txn.specs.Counted.{IsOwnHeard, IsQueryOfBegun}
-use Rattle.pc_txn.specs.Standing.{HasMovedOn, StandsAbove, IsMissingAt, IsMissingJustBelow, MissedNothing, WasMissedAt, WritesWithinReach, is_query_of}
+use Rattle.pc_txn.specs.Standing.{HasMovedOn, StandsAbove, IsMissingAt, IsMissingJustBelow, WasMissedAt, WritesWithinReach}
 use Rattle.pc_world.specs.Known.{Known}
 use Rattle.pc_world.specs.Known.Traffic.{Heard, Sent}
 use Rattle.pc_world.specs.Known.Transactions.{Txn}
@@ -100,39 +95,3 @@ module _ (k now : Known) (sent_more : List Sent) (heard_more : List Heard) (move
       by : (b : Bool) → nat_lt t.write_ts at ≡ b → WritesWithinReach now later
       by true e = let up : t.write_ts < at = ltb-true t.write_ts at e in inl (omega (arith, is, up, low))
       by false e = let under : at ≤ t.write_ts = ltb-false t.write_ts at e in reach_on (omega (arith, is, under)) reach
-
-module _ (id : TxnId) where
-  abbrev MissesNone : Heard → Type 0
-  MissesNone h = is_query_of id h.request ≡ true → h.reply ≡ replies.Missing → ⊥
-
-  -- where no query missed a write, none was missed anywhere
-  pub none_missed : (heard : List Heard) (epoch : ℕ) (key : List ℕ) (seq ts : ℕ) → MissedNothing id heard → WasMissedAt heard id epoch key seq ts → ⊥
-  none_missed heard epoch key seq ts none was =
-      let f = any_of MissesNone (IsMissingAt id epoch key seq ts) heard none was in
-      f.1 (ap (is_query_of id) f.2.asked ∙ same_txn-self id) f.2.told
-
-  -- so is it beside what asks for none of its writes
-  pub none_missed_on : (heard more : List Heard) → MissedNothing id heard → All (λ h. is_query_of id h.request ≡ false) more → MissedNothing id (heard ++ more)
-  none_missed_on heard more none others =
-      All-append MissesNone heard more none
-      (All-weaker (λ h. is_query_of id h.request ≡ false) MissesNone (λ h other asks told. let is : is_query_of id h.request ≡ true = asks in let not_it : is_query_of id h.request ≡ false = other in absurd cc) more others)
-
--- and then the session's clock has reached the write timestamp
-pub clock_reached : (k : Known) (t : Txn) → WritesWithinReach k t → MissedNothing t.id k.heard → t.write_ts ≤ k.high
-clock_reached k t (inl low) none = low
-clock_reached k t (inr some) none =
-    let f = any_of (MissesNone t.id) (IsMissingJustBelow t.id t.write_ts) k.heard none some in
-    absurd (f.1 (ap (is_query_of t.id) f.2.missing.asked ∙ same_txn-self t.id) f.2.missing.told)
-
--- none was of a transaction that was not begun
-pub none_missed_new : (heard : List Heard) (session begun count : ℕ) (id : TxnId) → id.session ≡ session → begun < id.number → All (IsOwnHeard session begun count) heard → MissedNothing id heard
-none_missed_new heard session begun count id whose new own =
-    All-weaker (IsOwnHeard session begun count) (MissesNone id) (λ h o asks told. not_begun h.request o.own.query_of asks) heard own
-  where
-    not_begun : (request : Request) → IsQueryOfBegun session begun request → is_query_of id request ≡ true → ⊥
-    not_begun (requests.Query other epoch seq ts key by) begun_before asks =
-        let same : other ≡ id = same_txn-is other id asks in
-        let low : other.number ≤ begun = begun_before (ap (λ (i : TxnId). i.session) same ∙ whose) in
-        let number : other.number ≡ id.number = ap (λ (i : TxnId). i.number) same in
-        absurd (omega (arith, low, number, new))
-    not_begun request begun_before asks = absurd cc

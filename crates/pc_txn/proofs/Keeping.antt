@@ -18,7 +18,7 @@ use Rattle.pc_reads.proofs.Goods.{stand_on}
 use Rattle.pc_reads.specs.ReadsStanding.{TxnReadsStand}
 use Rattle.pc_staging.proofs.Going.{staging_on}
 use Rattle.pc_staging.specs.declared.stage_out.StageOut.{StageOut}
-use Rattle.pc_staging.specs.Kept.{Evidence, is_dead_by, is_over, is_passed_by, is_refuted}
+use Rattle.pc_staging.specs.Kept.{Evidence, is_dead_by, is_over}
 use Rattle.pc_staging.specs.Laws.{LeavesStages, SendsNothingNew}
 use Rattle.pc_staging.specs.Standing.{AreEvidence, StagingStands, WasStagedAt, WasStageSent}
 use Rattle.pc_txn.proofs.Above.{StaysUp, reach_on, staged_or_above}
@@ -175,11 +175,6 @@ pub free_over : (k : Known) (t : Txn) (e : Evidence) → StagingStands k [] None
 free_over k t e st =
     ap (λ c. is_none c && list_all (is_dead_by e.undecided) e.stages) st.commit_at
     ∙ ap (λ os. list_all (is_dead_by e.undecided) os) (none_kept k.heard t e.stages st.kept)
-
-pub free_passed : (k : Known) (t : Txn) (e : Evidence) → StagingStands k [] None t e → is_passed_by e ≡ true
-free_passed k t e st =
-    ap (λ c. is_none c && list_all is_refuted e.stages) st.commit_at
-    ∙ ap (λ os. list_all is_refuted os) (none_kept k.heard t e.stages st.kept)
 
 module _ (k now : Known) (stages : List SentStage) (commit : Option SentCommit) (t : Txn) (x : OpenTxn) (sent_more : List Sent) (heard_more : List Heard) (st : TxnStands k stages commit t x) (more : HasMovedOn k now sent_more heard_more)
     (quiet : All (λ m. IsAside t.id m.request) sent_more) (leave : All (LeavesAsIs t) heard_more) where

@@ -14,7 +14,6 @@ use Rattle.pc_follows.specs.Heartbeats.{last_shown}
 use Rattle.pc_flight.specs.declared.write.WriteInFlight.{WriteInFlight}
 use Rattle.pc_flight.specs.InFlight.{FlightStands, is_another}
 use Rattle.pc_flight.specs.Laws.{IsKnownUnproved}
-use Rattle.pc_follows.specs.PipelinedPuts.{proves}
 use Rattle.pc_lists.proofs.Anywhere.{any_kept, any_last}
 use Rattle.pc_lists.proofs.Lists.{all_from_contains}
 use Rattle.pc_lists.proofs.Same.{same_key-equal, same_txn-self}
@@ -37,7 +36,7 @@ use Rattle.pc_staging.specs.Laws.{LeavesStages, ProvesOn, SendsNothingNew}
 use Rattle.pc_staging.specs.Standing.{HasUnproved, StagingStands, WasStagedAt, WasStageSent}
 use Rattle.pc_txn.proofs.Above.{StaysUp, any_above, any_proved, reach_on, reach_raised, split_proved}
 use Rattle.pc_txn.proofs.Accounted.{accounted_on, kept_at, no_message, one_message}
-use Rattle.pc_txn.proofs.Found.{asked_proved, finds_none_alone, found_on, placed_proved, proves_none}
+use Rattle.pc_txn.proofs.Found.{asked_proved, finds_none_alone, found_on, placed_proved}
 use Rattle.pc_txn.proofs.Keeping.{shows_none, staged_before}
 use Rattle.pc_txn.proofs.Late.{dead_late, kept_above, live_on, none_by, none_live}
 use Rattle.pc_txn.proofs.Lists.{any_before, any_mapped, any_numbered, none_among}
@@ -237,20 +236,6 @@ module _ (k : Known) (stages : List SentStage) (commit : Option SentCommit) (t :
   unwritten_of =
       subst (λ n. All (IsNotWritten t n) k.heard) seq_is
       (All-contains (IsUnwrittenWhereUnproved t k.heard) t.writes known_one.w st.writes.unwritten known_one.written known_one.unproved)
-
-  -- nothing that was heard proves it
-  pub unproved_of : list_any (proves t known_one.w) k.heard ≡ false
-  unproved_of =
-      proves_none t known_one.w known_one.written known_one.unproved k.heard
-      (All-contains (IsUnwrittenWhereUnproved t k.heard) t.writes known_one.w st.writes.unwritten known_one.written known_one.unproved) st.found
-
-  -- the transaction has an anchor
-  pub has_anchor : (anchor : List ℕ) × (t.anchor ≡ Some anchor)
-  has_anchor = by t.anchor refl
-    where
-      by : (o : Option (List ℕ)) → t.anchor ≡ o → (anchor : List ℕ) × (t.anchor ≡ Some anchor)
-      by (Some anchor) is = (anchor, is)
-      by None is = let none : list_any (λ w. w.seq == f.seq) t.writes ≡ false = ap (list_any (λ w. w.seq == f.seq)) (st.writes.unanchored is) in absurd (let some = one_sent in cc)
 
   abbrev put_then : List ℕ → ℕ → Request
   put_then anchor ts = requests.Put (meta_of t anchor) f.seq ts f.key f.value

@@ -27,12 +27,12 @@ use Rattle.pc_proto.specs.Views.{is_final_view, is_staging_at, undecided_ts}
 use Rattle.pc_reads.proofs.Goods.{stand_on}
 use Rattle.pc_reads.specs.ReadsStanding.{TxnReadsStand}
 use Rattle.pc_staging.proofs.Allowing.{allows}
-use Rattle.pc_staging.proofs.Deciding.{implicit, late_stages, live_stage}
+use Rattle.pc_staging.proofs.Deciding.{implicit, late_stages}
 use Rattle.pc_staging.proofs.Fates.{one_stage, stage_new}
 use Rattle.pc_staging.proofs.Hears as hears
 use Rattle.pc_staging.proofs.Sending.{stage_stands}
-use Rattle.pc_staging.specs.Kept.{Evidence, after_stage, is_live_at, is_passed_by, is_staged_and_proved, seen_undecided, with_stages, without_stage}
-use Rattle.pc_staging.specs.Standing.{AreRefutedBelow, IsPastStageBelow, StagingStands, WasStagedAt, WasStageSent, stages_after}
+use Rattle.pc_staging.specs.Kept.{Evidence, after_stage, is_passed_by, is_staged_and_proved, seen_undecided, with_stages, without_stage}
+use Rattle.pc_staging.specs.Standing.{AreRefutedBelow, IsPastStageBelow, StagingStands, WasStagedAt, stages_after}
 use Rattle.pc_txn.proofs.Above.{StaysUp, any_above, reach_on, reach_raised}
 use Rattle.pc_txn.proofs.Accounted.{accounted_on, no_message, shown_epoch, shown_known}
 use Rattle.pc_txn.proofs.Commits.{read_on}
@@ -441,20 +441,6 @@ module _ (splits : List (List ℕ)) (actor : ActorId) (k : Known) (stages : List
         read_now = read;
         all_locks = refl;
       })))
-
-  -- a stage that is kept goes out again while it is not late
-  pub may_stage_again : (s : SentStage) → Contains k.txns t → Contains stages s → is_live_at s.ts x.staging ≡ true → MaySendRow splits actor k (stage_request s)
-  may_stage_again s mine there live =
-      let own = hears.own_each k.heard t stages x.staging.stages st.staging.kept s there in
-      let w : WasStageSent k.sent t.id s = All-contains (WasStageSent k.sent t.id) stages s st.staging.sent there in
-      inr (record {
-        t = t;
-        mine = mine;
-        whose = own.0;
-        epoch_now = own.1;
-        before = w.went_out;
-        not_late = live_stage k stages commit t x.staging st.staging s.ts live s there refl;
-      })
 
   -- where nothing is in flight, and it was last heard to stage at its write timestamp, it is committed there by its stage
   pub may_tell_committed : is_staged_and_proved x.in_flight t.write_ts x.staging ≡ true → IsImplicit k t t.write_ts

@@ -1,5 +1,5 @@
 -- How the open transaction stands beside what its session knows, and what leaves it so.
-use Rattle.std.specs.Prelude.{◌≡◌, ◌≢◌, ℕ, ◌+◌, ◌≤◌, ◌<◌, Bool, true, false, ◌⊎◌, Option, None, Some, List, ◌++◌, All, Any, Contains, IsTrue}
+use Rattle.std.specs.Prelude.{◌≡◌, ℕ, ◌+◌, ◌≤◌, ◌<◌, Bool, true, false, ◌⊎◌, Option, None, Some, List, ◌++◌, All, Any, Contains, IsTrue}
 use Rattle.std.specs.Option.{option_map_or}
 use Rattle.pc_base.specs.declared.transaction.TxnId.{TxnId}
 use Rattle.pc_base.specs.declared.transaction.Who.{Who}
@@ -91,10 +91,6 @@ pub record IsMissingJustBelow (id : TxnId) (ts : ℕ) (h : Heard) : Type 0 where
 -- The write timestamp is one that the session's clock has reached, or lies just above one at which a query missed a write.
 abbrev pub WritesWithinReach : Known → Txn → Type 0
 WritesWithinReach k t = (t.write_ts ≤ k.high) ⊎ Any (IsMissingJustBelow t.id t.write_ts) k.heard
-
--- No query missed a write of the transaction.
-abbrev pub MissedNothing : TxnId → List Heard → Type 0
-MissedNothing id heard = All (λ h. is_query_of id h.request ≡ true → h.reply ≢ replies.Missing) heard
 
 -- The stage lies at the write timestamp; and where the transaction was heard to stage there, that is where it was last heard to stage.
 pub record IsStageHere (heard : List Heard) (staged : Option ℕ) (t : Txn) (s : SentStage) : Type 0 where

@@ -11,4 +11,5 @@ pub mod Places
 pub mod Rounds
 pub mod Sending
 pub mod Standings
+pub mod States
 pub mod Tries

@@ -5,4 +5,5 @@ pub mod Joining
 pub mod Messages
 pub mod Shown
 pub mod Standing
+pub mod State
 pub mod Tries

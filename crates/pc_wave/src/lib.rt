@@ -6,5 +6,5 @@ mod step;
 mod wave;
 
 pub use message::{Message, Progress};
-pub use step::Step;
+pub use step::{Step, WaveState};
 pub use wave::Wave;

@@ -1,7 +1,8 @@
-ghost use Rattle.std.specs.Prelude.{◌≡◌, IfOk};
+ghost use Rattle.std.specs.Prelude.{◌≡◌, ℕ, IfOk};
 ghost use Rattle.pc_wave.specs.Messages.{awaits_at, back_with, conflicts_at, goes_again, has_answer, is_out, is_in_conflict, is_pending, is_to_send, lost_of, message_again, message_on_way, message_to_send, no_try_left, conflict_step, one_conflict_more, one_lost_more, step_in, sent_under};
+ghost use Rattle.pc_wave.specs.State.{state_by};
 
-use crate::step::Step;
+use crate::step::{Step, WaveState};
 use pc_base::limits::MOST_CONFLICTS;
 use pc_base::{NoMemory, TryCopy};
 use pc_proto::{Reply, Request};
@@ -141,6 +142,25 @@ impl Message {
                 number,
                 conflict: conflict.copy()?,
             }),
+        }
+    }
+
+    /// How far a wave is of which this message's conflict is due.
+    pub fn state(&self) -> WaveState
+        ensures { result ≡ state_by (step_in self.now.conflicts self.now.progress) }
+    {
+        match &self.progress {
+            Progress::Met { conflict, .. } => self.conflict_state(conflict),
+            _ => WaveState::UnderWay,
+        }
+    }
+
+    fn conflict_state(&self, conflict: &Reply) -> WaveState
+        ensures { (number : ℕ) → result ≡ state_by (conflict_step self.now.conflicts number conflict.now) }
+    {
+        match conflict.holder() {
+            Some(holder) if self.conflicts >= MOST_CONFLICTS => WaveState::Blocked { holder },
+            _ => WaveState::UnderWay,
         }
     }
 

@@ -15,3 +15,14 @@ pub enum Step {
     /// Every message was answered.
     Answered,
 }
+
+/// How far a wave is.
+#[derive(Debug, PartialEq, Eq, Drop)]
+pub enum WaveState {
+    /// More is due of it: a request is to be sent, messages are to be delivered, or a round is to be made.
+    UnderWay,
+    /// This transaction's intents blocked a message as often as one may be blocked.
+    Blocked { holder: TxnId },
+    /// Every message was answered.
+    Answered,
+}

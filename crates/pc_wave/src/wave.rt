@@ -6,6 +6,7 @@ ghost use Rattle.pc_wave.specs.declared.step.Step.TheVariants as steps;
 ghost use Rattle.pc_wave.specs.Due.{MadeRound, MayBeDue};
 ghost use Rattle.pc_wave.specs.Course.{Course};
 ghost use Rattle.pc_wave.specs.Joining.{MayJoin, MayJoinAgain, MayJoinOnWay};
+ghost use Rattle.pc_wave.specs.State.{state_by};
 ghost use Rattle.pc_wave.specs.Standing.{AreNumbered, HasMore, IsHeardTo, WaveStands};
 ghost use Rattle.pc_wave.specs.Tries.{AreTriesUsedUp};
 ghost use Rattle.pc_proto.specs.declared.reply.Reply.{Reply};
@@ -14,7 +15,7 @@ ghost use Rattle.pc_world.specs.Known.{Known, next_number};
 ghost use Rattle.pc_world.specs.Known.Traffic.{Heard};
 
 use crate::message::Message;
-use crate::step::Step;
+use crate::step::{Step, WaveState};
 use pc_base::{NoMemory, TryCopy};
 use pc_proto::{Reply, Request};
 use std::alloc::Global;
@@ -111,6 +112,26 @@ impl Wave {
             Some(message) => Ok(Step::Send(message.request.copy()?)),
             None if self.has_answer() => Ok(Step::Answered),
             None => Ok(Step::Deliver),
+        }
+    }
+
+    /// How far it is: what is due, but for the request that is to be sent and the conflict whose round is to be made.
+    pub fn state(&self) -> WaveState
+        ensures { result ≡ state_by (step_of self.now) }
+    {
+        match self.first_in_conflict() {
+            Some(message) => message.state(),
+            None => self.state_without(),
+        }
+    }
+
+    fn state_without(&self) -> WaveState
+        ensures { result ≡ state_by (step_without (find is_to_send self.now) (list_all has_answer self.now)) }
+    {
+        match self.to_send() {
+            Some(_) => WaveState::UnderWay,
+            None if self.has_answer() => WaveState::Answered,
+            None => WaveState::UnderWay,
         }
     }
 
