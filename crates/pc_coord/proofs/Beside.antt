@@ -30,7 +30,6 @@ use Rattle.pc_world.specs.Known.Traffic.{Heard, Sent}
 use Rattle.pc_world.specs.Known.Transactions.{Txn}
 use Rattle.pc_world.specs.StageFate.{SentCommit}
 use Rattle.pc_world.specs.Tell.Refusal.{is_heard}
-use Rattle.pc_coord.proofs.OneRange.{one_range-beside}
 
 all_both : {X : Type 0} (P Q R : X → Type 0) → ((x : X) → P x → Q x → R x) → (xs : List X) → All P xs → All Q xs → All R xs
 all_both P Q R on [] p q = All-nil R
@@ -70,7 +69,7 @@ module _ (c : Coordination) (start : Known) where
   aside : (id : TxnId) (request : Request) → IsBeside c start request → is_about id request ≡ false → IsAside id request
   aside id request is other = elim is.kind [ inl beside ↦ inl (plain-beside request beside) | inr commits ↦ inr (commits.1, other) ]
 
-module _ (c : Coordination) (start k : Known) (later : IsLaterBeside c start k) where
+module _ {loses : Bool} (c : Coordination) (start k : Known) (later : IsLaterBeside loses c start k) where
   longer : length start.sent ≤ length k.sent
   longer = omega (arith, length-append start.sent later.sent_more, ap length later.sent)
 
@@ -117,12 +116,12 @@ module _ (c : Coordination) (start k : Known) (later : IsLaterBeside c start k) 
       (All-append (λ (m : Sent). is_stage m.request ≡ false) start.sent later.sent_more (none is) (All-weaker (λ m. IsBeside c start m.request) (λ m. is_stage m.request ≡ false) (λ m is. no_stage c start m.request is) later.sent_more later.sent_beside))
 
   -- what holds at any time holds still
-  pub course-beside : (loses : Bool) (now : Coordination) → now.tries ≡ c.tries → now.splits ≡ c.splits → now.pipelining ≡ c.pipelining → now.later ≡ c.later → KeepsCourse loses c start → KeepsCourse loses now k
-  course-beside loses now tries splits pipelining later_is o = record {
+  pub course-beside : (now : Coordination) → now.tries ≡ c.tries → now.splits ≡ c.splits → now.pipelining ≡ c.pipelining → now.later ≡ c.later → KeepsCourse loses c start → KeepsCourse loses now k
+  course-beside now tries splits pipelining later_is o = record {
     tried = subst (λ n. 1 ≤ n) (sym tries) o.tried;
     rising = subst AreRising (sym splits) o.rising;
     ranged = subst (λ s. IsRanged s k) (sym splits) (ranged-beside c c.splits start k later o.ranged);
-    one_range = λ lossy. one_range-beside c start k later (o.one_range lossy);
+    one_range = later.one_range;
     may_wait = subst (λ l. MayWait now.pipelining l) (sym later_is) (subst (λ b. MayWait b c.later) (sym pipelining) o.may_wait);
     unstaged = λ is. unstaged-beside c.pipelining o.unstaged (sym pipelining ∙ is);
   }
@@ -185,36 +184,36 @@ module _ (c : Coordination) (start k : Known) (later : IsLaterBeside c start k) 
   held_by-beside None none closed = later.is_open ∙ closed
   held_by-beside (Some x) is o = open-beside x is o
 
-  outbox-beside : (l : Bool) (txn : Option OpenTxn) → IsOutboxOf l txn c.later start → IsOutboxOf l txn c.later k
-  outbox-beside l None o =
+  outbox-beside : (txn : Option OpenTxn) → IsOutboxOf loses txn c.later start → IsOutboxOf loses txn c.later k
+  outbox-beside None o =
       let P : Sent → Type 0 = IsHeardBesideOrPut k in (
         o.0,
         λ quiet. subst (λ ms. All P ms) (sym later.sent)
             (All-append P start.sent later.sent_more (All-weaker (IsHeardBesideOrPut start) P (λ m was. still m was) start.sent (o.1 quiet))
-            (All-weaker (λ m. (goes_beside m.request ≡ true) ⊎ IsTrue (is_heard k.heard m)) P (λ m is. elim is [ inl beside ↦ inr (inl beside) | inr was ↦ inl was ]) later.sent_more later.sent_heard)),
+            (All-weaker (λ m. (goes_beside m.request ≡ true) ⊎ IsTrue (is_heard k.heard m)) P (λ m is. elim is [ inl beside ↦ inr (inl beside) | inr was ↦ inl was ]) later.sent_more (later.sent_heard quiet))),
       )
     where
       still : (m : Sent) → IsHeardBesideOrPut start m → IsHeardBesideOrPut k m
       still m (inl was) = inl (still_heard m start.heard later.heard_more k.heard later.heard was)
       still m (inr (inl beside)) = inr (inl beside)
       still m (inr (inr put)) = inr (inr put)
-  outbox-beside l (Some x) o =
+  outbox-beside (Some x) o =
       between_beside start k later.sent_more later.heard_more more-beside later.txns.first x c.later sent_puts heard_puts later.heard_first later.sent_heard o
 
   -- between calls a coordinator with nothing left to hand out knows what its session knows
-  goes_on : (loses : Bool) → Knows loses c start → c.due ≡ dues.Nothing → c.job ≡ None → Knows loses (with_clock k.high c) k
-  goes_on loses knows due job =
+  goes_on : Knows loses c start → c.due ≡ dues.Nothing → c.job ≡ None → Knows loses (with_clock k.high c) k
+  goes_on knows due job =
       let r : Rests loses c.session c.clock c.begun c.txn c.later c.job start = subst (λ d. KnowsAt loses c start d) due knows.stands in
       record {
-        course = course-beside loses (with_clock k.high c) refl refl refl refl knows.course;
+        course = course-beside (with_clock k.high c) refl refl refl refl knows.course;
         stands = subst (λ d. KnowsAt loses (with_clock k.high c) k d) (sym due) (record {
           counted = counted-beside r.counted;
           none_open = later.statement ∙ r.none_open;
           held = held_by-beside c.txn refl r.held;
-          outbox = outbox-beside loses c.txn r.outbox;
+          outbox = outbox-beside c.txn r.outbox;
           left = subst (λ j. IfSome j (MayFinishJob k)) (sym job) tt;
         });
       }
 
 pub coordinating_goes_on_ok : CoordinatingGoesOn
-coordinating_goes_on_ok loses c start k knows due job later = goes_on c start k later loses knows due job
+coordinating_goes_on_ok loses c start k knows due job later = goes_on c start k later knows due job

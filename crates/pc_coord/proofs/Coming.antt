@@ -70,10 +70,6 @@ pub read_block : (messages ms : List Message) → IsBlockOf messages (answer_rea
 read_block messages [] = tt
 read_block messages (m ∷ ms) = read_by messages m.request m (m ∷ ms)
 
-pub restart_block : (messages : List Message) (answer : Answer) → IsRestart answer → IsBlockOf messages answer
-restart_block messages (answers.Restart key ts) is = tt
-restart_block messages answer is = absurd is
-
 pub rolled_block : (messages : List Message) (view : View) (why : Why) (x : OpenTxn) → IsBlockOf messages (ends_rolled_back view why x).answer
 rolled_block messages (views.Committed epoch ts locks) why x = tt
 rolled_block messages (views.Aborted epoch cause locks) why x = tt

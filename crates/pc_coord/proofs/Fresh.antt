@@ -1,5 +1,5 @@
 -- A call was just asked of the open transaction: nothing was sent in it.
-use Rattle.std.proofs.Common.{◌≡◌, ℕ, ◌+◌, ◌≤◌, Bool, true, false, ◌&&◌, ◌||◌, List, [], ◌∷◌, Option, None, Result, Ok, Err, IfOk, refl, sym, ap, ◌∙◌, subst, arith, All}
+use Rattle.std.proofs.Common.{◌≡◌, ℕ, ◌+◌, ◌≤◌, Bool, true, false, ◌&&◌, ◌||◌, List, [], ◌∷◌, Option, None, refl, sym, ap, ◌∙◌, subst, arith, All}
 use Rattle.std.specs.List.{list_all}
 use Rattle.std.proofs.lemmas.List.{append-nil}
 use Rattle.std.proofs.lemmas.List.Elements.{All-cons, All-head, All-nil, All-tail, All-weaker}
@@ -134,12 +134,6 @@ may_block calls.Rollback inside plain other = other refl
 may_block (calls.Begin priority) inside plain other = absurd cc
 may_block (calls.Learn id) inside plain other = absurd cc
 may_block calls.Round inside plain other = absurd cc
-
--- a call's own write is to be sent
-pub laying_unsent : {E : Type 0} (x : OpenTxn) (key : List ℕ) (value : Option (List ℕ)) (r : Result OpenCall E) → IfOk r (λ call. call ≡ laying x key value) → IfOk r (λ call. All (λ m. is_to_send m ≡ true) call.wave)
-laying_unsent x key value (Ok call) is =
-    subst (λ (call : OpenCall). All (λ m. is_to_send m ≡ true) call.wave) (sym is) (All-cons (λ (m : Message). is_to_send m ≡ true) (message_to_send (next_put x key value)) [] refl (All-nil (λ (m : Message). is_to_send m ≡ true)))
-laying_unsent x key value (Err error) is = is
 
 pub laid_unsent : (x : OpenTxn) (key : List ℕ) (value : Option (List ℕ)) (made : OpenCall) → made ≡ laying x key value → All (λ m. is_to_send m ≡ true) made.wave
 laid_unsent x key value made is = subst (λ (call : OpenCall). All (λ m. is_to_send m ≡ true) call.wave) (sym is) (All-cons (λ (m : Message). is_to_send m ≡ true) (message_to_send (next_put x key value)) [] refl (All-nil (λ (m : Message). is_to_send m ≡ true)))

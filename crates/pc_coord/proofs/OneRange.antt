@@ -1,15 +1,11 @@
 -- Of what is not heard, messages of one request went to one range, as more is sent and heard.
-use Rattle.std.proofs.Common.{◌≡◌, ℕ, Bool, true, false, inl, inr, List, [], ◌∷◌, ◌++◌, refl, sym, subst, ◌∙◌, Contains, IsTrue, zero, suc, ◌⊎◌, ap, arith}
+use Rattle.std.proofs.Common.{◌≡◌, ℕ, Bool, true, false, inl, inr, List, [], ◌∷◌, ◌++◌, refl, sym, subst, ◌∙◌, Contains, zero, suc, ◌⊎◌, ap, arith}
 use Rattle.std.proofs.lemmas.List.Elements.{All-contains, Contains-append_cases}
-use Rattle.pc_call.proofs.Unsent.{same_beside}
 use Rattle.pc_call.specs.Learned.{known_heard, known_sent}
 use Rattle.pc_coord.proofs.Outbox.{still_heard}
-use Rattle.pc_coord.specs.Beside.{IsLaterBeside}
-use Rattle.pc_coord.specs.Coordination.{Coordination}
 use Rattle.pc_coord.specs.Ranged.{GoesWhereItWent, WentToOneRange}
 use Rattle.pc_proto.specs.declared.request.Request.{Request}
 use Rattle.pc_call.proofs.Eighths.{same_sym}
-use Rattle.pc_wave.specs.Standing.{goes_beside}
 use Rattle.pc_world.specs.Known.{Known}
 use Rattle.pc_world.specs.Known.Traffic.{Heard, Sent}
 use Rattle.pc_world.specs.SameRequest.{IsSameRequest}
@@ -50,28 +46,3 @@ one_range_sent k number range request goes went one other there too here now own
         let is : new ≡ one = last_one new one a in
         sym (ap (λ (m : Sent). m.range) is) ∙ sym (All-contains Same k.sent other goes b (subst (λ (m : Sent). IsSameRequest m.request other.request) (sym is) same))
     by (inr a) (inr b) = ap (λ (m : Sent). m.range) (sym (last_one new one a) ∙ last_one new other b)
-
--- what is sent beside is of no request of a wave, or was heard
-pub one_range-beside : (c : Coordination) (start k : Known) → IsLaterBeside c start k → WentToOneRange start → WentToOneRange k
-one_range-beside c start k later went one other there too here now own same =
-    by (Contains-append_cases start.sent later.sent_more one (subst (λ ms. Contains ms one) later.sent there)) (Contains-append_cases start.sent later.sent_more other (subst (λ ms. Contains ms other) later.sent too))
-  where
-    Aside : Sent → Type 0
-    Aside m = (goes_beside m.request ≡ true) ⊎ IsTrue (is_heard k.heard m)
-
-    first_own : Contains later.sent_more one → ⊥
-    first_own a = elim (All-contains Aside later.sent_more one later.sent_heard a) [
-      | inl beside ↦ (let f : false ≡ true = sym own ∙ beside in cc)
-      | inr heard ↦ (let f : false ≡ true = sym here ∙ heard in cc)
-    ]
-
-    other_own : Contains later.sent_more other → ⊥
-    other_own b = elim (All-contains Aside later.sent_more other later.sent_heard b) [
-      | inl beside ↦ same_beside one.request other.request own beside same
-      | inr heard ↦ (let f : false ≡ true = sym now ∙ heard in cc)
-    ]
-
-    by : Contains start.sent one ⊎ Contains later.sent_more one → Contains start.sent other ⊎ Contains later.sent_more other → one.range ≡ other.range
-    by (inl a) (inl b) = went one other a b (unheard_before one start.heard later.heard_more k.heard later.heard here) (unheard_before other start.heard later.heard_more k.heard later.heard now) own same
-    by (inl a) (inr b) = absurd (other_own b)
-    by (inr a) b = absurd (first_own a)

@@ -21,7 +21,6 @@ use Rattle.pc_proto.specs.declared.answer.Answer.{Answer}
 use Rattle.pc_proto.specs.declared.call.Call.{Call}
 use Rattle.pc_proto.specs.declared.call.Call.TheVariants as calls
 use Rattle.pc_proto.specs.declared.reply.Reply.{Reply}
-use Rattle.pc_proto.specs.declared.reply.Reply.TheVariants as replies
 use Rattle.pc_proto.specs.declared.request.Request.{Request}
 use Rattle.pc_proto.specs.declared.why.Why.{Why}
 use Rattle.pc_proto.specs.Replies.{is_conflict}
@@ -102,9 +101,6 @@ again_unanswered number conflict ms round due =
 -- one message to be sent goes out next
 pub one_goes : (ms : List Message) (request : Request) → ms ≡ message_to_send request ∷ [] → is_under_way (step_of ms)
 one_goes ms request one = subst (λ ms. is_under_way (step_of ms)) (sym one) tt
-
-pub one_idle : (n : ℕ) (ms : List Message) (request : Request) → ms ≡ message_to_send request ∷ [] → wave_awaits n ms ≡ false
-one_idle n ms request one = ap (wave_awaits n) one
 
 not_other : (number other : ℕ) (b : Bool) → (b || false) ≡ true → (number == other) ≡ false → b ≡ true
 not_other number other true e d = refl
@@ -275,9 +271,3 @@ module _ (loses : Bool) (c : Coordination) (call : OpenCall) (x : OpenTxn) (numb
       let one = found_all (awaits_at number) IsStageReply call.wave found_one.0 found_one.1 all in
       let may = kind_as found_one.0.request asked_found in
       elim one [ inl put ↦ inl (put may) | inr record_of ↦ inr (record_of may) ]
-
--- a write is answered that it is written, or by a conflict
-pub met_or_written : (id : TxnId) (reply : Reply) → IsPutReply id reply → ((ts : ℕ) → reply ≡ replies.Written ts → ⊥) → is_conflict reply ≡ true
-met_or_written id (replies.Written ts) kind not = absurd (not ts refl)
-met_or_written id (replies.Conflict holder ts key) kind not = refl
-met_or_written id reply kind not = absurd kind

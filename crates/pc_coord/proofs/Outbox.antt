@@ -48,9 +48,6 @@ beside_no_put r is = refl
 
 -- ---- lists
 
-pub any_each : {X : Type 0} (P Q : X → Type 0) (xs : List X) → ((x : X) → Contains xs x → P x → Q x) → Any P xs → Any Q xs
-any_each P Q xs on (n, x, low, same, p) = (n, x, low, same, on x (n, low, same) p)
-
 pub any_to : {X : Type 0} (P : X → Type 0) (R : Type 0) (xs : List X) → ((x : X) → Contains xs x → P x → R) → Any P xs → R
 any_to P R xs on (n, x, low, same, p) = on x (n, low, same) p
 
@@ -218,7 +215,7 @@ still_heard m hs more hs2 is heard = subst (λ hs. IsTrue (is_heard hs m)) (sym 
 -- and between calls, where a message that does not go beside was heard
 pub between_beside : {l : Bool} (k k2 : Known) (sent_more : List Sent) (heard_more : List Heard) → HasMore k k2 sent_more heard_more → open_txn k2 ≡ open_txn k → (x : OpenTxn) (later : List LaterPut)
     → All (λ m. is_put m.request ≡ false) sent_more → All (λ h. is_put h.request ≡ false) heard_more → All (λ h. length k.sent + 1 ≤ h.number) heard_more
-    → All (λ m. (goes_beside m.request ≡ true) ⊎ IsTrue (is_heard k2.heard m)) sent_more → HasOutboxBetween l k x later → HasOutboxBetween l k2 x later
+    → (l ≡ false → All (λ m. (goes_beside m.request ≡ true) ⊎ IsTrue (is_heard k2.heard m)) sent_more) → HasOutboxBetween l k x later → HasOutboxBetween l k2 x later
 between_beside k k2 sent_more heard_more more opened x later sent heard new done o = record {
   t = o.t;
   opened = opened ∙ o.opened;
@@ -228,5 +225,5 @@ between_beside k k2 sent_more heard_more more opened x later sent heard new done
       subst (λ ms. All P ms) (sym more.sent)
       (All-append P k.sent sent_more
       (left_on o.t o.t refl refl k.heard k2.heard [] [] later [] [] (λ m is. still_heard m k.heard heard_more k2.heard more.heard is) (λ m is. is) (λ m q there on. absurd (omega (arith, there.1))) k.sent (o.left quiet))
-      (All-weaker (λ m. (goes_beside m.request ≡ true) ⊎ IsTrue (is_heard k2.heard m)) P (λ m is. elim is [ inl beside ↦ inr (inl beside) | inr was ↦ inl was ]) sent_more done));
+      (All-weaker (λ m. (goes_beside m.request ≡ true) ⊎ IsTrue (is_heard k2.heard m)) P (λ m is. elim is [ inl beside ↦ inr (inl beside) | inr was ↦ inl was ]) sent_more (done quiet)));
 }

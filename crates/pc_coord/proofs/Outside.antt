@@ -96,9 +96,6 @@ simple_not_yet = record { written = λ pipelining k. tt; aborts = λ k. tt; roll
 simple_clock : (reading : ℕ) → IsSimple (answers.Clock reading)
 simple_clock reading = record { written = λ pipelining k. tt; aborts = λ k. tt; rolled_back = λ k. tt; restarts = λ k. tt; left = λ k. refl; eighth = λ k none s opened. none_heard k (answers.Clock reading) none s opened; blocked = λ k. tt }
 
-simple_begun : (id : TxnId) (ts : ℕ) → IsSimple (answers.Begun id ts)
-simple_begun id ts = record { written = λ pipelining k. tt; aborts = λ k. tt; rolled_back = λ k. tt; restarts = λ k. tt; left = λ k. refl; eighth = λ k none s opened. none_heard k (answers.Begun id ts) none s opened; blocked = λ k. tt }
-
 -- a transaction that was just begun has nothing in flight, so any call suits it
 suits_begun : (pipelining : Bool) (id : TxnId) (ts : ℕ) (call : Call) → SuitsFlightNextIn pipelining (answers.Begun id ts) call []
 suits_begun true id ts call = tt

@@ -124,7 +124,7 @@ mapped_reads : (splits : List (List ℕ)) (ts us : List Txn) → map (λ t. t.re
 mapped_reads splits ts us same a = all_unmapped (λ rs. All (λ (r : Read). LiesInOne splits r.span) rs) (λ t. t.reads) us (subst (λ rs. All (λ rs. All (λ (r : Read). LiesInOne splits r.span) rs) rs) (sym same) (All-map (λ rs. All (λ (r : Read). LiesInOne splits r.span) rs) (λ t. t.reads) ts a))
 
 -- what is sent and heard beside a coordinator is for one range each
-pub ranged-beside : (c : Coordination) (splits : List (List ℕ)) (start k : Known) → IsLaterBeside c start k → IsRanged splits start → IsRanged splits k
+pub ranged-beside : {l : Bool} (c : Coordination) (splits : List (List ℕ)) (start k : Known) → IsLaterBeside l c start k → IsRanged splits start → IsRanged splits k
 ranged-beside c splits start k later r = record {
   heard =
       subst (λ hs. All (λ (h : Heard). IsForOne splits h.request) hs) (sym later.heard_now)

@@ -291,7 +291,7 @@ done_held id key goal (replies.Unsure view) later done = refl
 done_held id key goal reply later done = absurd done
 
 -- the round of a conflict was made
-pub makes_round : (c : Coordination) (start k : Known) (x : OpenTxn) (holder : TxnMeta) (ts : ℕ) (key : List ℕ) → c.txn ≡ Some x → (start.statement ≡ None → ⊥) → ((t : Txn) → open_txn start ≡ Some t → t.id ≡ x.id) → IsLaterBeside c start k
+pub makes_round : {l : Bool} (c : Coordination) (start k : Known) (x : OpenTxn) (holder : TxnMeta) (ts : ℕ) (key : List ℕ) → c.txn ≡ Some x → (start.statement ≡ None → ⊥) → ((t : Txn) → open_txn start ≡ Some t → t.id ≡ x.id) → IsLaterBeside l c start k
     → IsSettledRound holder.id key start k → ((other : TxnId) → KeepsBehindPushes other start.heard_now) → MakesRound start k x.id (replies.Conflict holder ts key)
 makes_round c start k x holder ts key held opened whose later round paced =
     let H : Heard → Type 0 = λ h. unrefreshed_by h.reply ≡ None in
@@ -372,7 +372,7 @@ module _ (id : TxnId) (start k : Known) (round : IsRefusedRound id start k) wher
     refused_push = ap (λ r. r.push) refused_rounds ∙ push_is (open_txn start) id (rounds_made start) round.push parts.0
 
 -- the push of a conflict's round was refused
-pub refuses_round : (c : Coordination) (start k : Known) (x : OpenTxn) (holder : TxnMeta) (ts : ℕ) (key : List ℕ) → c.txn ≡ Some x → (beside : GoesOnBeside start k x.id) → (later : IsLaterBeside c start k) → beside.heard_more ≡ later.heard_more → beside.sent_more ≡ later.sent_more
+pub refuses_round : {l : Bool} (c : Coordination) (start k : Known) (x : OpenTxn) (holder : TxnMeta) (ts : ℕ) (key : List ℕ) → c.txn ≡ Some x → (beside : GoesOnBeside start k x.id) → (later : IsLaterBeside l c start k) → beside.heard_more ≡ later.heard_more → beside.sent_more ≡ later.sent_more
     → IsRefusedRound holder.id start k → ((other : TxnId) → KeepsBehindPushes other start.heard_now) → RefusesRound start k x.id (replies.Conflict holder ts key)
 refuses_round c start k x holder ts key held beside later heard sent round paced =
     let one : beside.heard_more ≡ round.push ∷ [] = heard ∙ append_cancel_left start.heard_now later.heard_more (round.push ∷ []) (sym later.heard_now ∙ round.more) in

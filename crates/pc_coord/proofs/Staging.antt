@@ -23,7 +23,7 @@ use Rattle.pc_coord.proofs.Ending.{StaysBut, one_plain, split_heard, stays_but}
 use Rattle.pc_coord.proofs.Onward.{asked_found, found_one, served_stage, stage_kind}
 use Rattle.pc_coord.proofs.Outbox.{awaits_in, has_own}
 use Rattle.pc_coord.proofs.Tells.{all_over}
-use Rattle.pc_coord.specs.Aside.{HasAside, KeepsAside, LeavesNoneWaiting}
+use Rattle.pc_coord.specs.Aside.{HasAside, KeepsAside}
 use Rattle.pc_coord.specs.Coordination.{Coordination, setting_of}
 use Rattle.pc_coord.specs.Going.{HearsNow}
 use Rattle.pc_coord.specs.Knows.{AreAllHeard}
@@ -161,18 +161,6 @@ blocked_empty set k x n ms holder b (put ∷ puts) o =
     front_in [] ys m (n, low, same) = absurd (omega (arith, low))
     front_in (one ∷ xs) ys m (zero, low, same) = (0, omega arith, same)
     front_in (one ∷ xs) ys m (suc n, low, same) = let f = front_in xs ys m (n, omega (arith, low), same) in (suc f.0, omega (arith, f.1), f.2)
-
-pub empty_joined : (p : Purpose) (later : List LaterPut) → later ≡ [] → LeavesNoneWaiting p later
-empty_joined (purposes.Query n holder puts) later none = none
-empty_joined (purposes.Beat call reading) later none = tt
-empty_joined (purposes.Prove call all) later none = tt
-empty_joined purposes.Read later none = tt
-empty_joined purposes.Write later none = tt
-empty_joined (purposes.Refresh n puts) later none = tt
-empty_joined (purposes.Stage n) later none = tt
-empty_joined (purposes.Commit n) later none = tt
-empty_joined (purposes.LastBeat answer reading) later none = tt
-empty_joined (purposes.Abort why) later none = tt
 
 -- ---- what its reply leaves in flight
 

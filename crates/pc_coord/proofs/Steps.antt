@@ -7,7 +7,7 @@ use Rattle.std.proofs.lemmas.Option.{same_Some}
 use Rattle.pc_base.specs.declared.memory.NoMemory.{NoMemory}
 use Rattle.pc_call.proofs.Facts.{open_is}
 use Rattle.pc_call.specs.declared.call.OpenCall.{OpenCall}
-use Rattle.pc_call.specs.Learned.{known_asked, known_heard}
+use Rattle.pc_call.specs.Learned.{known_heard}
 use Rattle.pc_call.specs.Opening.{reader_of}
 use Rattle.pc_call.specs.Outbox.{AreToSendOrOnWay}
 use Rattle.pc_call.specs.Rounding.{GoesOnBeside}
@@ -99,10 +99,6 @@ not_outside false k outside is_open = refl
 
 pub inside : (k : Known) (x : OpenTxn) (call : Call) → StandsOpen k x → (is_outside call ≡ true → k.is_open ≡ false) → is_outside call ≡ false
 inside k x call o outside = not_outside (is_outside call) k outside o.open_in.is_open
-
--- after the call was asked
-pub asked_ok : (loses : Bool) (new : Coordination) (k : Known) (p : Pair Event) (call : Call) (reading : ℕ) (r : Result (Unit {0}) NoMemory) → learn p k ≡ known_asked call reading k → OnOk r (Knows loses new (known_asked call reading k)) → OnOk r (Knows loses new (learn p k))
-asked_ok loses new k p call reading r e ok = subst (λ k. OnOk r (Knows loses new k)) (sym e) ok
 
 awaits_out_at : (n : ℕ) (p : Progress) → progress_awaits n p ≡ true → progress_out p ≡ true
 awaits_out_at n progresses.ToSend e = absurd cc
@@ -328,7 +324,7 @@ module _ (loses : Bool) (c : Coordination) (k : Known) (x : OpenTxn) (call : Ope
       };
     }
 
-module _ (loses : Bool) (c : Coordination) (start k : Known) (x : OpenTxn) (call : OpenCall) (knows : Knows loses c start) (held : c.txn ≡ Some x) (due : c.due ≡ dues.Call call) (later : IsLaterBeside c start k) where
+module _ (loses : Bool) (c : Coordination) (start k : Known) (x : OpenTxn) (call : OpenCall) (knows : Knows loses c start) (held : c.txn ≡ Some x) (due : c.due ≡ dues.Call call) (later : IsLaterBeside loses c start k) where
   w : InCall (setting_of loses c) start x call.purpose call.wave
   w = in_call loses c start x call knows held due
 
@@ -340,7 +336,7 @@ module _ (loses : Bool) (c : Coordination) (start k : Known) (x : OpenTxn) (call
   settles txn rest =
       let n = calls loses c start call knows due in
       record {
-        course = course-beside c start k later loses (record (with_clock k.high c) { txn = txn; due = rest }) refl refl refl refl knows.course;
+        course = course-beside c start k later (record (with_clock k.high c) { txn = txn; due = rest }) refl refl refl refl knows.course;
         counted = counted-beside c start k later n.counted;
         asked_at = λ reading is. same_Some reading c.reading (sym is ∙ ap reading_in later.statement ∙ n.asked_at);
         handed = n.handed;

@@ -1,5 +1,5 @@
 -- A coordinator at its beginning, what it gives, and once its call was told what is due.
-use Rattle.std.proofs.Common.{◌≡◌, ℕ, ◌≤◌, Bool, true, false, ◌&&◌, ◌||◌, if◌then◌else◌, List, [], ◌∷◌, Option, Some, None, IfOk, IfSome, Ok, Err, Result, refl, sym, ap, ◌∙◌, subst, arith, is_some, IsTrue, All}
+use Rattle.std.proofs.Common.{◌≡◌, ℕ, ◌≤◌, Bool, true, false, ◌&&◌, ◌||◌, if◌then◌else◌, List, [], ◌∷◌, Option, Some, None, IfOk, IfSome, Ok, Err, Result, refl, sym, ap, ◌∙◌, subst, arith, IsTrue, All}
 use Rattle.std.proofs.lemmas.List.Elements.{All-nil}
 use Rattle.std.specs.List.{list_any}
 use Rattle.std.proofs.lemmas.Bool.{eq-eqb, or_right}
@@ -14,10 +14,10 @@ use Rattle.pc_call.specs.Opening.{reader_of}
 use Rattle.pc_call.specs.Outbox.{MayWait}
 use Rattle.pc_call.specs.Sending.{IsSendable}
 use Rattle.pc_coord.proofs.Awaited.{none_awaited}
-use Rattle.pc_coord.proofs.Knowing.{course_with, none_waits, rests}
+use Rattle.pc_coord.proofs.Knowing.{none_waits}
 use Rattle.pc_coord.proofs.Learned.{learn_own, told_is}
 use Rattle.pc_coord.proofs.Ranged.{ranged_told, sends_one}
-use Rattle.pc_coord.specs.Coordination.{Coordination, awaits_number, is_writing, next_at, next_by, next_in, next_of, setting_of, with_nothing_due, without_job}
+use Rattle.pc_coord.specs.Coordination.{Coordination, awaits_number, is_writing, next_at, next_by, next_in, next_of, setting_of, with_nothing_due}
 use Rattle.pc_coord.specs.declared.due.Due.{Due}
 use Rattle.pc_coord.specs.declared.due.Due.TheVariants as dues
 use Rattle.pc_coord.specs.declared.job.Job.{Job}
@@ -76,23 +76,6 @@ new_knows loses c tried rising clock begun txn later due job = record {
     left = subst (λ j. IfSome j (MayFinishJob nothing_known)) (sym job) tt;
   });
 }
-
--- whether a transaction is open is known to the coordinator between statements
-pub has_txn_ok : (loses : Bool) (c : Coordination) (k : Known) (b : Bool) → b ≡ is_some c.txn → Knows loses c k → k.statement ≡ None → k.is_open ≡ b
-has_txn_ok loses c k b is knows none = by c.txn (rests loses c k knows none).held ∙ sym is
-  where
-    by : (txn : Option OpenTxn) → IsHeld txn k → k.is_open ≡ is_some txn
-    by None h = h
-    by (Some x) h = h.open_in.is_open
-
--- what the last transaction left is handed out
-pub job_knows : (loses : Bool) (c : Coordination) (k : Known) → Knows loses c k → c.due ≡ dues.Nothing → Knows loses (without_job c) k
-job_knows loses c k knows due =
-    let r : Rests loses c.session c.clock c.begun c.txn c.later c.job k = subst (λ d. KnowsAt loses c k d) due knows.stands in
-    record {
-      course = course_with loses c (without_job c) k refl refl refl knows.course.may_wait knows.course;
-      stands = subst (λ d. KnowsAt loses (without_job c) k d) (sym due) (record { counted = r.counted; none_open = r.none_open; held = r.held; outbox = r.outbox; left = tt });
-    }
 
 pub job_may : (loses : Bool) (c : Coordination) (k : Known) (job : Option Job) → job ≡ c.job → Knows loses c k → c.due ≡ dues.Nothing → IfSome job (MayFinishJob k)
 job_may loses c k job made knows due =

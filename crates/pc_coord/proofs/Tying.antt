@@ -62,6 +62,8 @@ use Rattle.pc_txn.specs.declared.txn.OpenTxn.{OpenTxn}
 use Rattle.pc_wave.specs.declared.message.Message.{Message}
 use Rattle.pc_wave.specs.declared.step.Step.{Step}
 use Rattle.pc_wave.specs.declared.step.Step.TheVariants as steps
+use Rattle.pc_wave.specs.declared.step.WaveState.TheVariants as states
+use Rattle.pc_wave.specs.State.{state_by}
 use Rattle.pc_wave.specs.Messages.{step_of, wave_awaits}
 use Rattle.pc_world.specs.Answering.{IsAbortReply, IsPutReply, IsRecordReply}
 use Rattle.pc_world.specs.Known.{Known, learn, next_number, reading_in, reading_of}
@@ -101,8 +103,12 @@ goes_ok loses c mid new k later call x is made r w aside o takes joined plain go
     (calls_knows loses c2 k call x (ready_with loses c k later r (fewer_wait c.pipelining c.later later takes.left r.course.may_wait)) w
     (aside_on c.pipelining k x call.purpose c.later later call.wave aside o joined (some_proofs call.purpose call.wave some) (free_aside c.pipelining call.purpose k x plain) (unsent_aside c.pipelining call.purpose call.wave plain)) (goes_way call.wave go some))
 
-pub way_of : (ms : List Message) (step : Step) → step ≡ step_of ms → is_under_way step → is_under_way (step_of ms)
-way_of ms step due on = subst is_under_way due on
+pub on_way : (step : Step) → state_by step ≡ states.UnderWay → is_under_way step
+on_way (steps.Send request) e = tt
+on_way steps.Deliver e = tt
+on_way (steps.Round number conflict) e = tt
+on_way (steps.Blocked holder) e = cc
+on_way steps.Answered e = cc
 
 -- ---- what is waited for
 

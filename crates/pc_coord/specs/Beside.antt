@@ -1,5 +1,5 @@
 -- What a session does beside its coordinator: the messages of conflicts' rounds and of finishing jobs.
-use Rattle.std.specs.Prelude.{◌≡◌, ◌+◌, ◌≤◌, ◌⊎◌, true, false, None, Some, List, ◌++◌, map, All, IsTrue, length}
+use Rattle.std.specs.Prelude.{◌≡◌, ◌+◌, ◌≤◌, ◌⊎◌, true, false, None, Some, List, ◌++◌, map, All, IsTrue, length, Bool}
 use Rattle.pc_coord.specs.Coordination.{Coordination}
 use Rattle.pc_proto.specs.declared.request.Request.{Request}
 use Rattle.pc_proto.specs.Requests.{is_about, is_commit}
@@ -11,6 +11,7 @@ use Rattle.pc_wave.specs.Standing.{goes_beside}
 use Rattle.pc_world.specs.Known.{Known, open_txn}
 use Rattle.pc_world.specs.Known.Traffic.{Heard, Sent}
 use Rattle.pc_world.specs.Tell.Refusal.{is_heard}
+use Rattle.pc_coord.specs.Ranged.{WentToOneRange}
 
 -- The request goes beside the waves of calls, of a round or of a finishing job, which may begin by a commit, between calls; it speaks of no record of the open transaction, asks for no write of
 -- it, and of the session's own transactions it speaks only of those that were begun.
@@ -25,9 +26,9 @@ pub record KeepsTxns (start k : Known) : Type 0 where
   pub first : open_txn k ≡ open_txn start
   pub reads : map (λ t. t.reads) k.txns ≡ map (λ t. t.reads) start.txns
 
--- Since then the session has only sent such messages, under new numbers, and heard replies to them, to each commit one; and no timestamp that they hold is above the greatest that
--- it knows.
-pub record IsLaterBeside (c : Coordination) (start k : Known) : Type 0 where
+-- Since then the session has only sent such messages, under new numbers, and heard replies to them, to each commit one unless messages may be lost, where those of one request
+-- went to one range; and no timestamp that they hold is above the greatest that it knows.
+pub record IsLaterBeside (loses : Bool) (c : Coordination) (start k : Known) : Type 0 where
   pub sent_more : List Sent
   pub heard_more : List Heard
   pub statement : k.statement ≡ start.statement
@@ -40,7 +41,8 @@ pub record IsLaterBeside (c : Coordination) (start k : Known) : Type 0 where
   pub heard_now : k.heard_now ≡ start.heard_now ++ heard_more
   pub sent_beside : All (λ m. IsBeside c start m.request) sent_more
   pub heard_beside : All (λ h. IsBeside c start h.request) heard_more
-  pub sent_heard : All (λ m. (goes_beside m.request ≡ true) ⊎ IsTrue (is_heard k.heard m)) sent_more
+  pub sent_heard : loses ≡ false → All (λ m. (goes_beside m.request ≡ true) ⊎ IsTrue (is_heard k.heard m)) sent_more
+  pub one_range : loses ≡ true → WentToOneRange k
   pub sent_first : All (λ m. length start.sent + 1 ≤ m.number) sent_more
   pub heard_first : All (λ h. length start.sent + 1 ≤ h.number) heard_more
   pub sent_numbers : All (λ m. m.number ≤ length k.sent) sent_more

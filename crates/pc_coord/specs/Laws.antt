@@ -13,7 +13,7 @@ use Rattle.pc_world.specs.Known.Traffic.{request_sent}
 -- messages beside it, once its clock has heard of it.
 abbrev pub CoordinatingGoesOn : Type 0
 CoordinatingGoesOn =
-    (loses : Bool) (c : Coordination) (start k : Known) → Knows loses c start → c.due ≡ dues.Nothing → c.job ≡ None → IsLaterBeside c start k
+    (loses : Bool) (c : Coordination) (start k : Known) → Knows loses c start → c.due ≡ dues.Nothing → c.job ≡ None → IsLaterBeside loses c start k
     → Knows loses (with_clock k.high c) k
 
 -- Each message whose reply is waited for is of a kind that is sent for the open call, also where it joined from the outbox.

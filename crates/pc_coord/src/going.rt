@@ -45,7 +45,7 @@ use pc_base::{NoMemory, Timestamp, TryCopy, TxnId};
 use pc_call::{OpenCall, Over, Purpose, Refreshed};
 use pc_proto::{Answer, Reply};
 use pc_txn::OpenTxn;
-use pc_wave::Step;
+use pc_wave::WaveState;
 
 impl<'a> Coordinator<'a> {
     /// The open call goes on by what is due of these messages, or is told what they came to.
@@ -65,19 +65,10 @@ impl<'a> Coordinator<'a> {
         if call.is_lost(self.tries) {
             return self.end_lost(call, txn, self.tries);
         }
-        let step = call.step()?;
-        match step {
-            Step::Answered => self.end(call, txn),
-            Step::Blocked { holder } => self.end_blocked(call, txn, holder),
-            Step::Send(_) => {
-                self.call(call, txn);
-                Ok(())
-            }
-            Step::Deliver => {
-                self.call(call, txn);
-                Ok(())
-            }
-            Step::Round { .. } => {
+        match call.state() {
+            WaveState::Answered => self.end(call, txn),
+            WaveState::Blocked { holder } => self.end_blocked(call, txn, holder),
+            WaveState::UnderWay => {
                 self.call(call, txn);
                 Ok(())
             }

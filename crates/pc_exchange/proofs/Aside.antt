@@ -295,7 +295,8 @@ module _ (session : ℕ) (start k : Known) (ts : ℕ) (l : IsLaterAside session 
             heard_now = l.heard_now;
             sent_beside = All-weaker (λ (m : Sent). IsAside session start m.request) (λ (m : Sent). IsBeside c start m.request) (λ m is. is_beside m.request is) l.sent_more l.sent_aside;
             heard_beside = All-weaker (λ (h : Heard). IsAside session start h.request) (λ (h : Heard). IsBeside c start h.request) (λ h is. is_beside h.request is) l.heard_more l.heard_aside;
-            sent_heard = All-weaker (λ (m : Sent). IsTrue (is_heard k.heard m)) (λ (m : Sent). (goes_beside m.request ≡ true) ⊎ IsTrue (is_heard k.heard m)) (λ m was. inr was) l.sent_more l.sent_heard;
+            sent_heard = λ quiet. All-weaker (λ (m : Sent). IsTrue (is_heard k.heard m)) (λ (m : Sent). (goes_beside m.request ≡ true) ⊎ IsTrue (is_heard k.heard m)) (λ m was. inr was) l.sent_more l.sent_heard;
+            one_range = λ lossy. let e : false ≡ true = lossy in absurd cc;
             sent_first = l.sent_first;
             heard_first = l.heard_first;
             sent_numbers = l.sent_numbers;

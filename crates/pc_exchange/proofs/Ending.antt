@@ -1,5 +1,5 @@
 -- What an actor made before its list ended.
-use Rattle.std.proofs.Common.{◌≡◌, ℕ, ◌≤◌, ◌<◌, ◌⊎◌, inl, inr, true, length, All, Contains, List, [], ◌∷◌, ◌++◌, None, Some, refl, sym, ap, subst, ◌∙◌, arith}
+use Rattle.std.proofs.Common.{◌≡◌, ℕ, ◌≤◌, ◌<◌, ◌⊎◌, inl, inr, true, length, All, Contains, List, [], ◌∷◌, ◌++◌, refl, sym, ap, subst, ◌∙◌, arith}
 use Rattle.std.proofs.lemmas.List.{map-append}
 use Rattle.std.proofs.lemmas.List.Elements.{All-append, All-cons, All-contains, All-nil, Contains-append_right, Contains-push}
 use Rattle.pc_base.specs.declared.entry.Entry.{Entry}
@@ -18,12 +18,6 @@ use Rattle.pc_proto.specs.declared.event.Event.{Event}
 use Rattle.pc_proto.specs.declared.event.Event.TheVariants as events
 use Rattle.pc_proto.specs.declared.request.Request.{Request}
 use Rattle.pc_turns.specs.Order.{IsInBetween, events_of}
-
--- a list for which no stop is stated ends where it or a range is full
-pub ends_without_stop : {C : Type 0} (Is : Event → Type 0) (old new : DeskMeaning C) (halt : Halt) → EndsBy Is old new halt → old.log.stop ≡ None → IsEndedBy halt (HasEnded old new)
-ends_without_stop {C} Is old new halts.Stopped made none = absurd (let e : Some (length new.log.part.own) ≡ None = sym made.end.long ∙ (ap (λ (l : LogMeaning C). l.stop) made.rest ∙ none) in cc e)
-ends_without_stop Is old new (halts.Full actor) ended none = ended
-ends_without_stop Is old new halts.NoMemory ended none = tt
 
 -- what is so where a list ended is so where something more is
 ended_on : (halt : Halt) (A B : Type 0) → (A → B) → IsEndedBy halt A → IsEndedBy halt B

@@ -11,8 +11,7 @@ use Rattle.pc_desk.proofs.Making.{added, known_after_it, sent_then}
 use Rattle.pc_desk.proofs.Turns.{oldest_waits}
 use Rattle.pc_desk.specs.declared.answered.Answered.{Answered}
 use Rattle.pc_desk.specs.declared.halt.Halt.{Halt}
-use Rattle.pc_desk.specs.declared.halt.Halt.TheVariants as halts
-use Rattle.pc_desk.specs.Desk.{DeskMeaning, HasDelivered, HasHalted, HasHeardFirst, HasSentNext, IsCause, MayHearNow, Posted, is_on_way, times_sent}
+use Rattle.pc_desk.specs.Desk.{DeskMeaning, HasDelivered, HasHeardFirst, HasSentNext, MayHearNow, Posted, is_on_way, times_sent}
 use Rattle.pc_desk.specs.Ending.{EndsOnly}
 use Rattle.pc_desk.specs.Keeping.{KeepsAs}
 use Rattle.pc_desk.specs.OwnLog.{LogMeaning}
@@ -323,21 +322,6 @@ module _ {C : Type 0} (old mid late : DeskMeaning C) (request : Request) (number
         }
 
 -- ---- an actor that halts on the way
-
--- what went before changed nothing of why it halts
-halts-since : {C : Type 0} (old mid new : DeskMeaning C) (halt : Halt) → mid.log.stopped ≡ old.log.stopped → IsCause mid new halt → IsCause old new halt
-halts-since old mid new halts.Stopped same (inl was) = inl (sym same ∙ was)
-halts-since old mid new halts.Stopped same (inr at) = inr at
-halts-since old mid new (halts.Full actor) same cause = cause
-halts-since old mid new halts.NoMemory same cause = tt
-
-pub halts_later : {C : Type 0} (old mid new : DeskMeaning C) (halt : Halt) → mid.log.stopped ≡ old.log.stopped → mid.log.head ≡ old.log.head → mid.log.part.id ≡ old.log.part.id → HasHalted mid new halt → HasHalted old new halt
-halts_later old mid new halt going head id halted = record {
-  stopped = halted.stopped;
-  head = halted.head ∙ head;
-  id = halted.id ∙ id;
-  cause = halts-since old mid new halt going halted.cause;
-}
 
 -- where its list ends once the message was sent
 module _ {C : Type 0} (old mid : DeskMeaning C) (request : Request) (number : ℕ) (sent : HasSentNext old mid number request) where

@@ -21,7 +21,7 @@ use Rattle.pc_exchange.proofs.HeardKinds.{heard_begun, heard_now_kind, top_below
 use Rattle.pc_exchange.proofs.InTurn.{fate_of, goes_on}
 use Rattle.pc_exchange.proofs.Messages.{left_by_exchange}
 use Rattle.pc_exchange.proofs.NextTurn.{settles_next}
-use Rattle.pc_exchange.proofs.Rounding.{IsMade, at_changed, at_finished, at_refused, at_unsure, behind_timely, come_on, ends_refused, ends_settled, goal_reads, may_push, of_conflict, one_finished, one_refused, push_aside, push_timely, pushes_on, recover_aside, resolve_aside, round_same, sends_asks}
+use Rattle.pc_exchange.proofs.Rounding.{IsMade, at_finished, at_refused, at_unsure, behind_timely, come_on, ends_refused, ends_settled, goal_reads, may_push, of_conflict, one_finished, one_refused, push_aside, push_timely, pushes_on, recover_aside, resolve_aside, round_same, sends_asks}
 use Rattle.pc_exchange.proofs.Silent.{asks_commits_none, asks_unqueried}
 use Rattle.pc_exchange.proofs.Timely.{IsTimely, IsTurnIn, may_exchange}
 use Rattle.pc_exchange.proofs.Unmet.{resolve_unmet}
@@ -83,10 +83,6 @@ unsettled_undone id key goal fate (replies.Unsure view) later recovered none don
 unsettled_undone id key goal fate reply later recovered none done = done
 
 module _ {C : Type 0} (old : DeskMeaning C) (pusher : Pusher) (reading : ℕ) (conflict : Reply) (reader : Option ℕ) (start : MayMakeRound old pusher reading conflict reader) where
-  -- what the machine's beginning requires
-  pub is_conflict_met : is_conflict conflict ≡ true
-  is_conflict_met = ap is_conflict start.met.is
-
   pub reader_below : IfSome reader (λ ts. ts < greatest)
   reader_below = by reader start.met.low
     where
@@ -301,6 +297,3 @@ module _ {C : Type 0} (old : DeskMeaning C) (pusher : Pusher) (reading : ℕ) (c
     unsure = at_unsure m.progress m view (sym due ∙ is);
     whose = whose;
   }
-
-  pub never_changed : (given : MachineNext) (view : View) → given ≡ next_due m → given ≡ machine.Changed view → ⊥
-  never_changed given view due is = at_changed m.progress m view (sym due ∙ is)

@@ -100,7 +100,3 @@ module _ (number range step : ℕ) (request : Request) (reply : Reply) (k : Know
   pub stays_on : StaysDecided k t ts → StaysDecided later t ts
   stays_on (inl d) = inl (decides_on d)
   stays_on (inr shown) = inr (any_kept (ShowsFate t.id (fates.Committed t.epoch ts)) k.heard (it_heard ∷ []) shown)
-
--- what was heard to be committed was so over any message
-pub shown_on : (number range step : ℕ) (request : Request) (reply : Reply) (k : Known) (t : Txn) (ts : ℕ) → MaySendResolve k t.id (fates.Committed t.epoch ts) → MaySendResolve (with_exchange number range step request reply k) t.id (fates.Committed t.epoch ts)
-shown_on number range step request reply k t ts shown = any_kept (ShowsFate t.id (fates.Committed t.epoch ts)) k.heard (record { number = number; request = request; reply = reply; step = step } ∷ []) shown

@@ -57,5 +57,5 @@ pub record IsLaterAside (session : ℕ) (start k : Known) (ts : ℕ) : Type 0 wh
 
 -- The coordinator, whose session knew `start`, may go on beside it: it has to hear of no greater timestamp than this.
 pub record MayGoOnBeside (c : Coordination) (start k : Known) (ts : ℕ) : Type 0 where
-  pub later : IsLaterBeside c start k
+  pub later : IsLaterBeside false c start k
   pub clock : max c.clock ts ≡ k.high

@@ -214,7 +214,7 @@ module _ (c e : Coordination) (k : Known) (h : Heard) (knows : Knows false c k) 
 
 module _ (c e : Coordination) (k now : Known) (number : ℕ) (conflict : Reply) (reader : Option ℕ) (round : Round) (knows : Knows false c k) (knows_e : Knows false e now) (pipes : e.pipelining ≡ c.pipelining) (due : next_of c ≡ nexts.Conflict number conflict reader)
     (met : IsConflictNow (setting_of false c).course k number conflict reader) (turn : KeepsTurn c.pipelining k c.due) (once : AreHeardOnce k) (once_now : AreHeardOnce now) (begun : rounds_begun now ≡ rounds_begun k + 1)
-    (made_ends : EndsRound false conflict round k now) (later : IsLaterBeside c k now) (quiet : (n : ℕ) → awaits_number n e.due ≡ false)
+    (made_ends : EndsRound false conflict round k now) (later : IsLaterBeside false c k now) (quiet : (n : ℕ) → awaits_number n e.due ≡ false)
     (comes_then : goes_by_sequence (rounds_of c k number conflict reader knows due).o.call.purpose ≡ false → ComesOfRound round number conflict (wave c k number conflict reader knows due) e.due) where
   abbrev r_of : IsOpenedAs c k
   r_of = rounds_of c k number conflict reader knows due

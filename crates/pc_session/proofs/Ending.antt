@@ -19,13 +19,6 @@ use Rattle.pc_session.specs.InCall.{HasAsked, HasGoneInside}
 use Rattle.pc_session.specs.Session.{SessionMeaning}
 use Rattle.pc_turns.specs.Order.{IsInBetween, events_of}
 
--- memory was wanted
-pub memory_breaks : {C : Type 0} (Are : List Event → Type 0) (old new : DeskMeaning C) (halt : Halt) → halt ≡ halts.NoMemory → BreaksOff Are old new halt
-memory_breaks Are old new halt is = subst (λ (h : Halt). BreaksOff Are old new h) (sym is) (λ going. tt)
-
-pub memory_ends : {C : Type 0} (Is : Event → Type 0) (old new : DeskMeaning C) (halt : Halt) → halt ≡ halts.NoMemory → EndsOnly Is old new halt
-memory_ends Is old new halt is = subst (λ (h : Halt). EndsOnly Is old new h) (sym is) (λ going. tt)
-
 -- it had stopped
 pub stopped_breaks : {C : Type 0} (Are : List Event → Type 0) (old new : DeskMeaning C) (halt : Halt) → old.log.stopped ≡ true → BreaksOff Are old new halt
 stopped_breaks Are old new halt stopped = λ going. absurd (let e : true ≡ false = sym stopped ∙ going in cc e)

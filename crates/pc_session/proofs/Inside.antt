@@ -102,9 +102,6 @@ module _ {C : Type 0} (v old new : SessionMeaning C) (same : v ≡ old) where
   pub step_from : HasMadeStep v new → HasMadeStep old new
   step_from x = subst (λ (s : SessionMeaning C). HasMadeStep s new) same x
 
-  pub halted_from_it : (halt : Halt) → HasHalted v.desk new.desk halt → HasHalted old.desk new.desk halt
-  halted_from_it halt x = subst (λ (s : SessionMeaning C). HasHalted s.desk new.desk halt) same x
-
 -- ---- why no more entries are made
 
 cause_on : {C : Type 0} (old mid new : DeskMeaning C) (halt : Halt) → mid.log.stopped ≡ old.log.stopped → IsCause mid new halt → IsCause old new halt

@@ -77,13 +77,6 @@ same_other id b ts us same other t is named = let s = same_open b ts us t same i
 abbrev pub PutsOpen : Known → Request → Type 0
 PutsOpen k request = (id : TxnId) → is_put_by id request ≡ true → (t : Txn) × (open_txn k ≡ Some t) × (id ≡ t.id)
 
--- The request puts nothing.
-abbrev pub PutsNothing : Request → Type 0
-PutsNothing request = (id : TxnId) → is_put_by id request ≡ false
-
-pub nothing_put : (k : Known) (request : Request) → PutsNothing request → PutsOpen k request
-nothing_put k request none id puts = let e : true ≡ false = sym puts ∙ none id in absurd cc
-
 pub puts_no_job : (k : Known) (request : Request) (job : Job) → PutsOpen k request → IsFinishable k job → is_put_by job.meta.id request ≡ false
 puts_no_job k request job puts left = by (is_put_by job.meta.id request) refl
   where

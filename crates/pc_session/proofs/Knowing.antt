@@ -4,7 +4,7 @@ use Rattle.std.proofs.lemmas.Grind.{fold-append}
 use Rattle.std.proofs.lemmas.List.{append-nil}
 use Rattle.pc_base.specs.declared.entry.Entry.{Entry}
 use Rattle.pc_coord.specs.Events.{IsOf}
-use Rattle.pc_desk.proofs.Making.{added, answer_of, hear_names_it, known_after_it, own_after}
+use Rattle.pc_desk.proofs.Making.{added, hear_names_it, known_after_it, own_after}
 use Rattle.pc_desk.specs.declared.answered.Answered.{Answered}
 use Rattle.pc_desk.specs.Desk.{IsAnsweredBy}
 use Rattle.pc_desk.specs.OwnLog.{HasEntered, IsOwnLog, LogMeaning}
@@ -22,7 +22,7 @@ use Rattle.pc_follows.specs.FinishingJobs.{Duty, duty_after, jobs_after, jobs_of
 use Rattle.pc_world.specs.Known.{Known, known_after, known_of, learn, nothing_known, txns_told}
 use Rattle.pc_world.specs.Known.Clock.{high_told}
 use Rattle.pc_world.specs.Known.Statements.{begun_told, is_open_told}
-use Rattle.pc_world.specs.Known.Traffic.{Heard, Sent, heard_as, heard_by}
+use Rattle.pc_world.specs.Known.Traffic.{Heard, Sent, heard_as}
 use Rattle.pc_world.specs.Known.Transactions.{txn_heard, txn_sent}
 use Rattle.pc_world.specs.Run.{protocol}
 
@@ -138,10 +138,6 @@ module _ {C : Type 0} (old new : LogMeaning C) (a : Answered) (log : IsOwnLog ol
 
   abbrev hear : Event
   hear = events.Hear a.number a.step
-
-  -- what the hearing brings
-  pub brings_it : heard_by hear (Some (answer_of old a log by)) (known_of old.part.own).sent ≡ Some it
-  brings_it = ap (λ (r : Option Request). heard_as a.number a.step r (Some a.reply)) by.said
 
   pub known_heard : known_of new.part.own ≡ with_heard it (known_of old.part.own)
   known_heard =

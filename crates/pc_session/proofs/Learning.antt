@@ -16,7 +16,7 @@ use Rattle.pc_desk.proofs.Entering.{local_does}
 use Rattle.pc_desk.proofs.Making.{added, known_after_it}
 use Rattle.pc_desk.specs.declared.halt.Halt.{Halt}
 use Rattle.pc_desk.specs.declared.halt.Halt.TheVariants as halts
-use Rattle.pc_desk.specs.Desk.{DeskMeaning, HasDone, HasHalted, KeepsTrack, is_on_way}
+use Rattle.pc_desk.specs.Desk.{DeskMeaning, HasDone, KeepsTrack, is_on_way}
 use Rattle.pc_desk.specs.Ending.{EndsBy, EndsOnly, HasEnded, HasMadeLast}
 use Rattle.pc_desk.specs.Keeping.{KeepsSessionStep}
 use Rattle.pc_desk.specs.OwnLog.{MayEnter}
@@ -37,7 +37,7 @@ use Rattle.pc_proto.specs.declared.event.Event.{Event}
 use Rattle.pc_proto.specs.declared.event.Event.TheVariants as events
 use Rattle.pc_proto.specs.Stamps.{event_stamps, fate_stamps, greatest_of}
 use Rattle.pc_session.proofs.FirstCommits.{first_met, settles_on}
-use Rattle.pc_session.proofs.Inside.{halted_on, one_on}
+use Rattle.pc_session.proofs.Inside.{one_on}
 use Rattle.pc_session.proofs.Jobs.{HasJobs}
 use Rattle.pc_session.proofs.Keeping.{keeps_as, hears_none}
 use Rattle.pc_session.proofs.Knowing.{jobs_then}
@@ -414,9 +414,6 @@ module _ {C : Type 0} (v old : SessionMeaning C) (same : v ≡ old) (reading : �
       subst (λ (x : TokenMeaning). EndsOnly (λ made. made ≡ events.Meet x.id x.step) old.desk new halt) (sym is)
       (subst (λ (s : SessionMeaning C). EndsOnly (λ made. made ≡ events.Meet parts.id parts.step) s.desk new halt) same (told_ends v.desk t parts.known took (λ made. made ≡ events.Meet parts.id parts.step) new halt ends))
 
-  pub meet_halts : (new : DeskMeaning C) (halt : Halt) → HasHalted t new halt → HasHalted old.desk new halt
-  meet_halts new halt h = subst (λ (s : SessionMeaning C). HasHalted s.desk new halt) same (halted_on v.desk t new [] halt (grown_told v.desk t parts.known took) h)
-
 -- ---- the learn so far
 
 -- The session asked to learn, met the commit at this step, if it did, and did nothing else.
@@ -521,6 +518,3 @@ module _ {C : Type 0} (old mid : SessionMeaning C) (id : TxnId) (reading : ℕ) 
     met = met;
     whole = ap (λ es. es ++ event ∷ []) so.just ∙ ap (λ e. events.Ask (calls.Learn id) reading ∷ (met_at id step ++ e ∷ [])) (is ∙ ap (λ b. events.Tell (answer_to_learn b)) (sym met));
   }
-
-  pub learn_halts : (new : DeskMeaning C) (halt : Halt) → HasHalted mid.desk new halt → HasHalted old.desk new halt
-  learn_halts new halt h = halted_on old.desk mid.desk new so.part halt so.grown h

@@ -48,7 +48,6 @@ pub mod Standing
 pub mod Stepping
 pub mod Strays
 pub mod Telling
-pub mod Tokens
 pub mod TurnsOn
 pub mod Waiting
 pub mod Wanted

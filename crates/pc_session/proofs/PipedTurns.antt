@@ -237,10 +237,6 @@ sent_piped k call number range request t unmet below =
 
 -- ---- a reply is heard
 
--- Of messages that all are of requests which leave the rounds, the conflicts have their rounds in order, or none meets any.
-abbrev RunsInOrder : List Message → Type 0
-RunsInOrder ms = Pairwise HasRoundFirst ms ⊎ All (AsksSo meets_none) ms
-
 find_awaited : (number : ℕ) (ms : List Message) → wave_awaits number ms ≡ true → (m : Message) × (find (awaits_at number) ms ≡ Some m)
 find_awaited number ms waits = found_some (awaits_at number) ms waits
 

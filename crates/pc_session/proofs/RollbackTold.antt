@@ -28,9 +28,6 @@ and_false : (b : Bool) → (b && false) ≡ false
 and_false true = refl
 and_false false = refl
 
-rolls_apart : (other : Call) (call : Call) → call ≡ calls.Rollback → call ≡ other → (calls.Rollback ≡ other → ⊥) → ⊥
-rolls_apart other call rolls is apart = apart (sym rolls ∙ is)
-
 learn_apart : (met : Bool) (k : Known) (call : Call) → call ≡ calls.Rollback → IsLearnTold met k call → ⊥
 learn_apart met k call rolls is = subst (IsLearnTold met k) rolls is
 

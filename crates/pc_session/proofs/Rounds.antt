@@ -1,5 +1,5 @@
 -- A session in its call once the round of a conflict was made beside its coordinator.
-use Rattle.std.proofs.Common.{◌≡◌, ℕ, ◌+◌, ◌≤◌, max, true, false, ◌==◌, All, Contains, ◌++◌, count_by, Option, Some, None, refl, sym, ap, subst, ◌∙◌, arith, Bool, ◌&&◌, ◌||◌, not, inl, inr, IsTrue}
+use Rattle.std.proofs.Common.{◌≡◌, ℕ, ◌+◌, ◌≤◌, max, true, false, ◌==◌, All, Contains, ◌++◌, count_by, Option, Some, refl, sym, ap, subst, ◌∙◌, arith, Bool, ◌&&◌, ◌||◌, not, inl, inr, IsTrue}
 use Rattle.std.proofs.lemmas.Bool.{eq-eqb}
 use Rattle.std.proofs.lemmas.List.{append_assoc}
 use Rattle.std.proofs.lemmas.List.Elements.{All-append, All-weaker, Contains-append_right, All-contains}
@@ -156,10 +156,6 @@ module _ {C : Type 0} (old : SessionMeaning C) (reading number : ℕ) (conflict 
     goes = subst (λ b. MayGoInCall b known) (sym calls.one.piped) free;
   }
 
-  -- somebody pushes in it
-  pub some_pusher : IsPusherOf known None → ⊥
-  some_pusher none = let e = none met.t met.open_is in cc e
-
   module _ (d : DeskMeaning C) (c e : Coordination) (round : Round) (ts : ℕ) (made : HasMadeRoundOf old.desk d conflict round ts) (raised : c ≡ with_clock (max old.coordinator.clock ts) old.coordinator) where
     abbrev later : Known
     later = known_of d.log.part.own
@@ -228,8 +224,8 @@ module _ {C : Type 0} (old : SessionMeaning C) (reading number : ℕ) (conflict 
     aside_same : (n : ℕ) → waits_aside n d ≡ waits_aside n old.desk
     aside_same n = ap (list_any (λ (m : Posted). m.number == n)) later_same
 
-    module _ (settles : (loses : Bool) (c' : Coordination) (start k : Known) (conflict : Reply) (reader : Option ℕ) → Knows loses c' start → c ≡ with_clock k.high c' → next_of c' ≡ nexts.Conflict number conflict reader → IsLaterBeside c' start k → EndsRound loses conflict round start k → Knows loses e k)
-        (quiets : (loses : Bool) (c' : Coordination) (start k : Known) (conflict : Reply) (reader : Option ℕ) (other : ℕ) → loses ≡ false → Knows loses c' start → c ≡ with_clock k.high c' → next_of c' ≡ nexts.Conflict number conflict reader → IsLaterBeside c' start k → EndsRound loses conflict round start k
+    module _ (settles : (loses : Bool) (c' : Coordination) (start k : Known) (conflict : Reply) (reader : Option ℕ) → Knows loses c' start → c ≡ with_clock k.high c' → next_of c' ≡ nexts.Conflict number conflict reader → IsLaterBeside loses c' start k → EndsRound loses conflict round start k → Knows loses e k)
+        (quiets : (loses : Bool) (c' : Coordination) (start k : Known) (conflict : Reply) (reader : Option ℕ) (other : ℕ) → loses ≡ false → Knows loses c' start → c ≡ with_clock k.high c' → next_of c' ≡ nexts.Conflict number conflict reader → IsLaterBeside loses c' start k → EndsRound loses conflict round start k
         → awaits_number other e.due ≡ false)
         (left : (number : ℕ) → has_waited number e.later ≡ true → has_waited number c.later ≡ true) (session : e.session ≡ c.session) (splits : e.splits ≡ c.splits) (pipelines : e.pipelining ≡ c.pipelining)
         (comes : (o : Opened) (conflict : Reply) → opened_by c.txn c.due ≡ Some o → step_of o.call.wave ≡ steps.Round number conflict → goes_by_sequence o.call.purpose ≡ false → ComesOfRound round number conflict o.call.wave e.due) where

@@ -1,24 +1,19 @@
 -- A session rests where it begins, and rests or has stopped after what it does.
-use Rattle.std.proofs.Common.{◌≡◌, ℕ, Bool, true, false, ◌==◌, All, IfErr, IfOk, List, [], Result, Ok, Err, ◌≤◌, is_some, refl, sym, ap, subst, ◌∙◌, Contains}
+use Rattle.std.proofs.Common.{◌≡◌, ℕ, Bool, true, false, ◌==◌, All, List, [], ◌≤◌, is_some, refl, sym, ap, subst, ◌∙◌, Contains}
 use Rattle.std.proofs.lemmas.List.Elements.{All-nil}
 use Rattle.pc_base.specs.declared.actor.ActorId.TheVariants as actors
 use Rattle.std.specs.List.{list_any}
 use Rattle.pc_call.specs.Outbox.{has_waited}
 use Rattle.pc_coord.specs.Coordination.{Coordination, new_coordination}
 use Rattle.pc_coord.specs.Knows.{Knows}
-use Rattle.pc_desk.specs.declared.halt.Halt.{Halt}
-use Rattle.pc_desk.specs.Desk.{DeskMeaning, HasHalted, KeepsTrack, Posted}
+use Rattle.pc_desk.specs.Desk.{DeskMeaning, KeepsTrack, Posted}
 use Rattle.pc_exchange.specs.Jobs.{IsFinishable}
 use Rattle.pc_follows.specs.WaveOrder.{IsHeardOrPut}
 use Rattle.pc_history.specs.declared.view.Known.{Known as KnownEntry}
 use Rattle.pc_history.specs.declared.view.Part.{Part}
 use Rattle.pc_history.specs.Parts.{newcomer, told}
-use Rattle.pc_proto.specs.declared.answer.Answer.{Answer}
-use Rattle.pc_proto.specs.declared.call.Call.{Call}
 use Rattle.pc_proto.specs.declared.event.Event.{Event}
-use Rattle.pc_session.specs.Calls.{HasCalled}
 use Rattle.pc_session.specs.Session.{AreOfOneSession, HasLeft, IsAtRest, RestsOrStopped, SessionMeaning, waits_aside}
-use Rattle.pc_session.specs.Steps.{HasStepped}
 use Rattle.pc_world.specs.Known.{Known, known_of, nothing_known}
 use Rattle.pc_world.specs.Known.Transactions.{Txn}
 use Rattle.pc_lists.proofs.Lists.{contains_nil}
@@ -49,20 +44,6 @@ begun_rests s session tries pipelining fresh track made knows piped posted repli
           (record { left = refl; numbers = All-nil (λ (t : Txn). t.id.number ≤ 0); each = All-nil (IsFinishable nothing_known) }));
       behind = λ number request waits said g there. absurd (contains_nil g (subst (λ (k : Known). Contains k.heard g) known there));
     }
-
-stopped_not : {C : Type 0} (s : SessionMeaning C) → s.desk.log.stopped ≡ true → RestsOrStopped s
-stopped_not s stopped = λ going. absurd (let e : true ≡ false = sym stopped ∙ going in cc e)
-
--- after a call
-pub called_rests : {C : Type 0} (old new : SessionMeaning C) (call : Call) (r : Result Answer Halt) → IfOk r (HasCalled old new call) → IfErr r (HasHalted old.desk new.desk) → RestsOrStopped new
-called_rests old new call (Ok answer) called halted = λ going. called.rest
-called_rests old new call (Err halt) called halted = stopped_not new halted.stopped
-
--- after a step
-pub stepped_rests : {C : Type 0} (old new : SessionMeaning C) (r : Result Bool Halt) → IsAtRest old → IfOk r (HasStepped old new) → IfErr r (HasHalted old.desk new.desk) → RestsOrStopped new
-stepped_rests old new (Ok true) rest stepped halted = λ going. stepped.rest
-stepped_rests {C} old new (Ok false) rest stepped halted = λ going. subst (λ (s : SessionMeaning C). IsAtRest s) (sym stepped.1) rest
-stepped_rests old new (Err halt) rest stepped halted = stopped_not new halted.stopped
 
 -- once a mark was taken
 pub followed_rests : {C : Type 0} (old new : SessionMeaning C) (note : List (KnownEntry Event)) → new ≡ record old { desk = new.desk } → new.desk ≡ record old.desk { log = record old.desk.log { part = told note old.desk.log.part } } → (KeepsTrack old.desk → KeepsTrack new.desk)

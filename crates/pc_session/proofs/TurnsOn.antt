@@ -34,8 +34,8 @@ use Rattle.pc_session.proofs.Away.{any_there}
 use Rattle.pc_session.proofs.Again.{out_waits}
 use Rattle.pc_session.proofs.Due.{none_awaits}
 use Rattle.pc_session.proofs.InTurn.{AreHeardOnce, WaitsFirst, asked_block, conflicts_over, same_heard, turn_again, turn_asked, turn_comes, turn_heard, turn_sent, waits_first}
-use Rattle.pc_session.proofs.WaveTurns.{AreAllToSend, IsBelowNumber, IsFromNumber, IsUnlost, sends_no_more, sends_none, sent_none}
-use Rattle.pc_session.specs.InTurn.{HasRoundsInTurn, KeepsTurn, WaitsForReplies}
+use Rattle.pc_session.proofs.WaveTurns.{AreAllToSend, IsBelowNumber, IsFromNumber, IsUnlost, sends_no_more, sends_none}
+use Rattle.pc_session.specs.InTurn.{HasRoundsInTurn, KeepsTurn}
 use Rattle.pc_wave.proofs.Hearing.{wave_heard}
 use Rattle.pc_wave.proofs.Rounds.{due_round, first_found, wave_again}
 use Rattle.pc_wave.specs.Course.{Course}
@@ -194,10 +194,6 @@ module _ (c : Coordination) (k : Known) (request : Request) (knows : Knows false
     sent_plain now number range sent heard plain next =
         turn_sent k now (record { number = number; range = range; request = request }) sends_of.o.call.wave sent heard plain unlost_sends step_sends (below_next number next) turn_of
 
-  -- no conflict waits for its round then
-  pub sent_waits : (e : Coordination) (number : ℕ) → list_any is_in_conflict sends_of.o.call.wave ≡ false → e.due ≡ dues.Call (record sends_of.o.call { wave = first_changed is_to_send (sent_under number) sends_of.o.call.wave }) → WaitsForReplies e.due
-  sent_waits e number none comes = subst WaitsForReplies (sym comes) (λ out. sent_none number sends_of.o.call.wave none)
-
 -- ---- a reply is heard
 
 module _ (c e : Coordination) (k now : Known) (h : Heard) (knows : Knows false c k) (waited : awaits_number h.number c.due ≡ true) where
@@ -309,10 +305,10 @@ module _ (c : Coordination) (k : Known) (number : ℕ) (conflict : Reply) (reade
   step_rounds = round_step c rounds_of.o.txn rounds_of.o.call number conflict reader rounds_of.held rounds_of.due due
 
   -- what the round made is known of it
-  pub made_round : (now : Known) → IsLaterBeside c k now → (holder : TxnMeta) (ts : ℕ) (key : List ℕ) → conflict ≡ replies.Conflict holder ts key → IsSettledRound holder.id key k now → MakesRound k now rounds_of.o.txn.id (replies.Conflict holder ts key)
+  pub made_round : (now : Known) → IsLaterBeside false c k now → (holder : TxnMeta) (ts : ℕ) (key : List ℕ) → conflict ≡ replies.Conflict holder ts key → IsSettledRound holder.id key k now → MakesRound k now rounds_of.o.txn.id (replies.Conflict holder ts key)
   made_round now later holder ts key is settled = had_round false c k now rounds_of.o.txn rounds_of.o.call knows rounds_of.held rounds_of.due later rounds.Again (replies.Conflict holder ts key) settled
 
-  pub refused_round : (now : Known) → IsLaterBeside c k now → (holder : TxnMeta) (ts : ℕ) (key : List ℕ) → IsRefusedRound holder.id k now → RefusesRound k now rounds_of.o.txn.id (replies.Conflict holder ts key)
+  pub refused_round : (now : Known) → IsLaterBeside false c k now → (holder : TxnMeta) (ts : ℕ) (key : List ℕ) → IsRefusedRound holder.id k now → RefusesRound k now rounds_of.o.txn.id (replies.Conflict holder ts key)
   refused_round now later holder ts key refused = had_round false c k now rounds_of.o.txn rounds_of.o.call knows rounds_of.held rounds_of.due later rounds.Refused (replies.Conflict holder ts key) refused
 
   module _ (met : IsConflictNow (setting_of false c).course k number conflict reader) (once : AreHeardOnce k) where
@@ -343,7 +339,7 @@ module _ (c : Coordination) (k : Known) (number : ℕ) (conflict : Reply) (reade
       pub next_round : IsNextRound k met.h
       next_round = record { placed = first.placed ∙ ap Some same; over = t.over; answered = t.answered; below = below }
 
-      module _ (e : Coordination) (now : Known) (round : Round) (begun : rounds_begun now ≡ rounds_begun k + 1) (ends : EndsRound false conflict round k now) (later : IsLaterBeside c k now) (once_now : AreHeardOnce now) (quiet : (n : ℕ) → awaits_number n e.due ≡ false)
+      module _ (e : Coordination) (now : Known) (round : Round) (begun : rounds_begun now ≡ rounds_begun k + 1) (ends : EndsRound false conflict round k now) (later : IsLaterBeside false c k now) (once_now : AreHeardOnce now) (quiet : (n : ℕ) → awaits_number n e.due ≡ false)
           (comes : goes_by_sequence rounds_of.o.call.purpose ≡ false → ComesOfRound round number conflict wave e.due) where
         goes_plainly : goes_by_sequence rounds_of.o.call.purpose ≡ false
         goes_plainly = unpiped_goes false c k rounds_of.o.call knows rounds_of.due plain
