@@ -1,1 +1,2 @@
 pub mod OneRound
+pub mod StagedCommit
