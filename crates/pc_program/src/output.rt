@@ -14,7 +14,7 @@ use pc_clock::Clocks;
 use pc_journal::print_journal;
 use pc_proto::Event;
 use pc_range::Gate;
-use pc_report::{Report, print_report, report};
+use pc_report::{Findings, Report, print_report};
 use pc_runner::{run_threads, run_turns};
 use pc_work::Workload;
 use std::alloc::Global;
@@ -36,10 +36,12 @@ where
     ensures { IfOk result (λ out. IsOutput work.now (M.rules clocks.old) out.items) }
 {
     let entries = history(rt, alloc, work, clocks, gate)?;
-    let report = report(alloc, &work.splits, &entries)?;
+    let findings = Findings::of(alloc, &work.splits, &entries)?;
+    let report = findings.report(alloc, &work.splits)?;
     let out = print_output(alloc, work, &entries, &report);
     // The process ends behind its output: giving back the memory of each entry before would only take time.
     forget(entries);
+    forget(findings);
     forget(report);
     out
 }

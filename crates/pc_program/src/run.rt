@@ -1,10 +1,11 @@
-ghost use Rattle.std.specs.Prelude.{◌≡◌, ℕ, ◌+◌, ◌<◌, ◌↔◌, ◌⊎◌, IsSome, IfSome, length, take};
+ghost use Rattle.std.specs.Prelude.{◌≡◌, ℕ, ◌+◌, ◌<◌, ◌≤◌, ◌↔◌, ◌⊎◌, IsSome, IfSome, length, take};
 ghost use Rattle.std.specs.Io.KnownBytes.{Appends};
 ghost use Rattle.pc_base.specs.Counts.{saturating_next};
 ghost use Rattle.pc_io.specs.Reading.{HasNoneLeft, TakesAtMost, TakesExactly};
 ghost use Rattle.pc_program.specs.Causes.{HasBegunWriting, HasWritten, HasWrittenOf, IfDone, IfRead, IfRefused, IfWriteFault, IsAfterReading, IsFront, IsOfRun, IsWhole, UnlessWriteFault, UnlessWriting};
 ghost use Rattle.pc_work.specs.Accepted.{IsAccepted};
-ghost use Rattle.pc_work.specs.Workload.{IsJson, accepted_in};
+ghost use Rattle.pc_work.specs.Workload.{IsJson, IsNumberOf, accepted_in};
+ghost use Rattle.pc_work.specs.declared.refusal.TheConstants.{NOT_BUILT, NO_JSON};
 
 use crate::output::output;
 use crate::status::Status;
@@ -42,14 +43,14 @@ where
     ensures read_whole { IfRead result (HasNoneLeft (S.left source.old) (S.left source.new)) }
     ensures read_most { TakesAtMost (INPUT_BYTES + 1) (S.left source.old) (S.left source.new) }
 
-    // The bytes decide what becomes of the workload: no JSON, another form, or accepted and run.
+    // The bytes decide what becomes of the workload: no JSON, refused with the least number that applies, or accepted and run.
     ensures no_json { IfRead result (IfSome (S.left source.old) (λ bytes.
         (result ≡ Status.Workload 1) ↔ ¬ (IsJson bytes))) }
-    ensures other_form { IfRead result (IfSome (S.left source.old) (λ bytes.
-        (result ≡ Status.Workload 10) ↔ (IsJson bytes × (accepted_in bytes ≡ None)))) }
+    ensures refused { (number : ℕ) → IfRead result (IfSome (S.left source.old) (λ bytes.
+        (result ≡ Status.Workload number) ↔ IsNumberOf bytes number)) }
     ensures accepted { IfRead result (IfSome (S.left source.old) (λ bytes.
         HasBegunWriting result ↔ (IsJson bytes × IsSome (accepted_in bytes)))) }
-    ensures refused { IfRefused result (λ number. (number ≡ 1) ⊎ (number ≡ 10)) }
+    ensures numbers { IfRefused result (λ number. (NO_JSON ≤ number) × (number ≤ NOT_BUILT)) }
 
     // Done is the whole output behind what the sink had taken; a write fault is a part of it. Else nothing was written.
     ensures done { IfDone result (HasWritten (M.rules clocks.old) (S.left source.old) (K.taken sink.old) (K.taken sink.new) IsWhole) }
@@ -78,14 +79,14 @@ fn run_bytes<K: Sink, M: Clocks, G: Gate + Sync, R: Wait + Threads + Sync>(
 where
     M::Clock: Drop + Send,
     ensures no_json { IfRead result ((result ≡ Status.Workload 1) ↔ ¬ (IsJson bytes.now)) }
-    ensures other_form { IfRead result ((result ≡ Status.Workload 10) ↔ (IsJson bytes.now × (accepted_in bytes.now ≡ None))) }
+    ensures refused { (number : ℕ) → IfRead result ((result ≡ Status.Workload number) ↔ IsNumberOf bytes.now number) }
     ensures accepted { IfRead result (HasBegunWriting result ↔ (IsJson bytes.now × IsSome (accepted_in bytes.now))) }
     ensures done { IfDone result (HasWritten (M.rules clocks.old) (Some bytes.now) (K.taken sink.old) (K.taken sink.new) IsWhole) }
     ensures part { IfWriteFault result (λ written. HasWritten (M.rules clocks.old) (Some bytes.now) (K.taken sink.old) (K.taken sink.new) (IsFront written)) }
     ensures write_fault { IfWriteFault result (λ written. K.faults sink.new ≡ saturating_next (K.faults sink.old)) }
     ensures write_count { UnlessWriteFault result (K.faults sink.new ≡ K.faults sink.old) }
     ensures unwritten { UnlessWriting result (sink.new ≡ sink.old) }
-    ensures refused { IfRefused result (λ number. (number ≡ 1) ⊎ (number ≡ 10)) }
+    ensures numbers { IfRefused result (λ number. (NO_JSON ≤ number) × (number ≤ NOT_BUILT)) }
     ensures kind { IsAfterReading result }
 {
     match Workload::read(alloc, bytes) {

@@ -369,6 +369,26 @@ pub points_grow : (splits : List (List ℕ)) (touched : Option TxnId) (far : ℕ
     → ((id : TxnId) → held new.points id ≡ first_of (held old.points id) (only_for one far id)) → PointsFollow splits touched far old new
 points_grow splits touched far old new one is put = λ id. put id ∙ sym (ap (λ o. first_of (held old.points id) (point_for o far id)) is)
 
+-- where a transaction has its point, it stays
+pub points_kept : (splits : List (List ℕ)) (touched : TxnId) (far point : ℕ) (old new : Replay) → held old.points touched ≡ Some point → new.points ≡ old.points → PointsFollow splits (Some touched) far old new
+points_kept splits touched far point old new has same =
+    λ id. ap (λ points. held points id) same ∙ sym (stays id (commit_kept splits new touched) (same_txn touched id) refl)
+  where
+    stays : (id : TxnId) (commit : Option ℕ) (is : Bool) → same_txn touched id ≡ is → first_of (held old.points id) (point_for (cond (is_some commit) (Some touched) None) far id) ≡ held old.points id
+    stays id None is _ = first_none (held old.points id)
+    stays id (Some ts) false not = ap (λ b. first_of (held old.points id) (cond b (Some far) None)) not ∙ first_none (held old.points id)
+    stays id (Some ts) true eq =
+        let there : held old.points id ≡ Some point = sym (ap (held old.points) (same_txn-is touched id eq)) ∙ has in
+        ap (λ o. first_of o (only_for touched far id)) there ∙ sym there
+
+-- where a transaction has a point, it stays
+pub points_noted : (splits : List (List ℕ)) (touched : TxnId) (far : ℕ) (old new : Replay) → is_some (held old.points touched) ≡ true → new.points ≡ old.points → PointsFollow splits (Some touched) far old new
+points_noted splits touched far old new has same = by (held old.points touched) refl has
+  where
+    by : (o : Option ℕ) → held old.points touched ≡ o → is_some o ≡ true → PointsFollow splits (Some touched) far old new
+    by None there is = absurd cc
+    by (Some point) there is = points_kept splits touched far point old new there same
+
 -- the entries so far and the next one are a run
 pub run_so_far : (splits : List (List ℕ)) (entries : List (Entry Event)) (i : ℕ) (x : Entry Event) (front : List (Entry Event)) → IsRunOver splits entries → i < length entries → x ≡ slice_index_or entries i x → front ≡ take i entries
     → IsRunOver splits (front ++ x ∷ [])

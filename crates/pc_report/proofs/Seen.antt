@@ -34,12 +34,8 @@ use Rattle.pc_report.specs.Seen.{HasNoStage, SendsNoStage, kept_of, of_table, se
 use Rattle.pc_world.specs.Committed.{commit_by}
 use Rattle.pc_world.specs.Evaluation.{state_after}
 use Rattle.pc_world.specs.Named.{request_in}
-use Rattle.pc_world.specs.RangeState.{RangeState, no_state}
+use Rattle.pc_world.specs.RangeState.{RangeState}
 use Rattle.pc_world.specs.Stamps.{AllBelowGreatest, HasRoom}
-
-pub seen_blank : (whole : Bool) → seen whole no_state ≡ no_state
-seen_blank true = refl
-seen_blank false = refl
 
 pub seen_table : (whole : Bool) (s : RangeState) → (seen whole s).table ≡ s.table
 seen_table true s = refl

@@ -7,3 +7,4 @@ pub mod Ordering
 pub mod Writing
 pub mod Rows
 pub mod FirstReport
+pub mod Findings

@@ -1,20 +1,22 @@
-ghost use Rattle.std.specs.Prelude.{◌≡◌, ℕ, ◌+◌, ◌++◌, ◌^◌, ◌<◌, [], IfOk, OnOk, fold, length, map};
+ghost use Rattle.std.specs.Prelude.{◌≡◌, ℕ, ◌+◌, ◌^◌, ◌<◌, List, [], IfOk, fold, length, map};
 ghost use Rattle.std.specs.Cmp.Lexicographic.{slice_cmp};
-ghost use Rattle.std.specs.List.{cons_option};
 ghost use Rattle.std.specs.Ordering.{nat_cmp};
 ghost use Rattle.pc_base.specs.Keyed.{in_order};
+ghost use Rattle.pc_base.specs.declared.entry.Entry.{Entry};
+ghost use Rattle.pc_proto.specs.declared.event.Event.{Event};
+ghost use Rattle.pc_report.specs.Findings.{AreFindingsOf};
 ghost use Rattle.pc_report.specs.Ordering.{order_among, other_in, others_among, placed};
 ghost use Rattle.pc_report.specs.ReportOf.{IsRunOver, other_row, report_of};
 ghost use Rattle.pc_report.specs.Rows.{commit_row, map_with_puts};
-ghost use Rattle.pc_world.specs.CommitOrder.{all_begun, begun_in};
 ghost use Rattle.pc_world.specs.Local.{Head};
 
-use crate::replay::{Rank, Replay, replayed};
+use crate::gathered::Findings;
+use crate::replay::{Rank, Replay};
 use crate::rows::{CommittedRow, CommittedRows, Ending, MapRows, OtherRow, OtherRows, Report};
 use crate::tables::insert;
-use crate::writes::{Writes, written};
+use crate::writes::Writes;
 use pc_base::{Entry, Items, NoMemory, TxnId};
-use pc_proto::{Answer, Event, Keys};
+use pc_proto::{Event, Keys};
 use pc_puts::{apply, last_writes};
 use std::alloc::Global;
 use std::collections::BTreeMap;
@@ -25,39 +27,26 @@ pub fn report(alloc: Global, splits: &Keys, entries: &[Entry<Event>]) -> Result<
     requires run { IsRunOver splits.now entries.now }
     ensures { IfOk result (λ report. (head : Head) → head.splits ≡ splits.now → report ≡ report_of head entries.now) }
 {
-    let replay = replayed(alloc, splits, entries)?;
-    let writes = written(alloc, entries)?;
-    let begun = all_begun(alloc, entries)?;
-    let order = commit_order(alloc, splits, &begun, &replay)?;
-    let committed = committed_rows(alloc, &order, &writes)?;
-    let others = other_rows(alloc, splits, &begun, &replay)?;
-    let map = map_rows(alloc, &order, &writes)?;
-    Ok(Report {
-        committed,
-        others,
-        map,
-    })
+    let findings = Findings::of(alloc, splits, entries)?;
+    findings.report(alloc, splits)
 }
 
-/// The transactions that were begun, in the order of their begins.
-fn all_begun(alloc: Global, entries: &[Entry<Event>]) -> Result<Vec<TxnId>, NoMemory>
-    ensures { IfOk result (λ begun. begun.items ≡ all_begun entries.now) }
-{
-    let mut ids = Vec::new(alloc);
-    for entry in entries {
-        add_begun(&mut ids, &entry.event)?;
+impl Findings {
+    /// The report of the history of which this was found, over ranges with these splits.
+    pub fn report(&self, alloc: Global, splits: &Keys) -> Result<Report, NoMemory>
+        requires { length splits.now + 1 < 2 ^ 32 }
+        ensures { (entries : List (Entry Event)) → AreFindingsOf splits.now entries self.now → IfOk result (λ report. (head : Head) → head.splits ≡ splits.now → report ≡ report_of head entries) }
+    {
+        let order = commit_order(alloc, splits, &self.begun, &self.replay)?;
+        let committed = committed_rows(alloc, &order, &self.writes)?;
+        let others = other_rows(alloc, splits, &self.begun, &self.replay)?;
+        let map = map_rows(alloc, &order, &self.writes)?;
+        Ok(Report {
+            committed,
+            others,
+            map,
+        })
     }
-    Ok(ids)
-}
-
-/// Adds the transaction that the event tells begun, if it tells one.
-fn add_begun(ids: &mut Vec<TxnId>, event: &Event) -> Result<(), NoMemory>
-    ensures { OnOk result (ids.new.items ≡ ids.old.items ++ cons_option (begun_in event.now) []) }
-{
-    if let Event::Tell(Answer::Begun { id, .. }) = event {
-        ids.push(*id)?;
-    }
-    Ok(())
 }
 
 /// Of these transactions the committed ones, by timestamp and then by commit point.

@@ -7,7 +7,7 @@ ghost use Rattle.pc_proto.specs.Requests.{is_stage, subject};
 ghost use Rattle.pc_proto.specs.Table.{place_of};
 ghost use Rattle.pc_report.specs.Ordering.{rank_in};
 ghost use Rattle.pc_report.specs.ReportOf.{IsRunOver, ending_at, ending_by, rolled_back_in, told_ending};
-ghost use Rattle.pc_report.specs.Replaying.{AreBlank, HasRoomAt, HasRoomFor, IsReplayOf, Notes, after_eval, commit_kept, states_after, asked_in, commit_of_place, committed_one, ending_in, is_present_in, touched, touched_by_send, touched_in};
+ghost use Rattle.pc_report.specs.Replaying.{AreBlank, HasRoomAt, HasRoomFor, IsReplayOf, Notes, PointsFollow, after_eval, commit_kept, states_after, asked_in, commit_of_place, ending_in, is_present_in, touched, touched_by_send, touched_in};
 ghost use Rattle.pc_report.specs.Seen.{SendsNoStage, kept_of, sends_a_stage};
 ghost use Rattle.pc_sent.specs.Sending.{AreSendsOf};
 ghost use Rattle.pc_world.specs.Committed.{commit_by, committed_in, key_sent};
@@ -48,29 +48,9 @@ pub(crate) struct Replay {
     points: BTreeMap<TxnId, u64>,
 }
 
-/// What the whole history comes to.
-pub(crate) fn replayed(
-    alloc: Global,
-    splits: &Keys,
-    entries: &[Entry<Event>],
-) -> Result<Replay, NoMemory>
-    requires few { length splits.now + 1 < 2 ^ 32 }
-    requires run { IsRunOver splits.now entries.now }
-    ensures { IfOk result (IsReplayOf splits.now entries.now) }
-{
-    let whole = any_sends_a_stage(entries);
-    let mut replay = Replay::new(alloc, splits, whole)?;
-    let mut sent = Sent::new(alloc);
-    for (done, entry) in entries.iter().enumerate() {
-        let (before, _) = entries.split_at(done);
-        replay.follow(splits, &sent, before, entry)?;
-        sent.add(before, entry)?;
-    }
-    Ok(replay)
-}
-
 impl Replay {
-    fn new(alloc: Global, splits: &Keys, whole: bool) -> Result<Replay, NoMemory>
+    /// What no entry comes to.
+    pub(crate) fn new(alloc: Global, splits: &Keys, whole: bool) -> Result<Replay, NoMemory>
         requires { length splits.now + 1 < 2 ^ 32 }
         ensures replay { IfOk result (IsReplayOf splits.now []) }
         ensures whole { IfOk result (λ r. r.whole ≡ whole) }
@@ -86,7 +66,7 @@ impl Replay {
     }
 
     /// Takes one more entry.
-    fn follow(
+    pub(crate) fn follow(
         &mut self,
         splits: &Keys,
         sent: &Sent,
@@ -108,20 +88,32 @@ impl Replay {
         let asked = asked(sent, before, &entry.event);
         let kept = kept_of(self.whole, asked);
         evaluate(&mut self.states, entry.actor, kept)?;
-        let Some(id) = self.committed_of(splits, touched_in(kept, &entry.event)) else {
-            return Ok(());
-        };
-        keep_first(&mut self.points, id, length)?;
+        self.note_point(splits, touched_in(kept, &entry.event), length)?;
         Ok(())
     }
 
-    /// This transaction, if it is committed.
-    fn committed_of(&self, splits: &Keys, touched: Option<TxnId>) -> Option<TxnId>
+    /// Keeps that this transaction was committed at this point, if it is committed and was not before.
+    fn note_point(
+        &mut self,
+        splits: &Keys,
+        touched: Option<TxnId>,
+        point: u64,
+    ) -> Result<(), NoMemory>
         requires { length splits.now + 1 < 2 ^ 32 }
-        ensures { result ≡ committed_one (commit_kept splits.now self.now) touched }
+        ensures points { OnOk result (PointsFollow splits.now touched point self.old self.new) }
+        ensures same { OnOk result (self.new ≡ record self.old { points = self.new.points }) }
     {
-        let id = touched?;
-        self.commit(splits, id).map(|_ts| id)
+        let Some(id) = touched else {
+            return Ok(());
+        };
+        if self.points.contains_key(&id) {
+            return Ok(());
+        }
+        if self.commit(splits, id).is_none() {
+            return Ok(());
+        }
+        keep_first(&mut self.points, id, point)?;
+        Ok(())
     }
 
     /// The timestamp at which the transaction is committed, if it is.
@@ -165,7 +157,7 @@ impl Replay {
 }
 
 /// Whether an entry sends a stage.
-fn any_sends_a_stage(entries: &[Entry<Event>]) -> bool
+pub(crate) fn any_sends_a_stage(entries: &[Entry<Event>]) -> bool
     ensures { result ≡ list_any (λ e. sends_a_stage e.event) entries.now }
 {
     entries.iter().any(|entry| sends_a_stage(&entry.event))

@@ -20,23 +20,19 @@ pub(crate) struct Writes {
     last: BTreeMap<u32, TxnId>,
 }
 
-/// What the transactions wrote in the whole history.
-pub(crate) fn written(alloc: Global, entries: &[Entry<Event>]) -> Result<Writes, NoMemory>
-    ensures { IfOk result (AreWritesOf entries.now) }
-{
-    let mut writes = Writes {
-        puts: BTreeMap::new(alloc),
-        last: BTreeMap::new(alloc),
-    };
-    for entry in entries {
-        writes.follow(alloc, entry)?;
-    }
-    Ok(writes)
-}
-
 impl Writes {
+    /// What is written in no entry.
+    pub(crate) fn new(alloc: Global) -> Writes
+        ensures { AreWritesOf [] result }
+    {
+        Writes {
+            puts: BTreeMap::new(alloc),
+            last: BTreeMap::new(alloc),
+        }
+    }
+
     /// Takes one more entry.
-    fn follow(&mut self, alloc: Global, entry: &Entry<Event>) -> Result<(), NoMemory>
+    pub(crate) fn follow(&mut self, alloc: Global, entry: &Entry<Event>) -> Result<(), NoMemory>
         ensures puts { OnOk result (PutsFollow self.old entry.now self.new) }
         ensures last { OnOk result (LastFollows self.old entry.now self.new) }
     {

@@ -1,5 +1,5 @@
 -- What was read of a text, and what is found of it.
-use Rattle.std.proofs.Common.{◌≡◌, ℕ, ◌+◌, ◌^◌, ◌<◌, ◌≤◌, List, [], ◌∷◌, ◌++◌, map, length, Option, None, Some, option_map, refl, sym, ap, subst, ◌∙◌, inl, inr, arith, codes}
+use Rattle.std.proofs.Common.{◌≡◌, ℕ, ◌+◌, ◌^◌, ◌<◌, ◌≤◌, List, [], ◌∷◌, ◌++◌, map, length, Option, None, Some, option_map, refl, sym, ap, subst, ◌∙◌, inr, arith, codes}
 use Rattle.std.specs.List.{AllByRecursion, filter_map}
 use Rattle.std.proofs.lemmas.List.{append_cancel_right, length-map}
 use Rattle.std.proofs.lemmas.List.Elements.{recursion_from_All}
@@ -7,9 +7,8 @@ use Rattle.std.proofs.lemmas.List.Splits.{length-slice_split}
 use Rattle.std.proofs.lemmas.List.Sums.{count_by-le-length}
 use Rattle.std.proofs.Common.{◌==◌, Bor}
 use Rattle.pc_base.specs.declared.entry.Entry.{Entry}
-use Rattle.pc_check.specs.declared.rule.Rule.{Rule}
 use Rattle.pc_check.specs.declared.rule.Rule.TheVariants as rules_broken
-use Rattle.pc_check.specs.FirstBroken.{IsFirstBroken, head_with}
+use Rattle.pc_check.specs.FirstBroken.{head_with}
 use Rattle.pc_journal.specs.Journal.{journal_text}
 use Rattle.pc_journal.specs.Side.{◌⏎◌}
 use Rattle.pc_proto.specs.declared.event.Event.{Event}
@@ -68,17 +67,6 @@ module _ (bytes : List ℕ) (j : Journal) (rest : List Item) (e : head_items (te
 -- ---- what is found
 
 module _ (bytes : List ℕ) (j : Journal) (h : IsReadFrom bytes j) where
-  pub found_broken : (place : ℕ) (rule : Rule) → IsFirstBroken (head_with j.splits j.sessions j.recoverers) j.body.entries place rule → IsVerdictOf bytes (verdicts.NotRun (place + 4) rule)
-  found_broken place rule broken = record {
-    splits = j.splits;
-    sessions = j.sessions;
-    recoverers = j.recoverers;
-    entries = j.body.entries;
-    rows = h.rows;
-    read = h.read;
-    breaks = inl (record { place = place; broken = broken; at = refl });
-  }
-
   module _ (run : IsRun (head_with j.splits j.sessions j.recoverers) j.body.entries) (report : Report) (is : report ≡ report_of (head_with j.splits j.sessions j.recoverers) j.body.entries) where
     pub found_differing : (place : ℕ) → IsFirstDifference (map (λ line. line.now) j.body.report) (report_lines (row_texts report)) place → IsVerdictOf bytes (verdicts.NotRun (length j.body.entries + 4 + place) rules_broken.Report)
     found_differing place differs = record {

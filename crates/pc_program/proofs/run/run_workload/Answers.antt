@@ -1,9 +1,9 @@
-use Rattle.std.proofs.Common.{◌≡◌, ◌↔◌, None, IsSome, subst, sym}
+use Rattle.std.proofs.Common.{◌≡◌, ◌↔◌, IsSome, subst, sym}
 use Rattle.pc_io.specs.Reading.{IsAllOf, TakesExactly}
 use Rattle.pc_program.specs.declared.status.Status.TheVariants as statuses
 use Rattle.pc_program.specs.Causes.{HasBegunWriting, IsAfterReading}
 use Rattle.pc_program.proofs.Ends.{carried, done_carried, neither_long, part_carried}
-use Rattle.pc_work.specs.Workload.{IsJson, accepted_in}
+use Rattle.pc_work.specs.Workload.{IsJson, IsNumberOf, accepted_in}
 use Rattle.pc_program.proofs.run.run_workload.Goals as goal
 
 pub returns-in-Ok-clause-too_long : goal.returns-in-Ok-clause-too_long
@@ -11,10 +11,10 @@ returns-in-Ok-clause-too_long g c =
     neither_long (g.S.Source.left c.args.source.now) (λ left. TakesExactly 16777217 left (g.S.Source.left c.read_all.new.source)) _ (c.run_bytes.result ≡ statuses.TooLong 16777217)
     c.in-Ok.ensures.too_long (λ e. cc) (λ e. absurd (subst IsAfterReading e c.run_bytes.ensures.kind))
 
-pub returns-in-Ok-clause-other_form : goal.returns-in-Ok-clause-other_form
-returns-in-Ok-clause-other_form g c =
-    carried c.run_bytes.result (g.S.Source.left c.args.source.now) c.deref.result.now (λ bytes. (c.run_bytes.result ≡ statuses.Workload 10) ↔ (IsJson bytes × (accepted_in bytes ≡ None)))
-    (subst (IsAllOf (g.S.Source.left c.args.source.now)) (sym c.deref.ensures.value) c.in-Ok.ensures.ok) c.run_bytes.ensures.other_form
+pub returns-in-Ok-clause-refused : goal.returns-in-Ok-clause-refused
+returns-in-Ok-clause-refused g c number =
+    carried c.run_bytes.result (g.S.Source.left c.args.source.now) c.deref.result.now (λ bytes. (c.run_bytes.result ≡ statuses.Workload number) ↔ IsNumberOf bytes number)
+    (subst (IsAllOf (g.S.Source.left c.args.source.now)) (sym c.deref.ensures.value) c.in-Ok.ensures.ok) (c.run_bytes.ensures.refused number)
 
 pub returns-in-Ok-clause-accepted : goal.returns-in-Ok-clause-accepted
 returns-in-Ok-clause-accepted g c =
