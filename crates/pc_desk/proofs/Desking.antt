@@ -166,18 +166,6 @@ has_delivered v old new rest m a note sender range same track first later whose 
 pub delivers_none : {C : Type 0} (d : DeskMeaning C) → KeepsTrack d → HasDelivered d d
 delivers_none d track = record { own = refl; sends = refl; track = track; way = λ n. refl; later = refl; more = λ k there. there; limit = refl }
 
--- first this was delivered, then that
-pub delivers_both : {C : Type 0} (a b d : DeskMeaning C) → HasDelivered a b → HasDelivered b d → HasDelivered a d
-delivers_both {C} a b d x y = record {
-  own = y.own ∙ ap (λ (l : LogMeaning C). record l { part = record l.part { known = d.log.part.known } }) x.own;
-  sends = y.sends ∙ x.sends;
-  track = y.track;
-  way = λ n. y.way n ∙ x.way n;
-  later = y.later ∙ x.later;
-  more = λ k there. y.more k (x.more k there);
-  limit = y.limit ∙ x.limit;
-}
-
 -- ---- a message is posted
 
 count-map : {A B : Type 0} (p : B → Bool) (f : A → B) (xs : List A) → count_by p (map f xs) ≡ count_by (λ x. p (f x)) xs

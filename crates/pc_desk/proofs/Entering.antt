@@ -1,25 +1,23 @@
 -- What one more entry of its own makes of an actor's list.
-use Rattle.std.proofs.Common.{◌≡◌, ℕ, ◌+◌, ◌<◌, ◌≤◌, ◌^◌, Bool, false, true, ◌==◌, All, List, [], ◌∷◌, ◌++◌, length, Option, None, Some, IfSome, refl, sym, ap, subst, ◌∙◌, arith, length-append}
+use Rattle.std.proofs.Common.{◌≡◌, ℕ, ◌+◌, ◌<◌, ◌≤◌, Bool, false, true, ◌==◌, List, [], ◌∷◌, ◌++◌, length, Option, None, Some, IfSome, refl, sym, ap, subst, ◌∙◌, arith, length-append}
 use Rattle.std.proofs.lemmas.Bool.Decides.{nat_tests}
 use Rattle.std.proofs.lemmas.List.{append-nil, append_assoc}
-use Rattle.std.proofs.lemmas.List.Elements.{All-nil, All-push}
+use Rattle.std.proofs.lemmas.List.Elements.{All-push}
 use Rattle.pc_base.specs.declared.actor.ActorId.{ActorId}
 use Rattle.pc_base.specs.declared.actor.ActorId.TheVariants as actors
 use Rattle.pc_base.specs.declared.entry.Entry.{Entry}
 use Rattle.pc_desk.specs.Asks.{ReadsClock, asks_in, is_ask}
-use Rattle.pc_desk.specs.Keeping.{EachAfter, KeepsAs, KeepsEach, KeepsNext, ReadsEach}
+use Rattle.pc_desk.specs.Keeping.{EachAfter, KeepsAs, KeepsNext, ReadsEach}
 use Rattle.pc_desk.specs.OwnLog.{IsNoRange, IsOwnLog, LogMeaning, is_last}
-use Rattle.pc_desk.specs.Waves.{KeepsWavesEach, KeepsWavesNext}
+use Rattle.pc_desk.specs.Waves.{KeepsWavesNext}
 use Rattle.pc_follows.specs.PipelinedRounds.{MakesRounds}
 use Rattle.pc_follows.specs.Proving.{HearsNothingBehind, WritesLast}
 use Rattle.pc_history.specs.declared.pair.Pair.{Pair}
-use Rattle.pc_history.specs.declared.view.Part.{Part}
 use Rattle.pc_history.specs.declared.view.Known.{Known as KnownEntry}
 use Rattle.pc_history.specs.Closed.{IsSound, StandsInHistory}
 use Rattle.pc_history.specs.Own.{pair}
-use Rattle.pc_history.specs.Parts.{acted, entry_of, knowledge, named_by, newcomer, told}
+use Rattle.pc_history.specs.Parts.{acted, entry_of, knowledge, named_by}
 use Rattle.pc_lists.proofs.Counts.{count-push, one_if}
-use Rattle.pc_lists.proofs.Lists.{contains_nil}
 use Rattle.pc_proto.specs.declared.call.Call.{Call}
 use Rattle.pc_proto.specs.declared.event.Event.{Event}
 use Rattle.pc_proto.specs.declared.event.Event.TheVariants as events
@@ -98,35 +96,6 @@ no_ask_reads rule asks (events.Hear number step) none = tt
 no_ask_reads rule asks (events.Tell answer) none = tt
 no_ask_reads rule asks (events.Meet id step) none = tt
 
--- a list with no entry yet
-pub log_begun : {C : Type 0} (l : LogMeaning C) → IsActorOf l.head l.part.id → IsNoRange l.part.id → l.part ≡ newcomer l.part.id → l.limit < 2 ^ 32 → IfSome l.stop (λ n. 1 ≤ n) → IsOwnLog l
-log_begun l there client fresh short one =
-    let none : l.part.own ≡ [] = ap (λ (p : Part Event). p.own) fresh in
-    let told : l.part.known ≡ [] = ap (λ (p : Part Event). p.known) fresh in
-    let n : length l.part.own ≡ 0 = ap length none in
-    record {
-      there = there;
-      client = client;
-      whose = subst (λ own. All (λ (p : Pair Event). p.entry.actor ≡ l.part.id) own) (sym none) (All-nil _);
-      short = short;
-      within = omega arith;
-      keeps = subst (KeepsEach l.part.id l.head.splits l.pipelining) (sym none) tt;
-      waves = subst (KeepsWavesEach l.beside) (sym none) tt;
-      before_stop = λ going. subst (λ m. IfSome l.stop (λ n. m < n)) (sym n) (stop-above l.stop one);
-      at_stop = subst (λ m. IfSome l.stop (λ n. m ≤ n)) (sym n) (stop-at l.stop one);
-      sound = subst (λ (p : Part Event). IsSound (protocol l.head) (knowledge p)) (sym fresh)
-          (record { kept = All-nil _; differ = λ a b is_a is_b same. absurd (contains_nil a is_a); one = λ event a b is_a is_b na nb. absurd (contains_nil a is_a) });
-      stands = subst (StandsInHistory (protocol l.head)) (sym fresh) (record { history = []; short = omega arith; fine = tt; list = refl; stand = All-nil _ });
-    }
-  where
-    stop-above : (stop : Option ℕ) → IfSome stop (λ n. 1 ≤ n) → IfSome stop (λ n. 0 < n)
-    stop-above None h = tt
-    stop-above (Some n) h = omega arith
-
-    stop-at : (stop : Option ℕ) → IfSome stop (λ n. 1 ≤ n) → IfSome stop (λ n. 0 ≤ n)
-    stop-at None h = tt
-    stop-at (Some n) h = omega arith
-
 last-at : (stop : Option ℕ) (long : ℕ) → IfSome stop (λ n. long < n) → IfSome stop (λ n. long + 1 ≤ n)
 last-at None long h = tt
 last-at (Some n) long h = omega arith
@@ -196,23 +165,6 @@ log_kept l m eh ei eo ek ep eb en es going log =
       sound = log.sound;
       stands = record { history = log.stands.history; short = log.stands.short; fine = log.stands.fine; list = log.stands.list; stand = log.stands.stand };
     }
-
--- a note that is taken
-pub log_told : {C : Type 0} (l : LogMeaning C) (note : List (KnownEntry Event)) → IsOwnLog l → IsSound (protocol l.head) (knowledge (told note l.part)) → StandsInHistory (protocol l.head) (told note l.part)
-    → IsOwnLog (record l { part = told note l.part })
-log_told l note log sound stands = record {
-  there = log.there;
-  client = log.client;
-  whose = log.whose;
-  short = log.short;
-  within = log.within;
-  keeps = log.keeps;
-  waves = log.waves;
-  before_stop = log.before_stop;
-  at_stop = log.at_stop;
-  sound = sound;
-  stands = stands;
-}
 
 -- one more entry, which read the clock if it asked a call
 pub reads_grown : (rule : ℕ → ℕ → Bool) (own : List (Pair Event)) (p : Pair Event) → ReadsEach rule own → ReadsClock rule (asks_in own) p.entry.event → ReadsEach rule (own ++ p ∷ [])

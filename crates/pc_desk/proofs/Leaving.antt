@@ -179,11 +179,6 @@ module _ {X : Type 0} where
   none_aside other [] none first = refl
   none_aside other (a ∷ more) none first = absurd (let e : true ≡ false = sym (ap (λ es. comes_first (Some a.0) (first_from 0 (numbers es))) none) ∙ (sym (ap (λ y. comes_first y (first_from 0 (numbers other))) (head-from a.0 (numbers more))) ∙ first) in cc)
 
-  -- where what was set aside comes first, there is some
-  pub some_aside : {R : Type 0} (other aside : List (ℕ × X)) → aside ≡ [] → comes_first (first_from 0 (numbers aside)) (first_from 0 (numbers other)) ≡ true → R
-  some_aside other [] none first = cc
-  some_aside other (a ∷ more) none first = cc
-
 -- what waits in both may go
 pub left_ready : {C Y : Type 0} (splits : List (List ℕ)) (log : LogMeaning C) (left : List WaitingMessage) (g : Y → WaitingMessage) (waits aside : List Y) → left ≡ map g (waits ++ aside) → IsDesk splits log (map g waits) → IsDesk splits log (map g aside) → All (IsReadyToGo log.part.id log.head.splits) left
 left_ready splits log left g waits aside is one other =

@@ -97,12 +97,6 @@ module _ {C : Type 0} (old new : LogMeaning C) (event : Event) (entered : HasEnt
   pub known_after_it : known_of new.part.own ≡ learn added (known_of old.part.own)
   known_after_it = ap known_of own_after ∙ known_push old.part.own added
 
-  pub head_after : new.head ≡ old.head
-  head_after = ap (λ (l : LogMeaning C). l.head) entered.stored
-
-  pub id_after : new.part.id ≡ old.part.id
-  id_after = ap (λ (l : LogMeaning C). l.part.id) entered.stored
-
 -- after a sending
 module _ {C : Type 0} (old new : LogMeaning C) (number range : ℕ) (request : Request) (entered : HasEntered old new (events.Send number range request)) where
   -- the message that was sent

@@ -1,5 +1,5 @@
 -- The places of the commits that an actor was told of, as its list grows.
-use Rattle.std.proofs.Common.{◌≡◌, ◌⊎◌, inl, inr, ℕ, Bool, true, false, cond, List, [], ◌∷◌, ◌++◌, length, Option, Some, None, refl, sym, ap, subst, ◌∙◌, arith}
+use Rattle.std.proofs.Common.{◌≡◌, ◌⊎◌, inl, inr, ℕ, Bool, true, false, cond, List, [], ◌∷◌, ◌++◌, length, Option, Some, None, refl, sym, ap, subst, ◌∙◌}
 use Rattle.std.proofs.lemmas.List.Elements.{Contains-push_cases}
 use Rattle.std.proofs.lemmas.Option.{same_Some}
 use Rattle.pc_base.proofs.TxnOrder.{txn_equal}
@@ -13,15 +13,6 @@ use Rattle.pc_proto.specs.declared.answer.Answer.TheVariants as answers
 use Rattle.pc_proto.specs.declared.event.Event.{Event}
 use Rattle.pc_proto.specs.declared.event.Event.TheVariants as events
 use Rattle.pc_world.specs.Caused.{TellsCommitted}
-
--- no place in a list with no entry yet
-pub places_begun : (places : TxnId → Option ℕ) (own : List (Pair Event)) → own ≡ [] → ((id : TxnId) → places id ≡ None) → HasCommitPlaces places own
-places_begun places own empty none = record {
-  each = λ id. subst (λ o. IsCommitPlace id own o) (sym (none id)) (λ was. nothing id (subst (WasTold id) empty was));
-}
-  where
-    nothing : (id : TxnId) → WasTold id [] → ⊥
-    nothing id (k, x, low, at, tells) = absurd (omega (arith, low))
 
 -- the event tells just the commit that it names
 tells_it : (event : Event) (id : TxnId) → commit_told_by event ≡ Some id → TellsCommitted id event

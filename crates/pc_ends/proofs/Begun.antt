@@ -12,8 +12,7 @@ use Rattle.pc_history.specs.Meanings.{ActorMeaning}
 use Rattle.pc_history.specs.Parts.{newcomer}
 use Rattle.pc_lists.proofs.Lists.{all_from_contains, contains_get, get_append, get_contains, get_push, get_push_cases}
 use Rattle.pc_proto.specs.declared.event.Event.{Event}
-use Rattle.pc_recoverer.specs.Recoverer.{RecovererMeaning}
-use Rattle.pc_rounds.specs.Counted.{CountedMeaning, GoesInRounds, entries_made}
+use Rattle.pc_rounds.specs.Counted.{CountedMeaning, entries_made}
 use Rattle.pc_runs.specs.Recoverers.{AreRecoverers, HaveRecovererClocks, IsRecovererIn}
 use Rattle.pc_runs.specs.Runners.{AreRunners, HaveClocks, IsRunnerIn, head_in_work}
 use Rattle.pc_script.specs.Clocks.{clock_rule}
@@ -24,7 +23,6 @@ use Rattle.pc_session.specs.Session.{SessionMeaning}
 use Rattle.pc_turns.proofs.Shares.{recoverer_at, session_at}
 use Rattle.pc_work.specs.Accepted.{IsAccepted, StopsWithin}
 use Rattle.pc_work.specs.declared.recoverer.RecovererWork.{RecovererWork}
-use Rattle.pc_work.specs.Recoverer.{IsRecovererWithin}
 use Rattle.pc_work.specs.Stop.{IsStop}
 use Rattle.pc_work.specs.declared.session.SessionWork.{SessionWork}
 use Rattle.pc_work.specs.declared.workload.Workload.{Workload}
@@ -37,10 +35,6 @@ some_entry (Some n) within = within.0
 -- a stop that is stated is that of an entry
 pub stop_from : (work : Workload) (index : ℕ) (stated : SessionWork) → IsAccepted work → slice_get work.sessions index ≡ Some stated → IfSome stated.stop (λ n. 1 ≤ n)
 stop_from work index stated accepted listed = some_entry stated.stop (All-contains StopsWithin work.sessions stated accepted.stops (get_contains work.sessions index stated listed))
-
-pub recoverer_stop_from : (work : Workload) (index : ℕ) (stated : RecovererWork) → IsAccepted work → slice_get work.recoverers index ≡ Some stated → IfSome stated.stop (λ n. 1 ≤ n)
-recoverer_stop_from work index stated accepted listed =
-    some_entry stated.stop (All-contains IsRecovererWithin work.recoverers stated accepted.recoverers (get_contains work.recoverers index stated listed)).stop
 
 -- what a test for nothing tells
 pub told_none : {X : Type 0} (o : Option X) (told : Bool) → is_some o ≡ not told → told ≡ is_none o
@@ -182,33 +176,3 @@ module _ {C : Type 0} (rule : C → ℕ → ℕ → Bool) (rules : ActorId → �
 
     pub all_round_clocks : HaveRecovererClocks rule rules work recoverers
     all_round_clocks index r stated at listed = (so_far.each index r at).clock stated listed
-
--- a recoverer that was made with its rounds is that of its place
-pub recoverer_begun : {C : Type 0} (work : Workload) (index : ℕ) (stated : RecovererWork) (r : CountedMeaning C) (m : RecovererMeaning C) (head : Head) (part : Part Event) (spare : ℕ) (clock : C) (limit : ℕ) (stop : Option ℕ) (range_limit : ℕ)
-    → slice_get work.recoverers index ≡ Some stated → GoesInRounds r → r ≡ record { recoverer = m; rounds = stated.rounds; made = 0 } → m.number ≡ index + 1 → m.level ≡ stated.level
-    → m.desk ≡ new_desk head part spare clock false false limit stop range_limit → head ≡ head_in_work work → limit ≡ work.limit → stop ≡ stated.stop → range_limit ≡ work.limit → IsRecovererIn work index r
-recoverer_begun {C} work index stated r m head part spare clock limit stop range_limit listed counted is number level desk head_is limit_is stop_is range_is =
-    let on : r.recoverer.desk ≡ new_desk head part spare clock false false limit stop range_limit = ap (λ (x : CountedMeaning C). x.recoverer.desk) is ∙ desk in
-    record {
-      counted = counted;
-      number = ap (λ (x : CountedMeaning C). x.recoverer.number) is ∙ number;
-      recoverer = stated;
-      listed = listed;
-      level = sym (ap (λ (x : CountedMeaning C). x.recoverer.level) is ∙ level);
-      rounds = sym (ap (λ (x : CountedMeaning C). x.rounds) is);
-      head = ap (λ (x : DeskMeaning C). x.log.head) on ∙ head_is;
-      limit = ap (λ (x : DeskMeaning C). x.log.limit) on ∙ limit_is;
-      stop = ap (λ (x : DeskMeaning C). x.log.stop) on ∙ stop_is;
-      range_limit = ap (λ (x : DeskMeaning C). x.range_limit) on ∙ range_is;
-    }
-
--- its clock has the rule of its work
-pub round_clock : {C : Type 0} (r : CountedMeaning C) (m : RecovererMeaning C) (rule : C → ℕ → ℕ → Bool) (given : ℕ → ℕ → Bool) (work : Workload) (index : ℕ) (stated : RecovererWork) (clock : C)
-    → slice_get work.recoverers index ≡ Some stated → r ≡ record { recoverer = m; rounds = stated.rounds; made = 0 } → m.desk.log.clock ≡ clock → rule clock ≡ clock_rule stated.clock given
-    → (recoverer : RecovererWork) → slice_get work.recoverers index ≡ Some recoverer → rule r.recoverer.desk.log.clock ≡ clock_rule recoverer.clock given
-round_clock {C} r m rule given work index stated clock listed is on has recoverer here =
-    let same : stated ≡ recoverer = same_work stated recoverer (sym listed ∙ here) in
-    ap (λ (x : CountedMeaning C). rule x.recoverer.desk.log.clock) is ∙ (ap rule on ∙ (has ∙ ap (λ (w : RecovererWork). clock_rule w.clock given) same))
-  where
-    same_work : (x y : RecovererWork) → Some x ≡ Some y → x ≡ y
-    same_work x y e = cc

@@ -1,17 +1,16 @@
 -- The sessions of a workload, where one of them has moved or was told something.
-use Rattle.std.proofs.Common.{◌≡◌, ◌≢◌, ℕ, ◌+◌, ◌<◌, ◌⊎◌, inl, inr, Bool, List, length, map, slice_get, slice_set, Some, refl, sym, ap, subst, ◌∙◌}
+use Rattle.std.proofs.Common.{◌≡◌, ◌≢◌, ℕ, ◌+◌, ◌<◌, ◌⊎◌, inl, inr, List, length, slice_get, slice_set, Some, refl, sym, ap, subst, ◌∙◌}
 use Rattle.std.proofs.lemmas.Bool.{cases_eq}
 use Rattle.std.proofs.lemmas.Option.{slice_get_within}
 use Rattle.pc_history.specs.declared.pair.Pair.{Pair}
 use Rattle.pc_history.specs.declared.view.Known.{Known as KnownEntry}
 use Rattle.pc_in_turns.proofs.Places.{get_set_other, get_set_same, same_some}
-use Rattle.pc_in_turns.specs.Learning.{LearnsBehind}
-use Rattle.pc_in_turns.specs.Moving.{AreClientsInTurns, HasActed, HasFollowed, TurnsMeaning, told_of}
+use Rattle.pc_in_turns.specs.Moving.{AreClientsInTurns, HasFollowed, TurnsMeaning, told_of}
 use Rattle.pc_lists.proofs.Lists.{length_set}
 use Rattle.pc_proto.specs.declared.event.Event.{Event}
 use Rattle.pc_runs.specs.Runners.{AreRunners, IsRunnerIn}
 use Rattle.pc_scripted.specs.Scripted.{IsScripted, ScriptedMeaning}
-use Rattle.pc_scripted.specs.Taking.{HasMovedBy, Move}
+use Rattle.pc_scripted.specs.Taking.{HasMovedBy}
 use Rattle.pc_work.specs.declared.workload.Workload.{Workload}
 
 module _ {C : Type 0} (work : Workload) (index : ℕ) (s now : ScriptedMeaning C) (runner : IsRunnerIn work index s) where
@@ -75,8 +74,3 @@ module _ {C : Type 0} (index : ℕ) (old : TurnsMeaning C) (in_turns : AreClient
   followed_in_turns new f =
       subst (λ (t : TurnsMeaning C). AreClientsInTurns t) (sym f.whole)
       (in_turns_set (told_of f.note f.session) (slice_get_within old.sessions index f.session f.at) (runner_told old.work index f.session f.note (in_turns.runners.each index f.session f.at) f.scripted))
-
-  pub acted_in_turns : (rule : C → ℕ → ℕ → Bool) (Is : ScriptedMeaning C → Move) (new : TurnsMeaning C) → HasActed rule Is index old new → AreClientsInTurns new
-  acted_in_turns rule Is new a =
-      subst (λ (t : TurnsMeaning C). AreClientsInTurns t) (sym a.whole)
-      (in_turns_set a.now (slice_get_within old.sessions index a.session a.at) (runner_moved old.work index a.session a.now (in_turns.runners.each index a.session a.at) a.moved.part a.moved.by))

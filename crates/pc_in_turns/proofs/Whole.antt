@@ -1,5 +1,5 @@
 -- Sessions and recoverers that have gone in turns.
-use Rattle.std.proofs.Common.{◌≡◌, ℕ, zero, suc, ◌+◌, ◌-◌, ◌<◌, ◌≤◌, ◌≢◌, ◌⊎◌, inl, inr, Bool, All, List, [], ◌∷◌, ◌++◌, length, map, take, get_or, slice_get, Some, Option, refl, sym, ap, subst, ◌∙◌, arith, add-one, length-append, true, false}
+use Rattle.std.proofs.Common.{◌≡◌, ℕ, suc, ◌+◌, ◌-◌, ◌<◌, ◌≤◌, ◌≢◌, ◌⊎◌, inl, inr, Bool, All, List, [], ◌∷◌, ◌++◌, length, map, take, get_or, slice_get, Some, Option, refl, sym, ap, subst, ◌∙◌, arith, add-one, length-append, true, false}
 use Rattle.std.proofs.Math.Seq.{take-suc}
 use Rattle.std.proofs.lemmas.Bool.{cases_eq}
 use Rattle.std.proofs.lemmas.List.{append_assoc, length-map}
@@ -17,7 +17,7 @@ use Rattle.pc_lists.proofs.Lists.{get_contains}
 use Rattle.pc_proto.specs.declared.event.Event.{Event}
 use Rattle.pc_rounds.specs.Counted.{CountedMeaning, entries_made}
 use Rattle.pc_runs.proofs.Finished.{below_or_not}
-use Rattle.pc_runs.specs.Order.{ended_in_work, is_opening_over, is_work_opened, next_in_work, recoverer_ended_in_work, rounds_in_work}
+use Rattle.pc_runs.specs.Order.{ended_in_work, is_opening_over, next_in_work, recoverer_ended_in_work, rounds_in_work}
 use Rattle.pc_runs.specs.Recoverers.{AreRecoverers, HasNoRoundLeft, HaveNoRoundLeft}
 use Rattle.pc_runs.specs.Runners.{AreRunOut, AreRunners, head_in_work}
 use Rattle.pc_runs.specs.Together.{AreAtEnds, AreClients, HaveClientClocks}
@@ -25,7 +25,6 @@ use Rattle.pc_scripted.specs.Scripted.{ScriptedMeaning, own_list}
 use Rattle.pc_scripted.specs.Taking.{IsRunOut}
 use Rattle.pc_turns.specs.Order.{GoesByItself, MakeRoundsLeft, is_at_end, recoverer_turns}
 use Rattle.pc_turns.specs.Shares.{AreShares, IsClientOf}
-use Rattle.pc_work.specs.Named.{IsTurnOf}
 use Rattle.pc_work.specs.declared.session.SessionWork.{SessionWork}
 use Rattle.pc_work.specs.declared.turn.Turn.{Turn}
 use Rattle.pc_work.specs.declared.turn.Turn.TheVariants as turns
@@ -48,26 +47,6 @@ module _ {C : Type 0} (rule : C → ℕ → ℕ → Bool) (old : TurnsMeaning C)
       turned held before part is =
           let w = session-of old in_turns 0 first in
           subst (λ (o : Option SessionWork). GoesByItself (next_in_work old.work) (ended_in_work old.work held) 1 (λ order. is_opening_over old.work.opening old.work.reruns o order) before part) (sym w.1) (is w.0 w.1)
-
-  -- a session takes its turn
-  pub took_call : (new : TurnsMeaning C) (number : ℕ) → 1 ≤ number → HaveGoneOn rule (IsTask old.work tasks.Call (number - 1)) old new → HaveGoneOn rule (TakesTurn old.work (turns.Session number)) old new
-  took_call new number from gone =
-      let same : (number - 1) + 1 ≡ number = omega arith in
-      subst (λ n. HaveGoneOn rule (TakesTurn old.work (turns.Session n)) old new) same gone
-
-  pub took_job : (new : TurnsMeaning C) (number : ℕ) → 1 ≤ number → HaveGoneOn rule (IsTask old.work tasks.Job (number - 1)) old new → HaveGoneOn rule (TakesTurn old.work (turns.Job number)) old new
-  took_job new number from gone =
-      let same : (number - 1) + 1 ≡ number = omega arith in
-      subst (λ n. HaveGoneOn rule (TakesTurn old.work (turns.Job n)) old new) same gone
-
-  -- a recoverer takes its turn
-  pub took_round : (new : TurnsMeaning C) (number : ℕ) → 1 ≤ number → HaveGoneOn rule (TakesTurn old.work (turns.Recoverer ((number - 1) + 1))) old new → HaveGoneOn rule (TakesTurn old.work (turns.Recoverer number)) old new
-  took_round new number from gone =
-      let same : (number - 1) + 1 ≡ number = omega arith in
-      subst (λ n. HaveGoneOn rule (TakesTurn old.work (turns.Recoverer n)) old new) same gone
-
-  pub recoverer_there : (number : ℕ) → (1 ≤ number) × (number ≤ length old.work.recoverers) → number - 1 < length old.recoverers
-  recoverer_there number h = let many = in_turns.recoverers.many in let from = h.0 in let to = h.1 in omega arith
 
   pub is_there : (number : ℕ) → (1 ≤ number) × (number ≤ length old.work.sessions) → number - 1 < length old.sessions
   is_there number h = let many = in_turns.runners.many in let from = h.0 in let to = h.1 in omega arith

@@ -5,7 +5,6 @@ use Rattle.std.proofs.lemmas.List.Elements.{All-append, All-cons, All-head, All-
 use Rattle.std.specs.List.{flat_map}
 use Rattle.std.specs.Prelude.{⊤}
 use Rattle.pc_base.specs.declared.transaction.Priority.{Priority}
-use Rattle.pc_base.specs.declared.transaction.TxnId.{TxnId}
 use Rattle.pc_call.specs.Suiting.{SuitsFlight, SuitsFlightIn}
 use Rattle.pc_coord.specs.Knows.{IsHeld}
 use Rattle.pc_coord.specs.Suiting.{Suits}
@@ -153,11 +152,6 @@ free_suits false call x free = subst (SuitsFlight call) (sym free) tt
 pub free_fits : (pipelining : Bool) (ahead : List Call) (txn : Option OpenTxn) → AreOfOne ahead → IfSome txn (IsFree pipelining) → FitsTxn pipelining ahead txn
 free_fits pipelining ahead None one free = no_begin ahead one
 free_fits pipelining ahead (Some x) one free = record { inside = one; first = λ call next. free_suits pipelining call x free }
-
--- a learn is next only where no transaction is open
-pub learns_outside : (pipelining : Bool) (ahead : List Call) (txn : Option OpenTxn) (id : TxnId) → FitsTxn pipelining ahead txn → slice_get ahead 0 ≡ Some (calls.Learn id) → txn ≡ None
-learns_outside pipelining ahead None id fits next = refl
-learns_outside pipelining ahead (Some x) id fits next = let e : true ≡ false = one_outside ahead (calls.Learn id) fits.inside next in absurd cc
 
 -- goes on behind the first call
 pub after_begin : (pipelining : Bool) (ahead : List Call) (call : Call) (priority : Priority) (txn : Option OpenTxn) → IsCourse ahead → slice_get ahead 0 ≡ Some call → call ≡ calls.Begin priority → IfSome txn (IsFree pipelining)

@@ -1,5 +1,5 @@
 -- A session that goes by itself, one turn after another.
-use Rattle.std.proofs.Common.{◌≡◌, ◌↔◌, ℕ, inl, inr, Bool, true, false, not, ◌||◌, is_some, nat_le, length, IsTrue, cond, All, Contains, List, [], ◌∷◌, ◌++◌, Option, None, Some, refl, sym, ap, subst, ◌∙◌}
+use Rattle.std.proofs.Common.{◌≡◌, ◌↔◌, ℕ, inl, inr, Bool, true, false, not, ◌||◌, is_some, nat_le, length, IsTrue, cond, All, Contains, List, [], ◌∷◌, ◌++◌, Option, refl, sym, ap, subst, ◌∙◌}
 use Rattle.std.proofs.lemmas.Bool.{false≢true}
 use Rattle.std.proofs.lemmas.List.{append-nil, append_assoc}
 use Rattle.std.proofs.lemmas.List.Elements.{All-append, All-head, All-tail}
@@ -21,7 +21,7 @@ use Rattle.pc_scripted.proofs.Resting.{moved_by_none}
 use Rattle.pc_scripted.proofs.Tests.{has_ended_now}
 use Rattle.pc_scripted.specs.Ended.{SaysHeldUp, ended_in_script, list_has_ended}
 use Rattle.pc_scripted.specs.Scripted.{IsScripted, ScriptedMeaning, next_in_script, own_number, own_list}
-use Rattle.pc_scripted.specs.Taking.{AsksInTurn, FinishesInTurn, TakesNextAlone, GoesUntil, HasMoved, HasMovedBy, IsSameScripted, SaysWhetherDone, are_items_over, is_script_over}
+use Rattle.pc_scripted.specs.Taking.{AsksInTurn, FinishesInTurn, TakesNextAlone, GoesUntil, HasMoved, HasMovedBy, IsSameScripted, SaysWhetherDone, are_items_over}
 use Rattle.pc_turns.specs.Order.{AsksAfter, FinishesAfter, TakesOne, entries_by}
 use Rattle.pc_turns.specs.Order.GoesByItself.{Ended, Onwards, Passed}
 use Rattle.pc_work.specs.declared.item.Item.{Item}
@@ -183,9 +183,6 @@ pub is_done : {C : Type 0} (test : List (Pair Event) → Bool) (s : ScriptedMean
 is_done test s job true going jobs says none = inr (jobs.0 (ap not none), says)
 is_done test s job false going jobs says none = (going, λ no is. absurd (false≢true (sym says ∙ is)))
 
-pub job_waits : {C : Type 0} (test : List (Pair Event) → Bool) (s : ScriptedMeaning C) (job : Bool) → s.session.desk.log.stopped ≡ false → IsTrue (not job) ↔ (jobs_of (own_list s) ≡ []) → job ≡ true → SaysWhetherDone test s false
-job_waits test s job going jobs some = (going, λ none is. absurd (false≢true (sym (ap not some) ∙ jobs.1 none)))
-
 pub some_job : (job : Bool) (jobs : List (List Request)) → IsTrue (not job) ↔ (jobs ≡ []) → job ≡ true → jobs ≡ [] → ⊥
 some_job job jobs tells some none = absurd (false≢true (sym (ap not some) ∙ tells.1 none))
 
@@ -193,20 +190,6 @@ some_job job jobs tells some none = absurd (false≢true (sym (ap not some) ∙ 
 pub past_so : {C : Type 0} (s : ScriptedMeaning C) (items : ℕ) (b : Bool) → IsScripted s → s.session.desk.log.stopped ≡ false → b ≡ (not (is_some (next_call s.at)) || nat_le items (items_over (length s.script) s.at))
     → are_items_over items s.at.reruns s.script (own_list s) ≡ b
 past_so s items b scripted going is = ap (λ at. not (is_some (next_call at)) || nat_le items (items_over (length s.script) at)) (sym (scripted.goes going).place) ∙ sym is
-
-pub past_is : (o : Option Call) (over past : Bool) → IsTrue over ↔ (o ≡ None) → (over || past) ≡ (not (is_some o) || past)
-past_is None over past tells = ap (λ b. b || past) (tells.1 refl)
-past_is (Some call) true past tells = let none : Some call ≡ None = tells.0 refl in absurd cc
-past_is (Some call) false past tells = refl
-
-pub over_so : {C : Type 0} (s : ScriptedMeaning C) (b : Bool) → IsScripted s → s.session.desk.log.stopped ≡ false → IsTrue b ↔ (next_call s.at ≡ None) → is_script_over s.at.reruns s.script (own_list s) ≡ b
-over_so s b scripted going tells = ap (λ at. not (is_some (next_call at))) (sym (scripted.goes going).place) ∙ by b (next_call s.at) tells
-  where
-    by : (b : Bool) (o : Option Call) → IsTrue b ↔ (o ≡ None) → not (is_some o) ≡ b
-    by true None tells = refl
-    by true (Some call) tells = let none : Some call ≡ None = tells.0 refl in absurd cc
-    by false None tells = absurd (false≢true (tells.1 refl))
-    by false (Some call) tells = refl
 
 -- the loop's test is that of the session as it began
 pub told_of_old : {C : Type 0} (test : ℕ → List Item → List (Pair Event) → Bool) (old mid : ScriptedMeaning C) (b : Bool) → IsSameScripted old mid → SaysWhetherDone (test mid.at.reruns mid.script) mid b → SaysWhetherDone (test old.at.reruns old.script) mid b

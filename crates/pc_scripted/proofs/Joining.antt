@@ -9,15 +9,11 @@ use Rattle.pc_proto.specs.declared.call.Call.{Call}
 use Rattle.pc_proto.specs.declared.event.Event.{Event}
 use Rattle.pc_proto.specs.declared.request.Request.{Request}
 use Rattle.pc_script.specs.Script.{items_over, script_position}
-use Rattle.pc_scripted.proofs.Going.{moved_both, same_actor, says_before}
-use Rattle.pc_scripted.specs.Ended.{SaysHeldUp, ended_in_script}
-use Rattle.pc_scripted.specs.Scripted.{ScriptedMeaning, next_in_script, own_number, own_list}
-use Rattle.pc_scripted.specs.Taking.{GoesUntil, HasMoved, are_items_over, is_script_over}
+use Rattle.pc_scripted.specs.Taking.{are_items_over, is_script_over}
 use Rattle.pc_turns.specs.Order.{AsksAfter, AsksIfNext, FinishesAfter, FinishesIfLeft, GoesByItself, TakesOne, UnlessEnded, entries_by}
 use Rattle.pc_turns.specs.Order.GoesByItself.{Ended, Onwards, Passed}
 use Rattle.pc_work.specs.declared.item.Item.{Item}
 use Rattle.pc_follows.specs.FinishingJobs.{jobs_of}
-use Rattle.pc_world.specs.Known.Traffic.{Sent}
 
 -- until one test, and then on until another, which is passed only where the first one is
 module _ (next : ℕ → List (Pair Event) → Option Call) (ended : ℕ → List (Pair Event) → Bool) (number : ℕ) (first last : List (Pair Event) → Bool) (sooner : (order : List (Pair Event)) → last order ≡ true → first order ≡ true) where
@@ -86,27 +82,6 @@ module _ (next other : ℕ → List (Pair Event) → Option Call) (ended over : 
       grown mine order part is =
           filter-append (λ (p : Pair Event). same_id (actors.Session number) p.entry.actor) mine part
           ∙ (ap (λ m. m ++ entries_by number part) is ∙ sym (filter-append (λ (p : Pair Event). same_id (actors.Session number) p.entry.actor) order part))
-
--- a session that goes on by itself until one test, and then until another
-pub moved_then : {C : Type 0} (first last : List (Pair Event) → Bool) (old mid new : ScriptedMeaning C) → ((own : List (Pair Event)) → last own ≡ true → first own ≡ true) → HasMoved (GoesUntil old first) old mid → HasMoved (GoesUntil mid last) mid new
-    → HasMoved (GoesUntil old last) old new
-moved_then {C} first last old mid new sooner a b = record {
-  part = a.part ++ b.part;
-  by = moved_both old mid new a.part b.part a.by b.by;
-  is = λ held says. goes_then (next_in_script old.at.reruns old.script) (ended_in_script old.session.desk.log.limit old.session.desk.log.stop held) (own_number old) (λ o. first (entries_by (own_number old) o)) (λ o. last (entries_by (own_number old) o))
-      (λ o passed. sooner (entries_by (own_number old) o) passed) (a.is held (says_before held mid.session.desk new.session.desk b.by.same.range_limit (same_actor mid new b.part a.by.scripted b.by) b.by.known says)) b.part (later held says);
-}
-  where
-    later : (held : Sent → Bool) → SaysHeldUp held new.session.desk
-        → GoesByItself (next_in_script old.at.reruns old.script) (ended_in_script old.session.desk.log.limit old.session.desk.log.stop held) (own_number old) (λ o. last (entries_by (own_number old) o)) (own_list old ++ a.part) b.part
-    later held says =
-        let T : ℕ → List Item → ℕ → Option ℕ → ℕ → List (Pair Event) → Type 0 = λ reruns script limit stop n before. GoesByItself (next_in_script reruns script) (ended_in_script limit stop held) n (λ o. last (entries_by n o)) before b.part in
-        subst (λ r. T r old.script old.session.desk.log.limit old.session.desk.log.stop (own_number old) (own_list old ++ a.part)) a.by.same.reruns
-        (subst (λ s. T mid.at.reruns s old.session.desk.log.limit old.session.desk.log.stop (own_number old) (own_list old ++ a.part)) a.by.same.script
-        (subst (λ l. T mid.at.reruns mid.script l old.session.desk.log.stop (own_number old) (own_list old ++ a.part)) a.by.same.limit
-        (subst (λ o. T mid.at.reruns mid.script mid.session.desk.log.limit o (own_number old) (own_list old ++ a.part)) a.by.same.stop
-        (subst (λ n. T mid.at.reruns mid.script mid.session.desk.log.limit mid.session.desk.log.stop n (own_list old ++ a.part)) a.by.same.number
-        (subst (λ before. T mid.at.reruns mid.script mid.session.desk.log.limit mid.session.desk.log.stop (own_number mid) before) a.by.own (b.is held says))))))
 
 -- a script that is over is past all its items
 pub over_is_past : (items reruns : ℕ) (script : List Item) (own : List (Pair Event)) → is_script_over reruns script own ≡ true → are_items_over items reruns script own ≡ true
