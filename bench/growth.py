@@ -4,7 +4,8 @@
 Each case runs with N/8, N/4, N/2 and N statements (N is 4000 where it is not given), RUNS times each (five where that is not given), every run in a
 process of its own. Each line that is printed: the case, the medians of the processor seconds at the four sizes, the exponent between the first and the last of them, that of
 the entries in the journal between the same two, and, where PLAIN is given, the same of PLAIN, which runs in turn with BINARY so that both meet
-the same other work, and how many times its seconds BINARY takes at the two larger sizes. PLAIN must write the same bytes.
+the same other work, and how many times its seconds BINARY takes at the two larger sizes. PLAIN must write the same bytes. The cases with pipelined
+writes come last, and without PLAIN.
 """
 import json
 import math
@@ -59,6 +60,15 @@ def gets(n):
     return workload([session(written(100) + parts(reads, 100))])
 
 
+def one_key(n):
+    """One transaction that puts one key and reads it, in turn."""
+    return workload([session([[{"put": ["a", "v"]}, {"get": "a"}] * (n // 2)])])
+
+
+def one_key_deleted(n):
+    return workload([session([[{"delete": "a"}] * n])])
+
+
 def scans(n):
     return workload([session(written(n) + [[{"scan": ["", ""]}] for _ in range(5)])])
 
@@ -72,7 +82,7 @@ def shared(count):
     """Transactions of two puts on shared keys, the sessions in turns."""
 
     def made(n):
-        each = n // (4 * count)
+        each = max(1, n // (4 * count))
         sessions = [
             session([puts([(7 * t + s) % 64, (11 * t + 3 * s) % 64]) for t in range(each)], 10 + s) for s in range(count)
         ]
@@ -92,6 +102,18 @@ CASES = [
     ("deleted keys and 200 scans", scans_of_deleted),
     ("8 sessions, shared keys", shared(8)),
     ("64 sessions, shared keys", shared(64)),
+    ("one key, put and read", one_key),
+    ("one key, deleted", one_key_deleted),
+]
+
+
+def pipelined(made):
+    return lambda n: {**made(n), "pipelining": True}
+
+
+# The plain program waits for each put's reply.
+PIPELINED = [
+    ("pipelined: %s" % name, pipelined(made)) for name, made in CASES if name not in ("gets", "keys and 5 scans", "deleted keys and 200 scans")
 ]
 
 
@@ -149,10 +171,11 @@ def main():
     size = int(sys.argv[2]) if len(sys.argv) > 2 else 4000
     binaries = [os.path.abspath(word) for word in sys.argv[1:2] + sys.argv[3:4]]
     runs = int(sys.argv[4]) if len(sys.argv) > 4 else 5
-    for name, made in CASES:
-        rows = [measured(binaries, made(size // part), runs) for part in PARTS]
+    for name, made in CASES + PIPELINED:
+        against = binaries if (name, made) in CASES else binaries[:1]
+        rows = [measured(against, made(size // part), runs) for part in PARTS]
         own, *plain = zip(*(times for times, _ in rows))
-        line = "%-28s %s, of entries %.2f" % (name, grown(own), exponent([entries for _, entries in rows]))
+        line = "%-38s %s, of entries %.2f" % (name, grown(own), exponent([entries for _, entries in rows]))
         for other in plain:
             line += "   plain %s   times %.2f %.2f" % (grown(other), own[-2] / other[-2], own[-1] / other[-1])
         print(line, flush=True)
