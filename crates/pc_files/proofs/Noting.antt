@@ -2,7 +2,6 @@
 use Rattle.std.proofs.Common.{◌≡◌, ◌↔◌, ◌&&◌, ◌||◌, ◌==◌, ℕ, Any, Bool, true, false, cond, if◌then◌else◌, List, [], ◌∷◌, ◌++◌, Option, None, Some, find, is_some, refl, sym, ap, subst, ◌∙◌, arith}
 use Rattle.std.proofs.lemmas.Bool.{and_from, and_parts}
 use Rattle.std.proofs.lemmas.List.Folds.{Any-from_list_any, find-append, list_any-append, list_any-from_Any}
-use Rattle.std.specs.BTreeMap.{is_at}
 use Rattle.std.specs.declared.cmp.Ordering.{Ordering}
 use Rattle.std.specs.declared.cmp.Ordering.TheVariants.{Less, Equal, Greater}
 use Rattle.std.specs.List.{list_any}
@@ -14,7 +13,8 @@ use Rattle.pc_base.specs.declared.transaction.TxnId.{TxnId}
 use Rattle.pc_base.specs.Span.{same_key}
 use Rattle.pc_base.specs.Transaction.{same_txn, txn_cmp}
 use Rattle.pc_files.proofs.Narrow.{itself, same_is}
-use Rattle.pc_files.specs.Noted.{first_put_of, is_resolve_told, is_same_write, number_if, settled_key_cmp, settles_key, write_cmp}
+use Rattle.pc_files.specs.FirstPuts.{first_put_of, is_same_write, number_if, write_cmp}
+use Rattle.pc_files.specs.SettledKeys.{is_resolve_told, settled_key_cmp, settles_key}
 use Rattle.pc_lists.proofs.Anywhere.{any_weaker}
 use Rattle.pc_lists.proofs.Same.{same_key-is, same_key-self}
 use Rattle.pc_own.proofs.ByPlace.{numbers_equal}

@@ -1,5 +1,5 @@
 -- What is heard of a transaction by what is filed under it is what is heard of it at all.
-use Rattle.std.proofs.Common.{◌≡◌, ◌↔◌, ◌&&◌, ◌||◌, ◌==◌, ℕ, Bool, true, false, cond, Any, IsTrue, List, [], ◌∷◌, Option, None, Some, if◌then◌else◌, filter, find, is_some, refl, sym, ap, subst, ◌∙◌}
+use Rattle.std.proofs.Common.{◌≡◌, ◌↔◌, ◌&&◌, ◌||◌, ◌==◌, ℕ, Bool, true, false, cond, Any, IsTrue, List, [], ◌∷◌, None, Some, if◌then◌else◌, filter, find, is_some, refl, sym, ap, subst, ◌∙◌}
 use Rattle.std.proofs.lemmas.Bool.{and_parts}
 use Rattle.std.proofs.lemmas.List.Elements.{All-weaker}
 use Rattle.std.specs.List.{list_any}
@@ -21,7 +21,7 @@ use Rattle.pc_world.specs.Known.Reads.{IsGoodAt, IsGoodTo, WasRefreshed}
 use Rattle.pc_world.specs.Known.Traffic.{Heard, Sent}
 use Rattle.pc_world.specs.Known.Transactions.{IsGood, Txn, has_staged, is_stage_of}
 use Rattle.pc_world.specs.Send.Recovery.{WasFound, WasMissed}
-use Rattle.pc_world.specs.Send.Settling.{AllResolved, ShowsFate, ShowsFinal, WasResolved}
+use Rattle.pc_world.specs.Send.Settling.{ShowsFate}
 use Rattle.pc_world.specs.Tell.End.{shows_staging}
 use Rattle.pc_world.specs.Views.{ShowsAborted, WasAborted, WasCommitted, anchor_heard, shows_committed, shows_view}
 

@@ -6,7 +6,8 @@ use Rattle.pc_base.specs.declared.transaction.TxnId.{TxnId}
 use Rattle.pc_base.specs.Transaction.{same_txn, txn_cmp}
 use Rattle.pc_files.specs.declared.filed.Filed.{Filed}
 use Rattle.pc_files.specs.declared.files.Files.{Files}
-use Rattle.pc_files.specs.Noted.{AreFirstPuts, AreSettledKeys}
+use Rattle.pc_files.specs.FirstPuts.{AreFirstPuts}
+use Rattle.pc_files.specs.SettledKeys.{AreSettledKeys}
 use Rattle.pc_proto.specs.declared.request.Request.{Request}
 use Rattle.pc_proto.specs.declared.request.Request.TheVariants as requests
 use Rattle.pc_proto.specs.Replies.{view_in}

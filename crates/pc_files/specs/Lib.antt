@@ -1,3 +1,4 @@
 -- How what was sent and heard is filed.
 pub mod Filing
-pub mod Noted
+pub mod FirstPuts
+pub mod SettledKeys

@@ -2,7 +2,8 @@ ghost use Rattle.std.specs.Prelude.{◌≡◌, ◌↔◌, ℕ, IsTrue, List, OnO
 ghost use Rattle.std.specs.List.{list_any};
 ghost use Rattle.std.specs.Option.{option_copied};
 ghost use Rattle.pc_files.specs.Filing.{AreFiledReplies, AreFiledSends, AreFiledViews, KeepsFiles, deciding_of, replies_of, views_of};
-ghost use Rattle.pc_files.specs.Noted.{first_put_of, settles_key};
+ghost use Rattle.pc_files.specs.FirstPuts.{first_put_of};
+ghost use Rattle.pc_files.specs.SettledKeys.{settles_key};
 ghost use Rattle.pc_world.specs.Known.{Known, known_after, nothing_known};
 ghost use Rattle.pc_world.specs.Known.Traffic.{Heard, Sent, heard_after, sent_after};
 ghost use Rattle.pc_world.specs.StageFate.{IsUncommitted};

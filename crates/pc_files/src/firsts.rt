@@ -1,5 +1,5 @@
 ghost use Rattle.std.specs.Prelude.{◌≡◌, [], List, OnOk};
-ghost use Rattle.pc_files.specs.Noted.{AreFirstPuts, IsFirstKept, KeepsFirst, first_put_of};
+ghost use Rattle.pc_files.specs.FirstPuts.{AreFirstPuts, IsFirstKept, KeepsFirst, first_put_of};
 ghost use Rattle.pc_world.specs.Known.Traffic.{Sent, sent_after};
 
 use pc_base::{NoMemory, TxnId};

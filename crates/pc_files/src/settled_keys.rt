@@ -1,7 +1,7 @@
 ghost use Rattle.std.specs.Prelude.{◌≡◌, [], List, OnOk};
 ghost use Rattle.std.specs.List.{list_any};
 ghost use Rattle.std.specs.Option.{option_copied};
-ghost use Rattle.pc_files.specs.Noted.{AreSettledKeys, IsPlaceAdded, SettlesMore, settles_key};
+ghost use Rattle.pc_files.specs.SettledKeys.{AreSettledKeys, IsPlaceAdded, SettlesMore, settles_key};
 ghost use Rattle.pc_world.specs.Known.Traffic.{Heard, heard_after};
 
 use pc_base::{Key, NoMemory, TxnId};

@@ -2,7 +2,8 @@ ghost use Rattle.std.specs.Prelude.{◌≡◌, ◌↔◌, cond, map, OnOk, Conta
 ghost use Rattle.std.specs.List.{list_any};
 ghost use Rattle.std.specs.Option.{option_copied};
 ghost use Rattle.pc_files.specs.Filing.{KeepsFiles, deciding_of, replies_of, views_of};
-ghost use Rattle.pc_files.specs.Noted.{first_put_of, settles_key};
+ghost use Rattle.pc_files.specs.FirstPuts.{first_put_of};
+ghost use Rattle.pc_files.specs.SettledKeys.{settles_key};
 ghost use Rattle.pc_history.specs.Own.{pair};
 ghost use Rattle.pc_known.specs.Calls.{BeginsNext, KeepsCalls};
 ghost use Rattle.pc_known.specs.Heards.{KeepsHeards};

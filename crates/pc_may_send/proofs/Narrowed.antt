@@ -4,7 +4,7 @@ use Rattle.std.proofs.lemmas.List.Elements.{All-weaker}
 use Rattle.pc_base.specs.declared.span.Span.{Span}
 use Rattle.pc_base.specs.declared.transaction.TxnId.{TxnId}
 use Rattle.pc_base.specs.declared.transaction.Who.{Who}
-use Rattle.pc_files.proofs.Narrow.{any_narrow, each_commit, each_stage, itself, late, late_by_record, record_named, refused}
+use Rattle.pc_files.proofs.Narrow.{any_narrow, each_commit, each_stage, itself, late, late_by_record, refused}
 use Rattle.pc_files.proofs.Views.{final, found, good_to, missed, pushed, reads_good}
 use Rattle.pc_files.specs.Filing.{decided_by, deciding_of, is_txn, replies_of, views_of}
 use Rattle.pc_may_send.specs.Deciding.{IsReadyToCommit}

@@ -1,6 +1,6 @@
 //! Put: for the first time by the call that asks for it; again, as long as the write is not proved.
 
-ghost use Rattle.std.specs.Prelude.{◌≡◌, ◌↔◌, ◌+◌, ◌⊎◌, Contains, IsTrue, unwrap_or};
+ghost use Rattle.std.specs.Prelude.{◌≡◌, ◌↔◌, ◌+◌, ◌⊎◌, IsTrue, unwrap_or};
 ghost use Rattle.std.specs.Option.{option_copied};
 ghost use Rattle.pc_knowledge.specs.Keeping.{KeepsKnowledge};
 ghost use Rattle.pc_may_send.specs.Again.{IsSentAgain, IsAnySentAgain};

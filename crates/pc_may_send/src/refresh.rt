@@ -22,17 +22,11 @@ fn holds_read(span: &Span, reads: &[OwnRead<'_>]) -> bool
     reads.iter().any(|read| holds(part_of(span), read.span))
 }
 
-fn is_good_from(id: TxnId, heard: &[Hearing<'_>], from: Timestamp, read: &OwnRead<'_>) -> bool
-    ensures { IsTrue result ↔ ((good : ℕ) × IsGoodTo id heard.now read.now.span read.now.ts good × (from ≤ good)) }
-{
-    is_good_up_to(id, heard, read, from)
-}
-
 fn are_good_from(id: TxnId, heard: &[Hearing<'_>], from: Timestamp, reads: &[OwnRead<'_>]) -> bool
     ensures { IsTrue result ↔ All (λ r. (good : ℕ) × IsGoodTo id heard.now r.span r.ts good × (from ≤ good)) reads.now }
 {
     for read in reads {
-        if !is_good_from(id, heard, from, read) {
+        if !is_good_up_to(id, heard, read, from) {
             return false;
         }
     }

@@ -4,7 +4,7 @@ use Rattle.std.proofs.lemmas.Bool.{le-leb, le-ltb, lt-ltb}
 use Rattle.std.specs.List.{list_any}
 use Rattle.std.specs.Option.{option_map, option_map_or}
 use Rattle.pc_base.specs.declared.transaction.TxnId.{TxnId}
-use Rattle.pc_files.specs.Noted.{first_put_of}
+use Rattle.pc_files.specs.FirstPuts.{first_put_of}
 use Rattle.pc_known.specs.declared.sends.Sends.{Sends}
 use Rattle.pc_known.specs.Sends.{KeepsSends, StandByNumber, is_number_now}
 use Rattle.pc_proto.specs.Requests.{is_put_of}

@@ -1,13 +1,10 @@
 -- The writes that are not proved yet, after one more, after one is sent again, and after one is proved; and what they tell of all writes.
-use Rattle.std.proofs.Common.{◌≡◌, ℕ, Bool, true, false, ◌&&◌, ◌==◌, cond, not, All, IsTrue, OnErr, OnOk, Result, Ok, Err, List, [], ◌∷◌, ◌++◌, Option, None, Some, filter, map, slice_index_or, slice_set, refl, sym, ap, subst, ◌∙◌, ◌↔◌}
+use Rattle.std.proofs.Common.{◌≡◌, ℕ, Bool, true, false, ◌&&◌, ◌==◌, cond, not, All, IsTrue, OnErr, OnOk, Result, Ok, Err, List, [], ◌∷◌, ◌++◌, filter, map, refl, sym, ap, subst, ◌∙◌, ◌↔◌}
 use Rattle.std.proofs.lemmas.List.{map-append}
 use Rattle.std.proofs.lemmas.List.Elements.{All-cons, All-head, All-nil, All-tail, filter-append}
 use Rattle.std.specs.List.{list_any}
 use Rattle.pc_base.specs.Span.{same_key}
-use Rattle.pc_own.proofs.Indexed.{kept_or_left}
-use Rattle.pc_own.specs.declared.places.Places.{Places}
-use Rattle.pc_own.specs.Flying.{AreKeptOf, is_other_write, without_write}
-use Rattle.pc_own.specs.Places.{ArePlacesOf}
+use Rattle.pc_own.specs.Flying.{is_other_write, without_write}
 use Rattle.pc_world.specs.Known.Writes.{Write, asked_again, is_proved, listed_as, proved_at, unproved}
 
 -- The write as a stage lists it.

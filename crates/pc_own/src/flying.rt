@@ -1,4 +1,4 @@
-ghost use Rattle.std.specs.Prelude.{◌≡◌, ◌↔◌, ◌∷◌, ◌++◌, [], All, IsTrue, OnErr, OnOk, false};
+ghost use Rattle.std.specs.Prelude.{◌≡◌, ◌↔◌, ◌∷◌, ◌++◌, [], All, IsTrue, OnOk, false};
 ghost use Rattle.pc_base.specs.Span.{contains, same_key};
 ghost use Rattle.pc_known.specs.Parts.{part_span};
 ghost use Rattle.pc_own.specs.Flying.{is_other_write, without_write};

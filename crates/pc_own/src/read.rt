@@ -1,4 +1,4 @@
-ghost use Rattle.std.specs.Prelude.{◌≡◌, IsTrue};
+ghost use Rattle.std.specs.Prelude.{◌≡◌};
 ghost use Rattle.std.specs.Option.{option_copied, option_to_list};
 ghost use Rattle.pc_base.specs.Span.{contains, is_before, is_from};
 ghost use Rattle.pc_known.specs.Parts.{part_span};

@@ -1,5 +1,5 @@
 ghost use Rattle.std.specs.Prelude.{◌≡◌, ◌==◌, ◌↔◌, Some, [], IsTrue, OnOk};
-ghost use Rattle.std.specs.Option.{option_copied, option_or};
+ghost use Rattle.std.specs.Option.{option_copied};
 ghost use Rattle.pc_known.specs.Sends.{KeepsSends};
 ghost use Rattle.pc_own.specs.Changes.{with_own_put};
 ghost use Rattle.pc_world.specs.Known.{Known};

@@ -1,10 +1,10 @@
-ghost use Rattle.std.specs.Prelude.{◌≡◌, ◌↔◌, ◌<◌, ◌∷◌, ◌++◌, [], All, Contains, IsTrue, None, OnErr, OnOk, Some, false, length, map, slice_index_or, slice_set};
+ghost use Rattle.std.specs.Prelude.{◌≡◌, ◌↔◌, ◌<◌, ◌∷◌, ◌++◌, [], All, IsTrue, None, OnErr, OnOk, Some, false, length, map, slice_index_or, slice_set};
 ghost use Rattle.std.specs.Option.{option_copied};
 ghost use Rattle.pc_base.specs.Span.{same_key};
 ghost use Rattle.pc_known.specs.Parts.{part_span};
 ghost use Rattle.pc_own.specs.Flying.{without_write};
 ghost use Rattle.pc_own.specs.Places.{ArePlacesOf, place_by_sequence};
-ghost use Rattle.pc_world.specs.Known.Writes.{Write, asked_again, is_proved, last_seq_of, listed_as, proved_at, unproved, with_put};
+ghost use Rattle.pc_world.specs.Known.Writes.{Write, asked_again, is_proved, last_seq_of, proved_at, unproved, with_put};
 ghost use Rattle.pc_world.specs.Send.Reading.{IsProvedIn};
 
 use crate::flying::{Flying, add_flying, land, none_in, none_on};

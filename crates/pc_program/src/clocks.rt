@@ -1,6 +1,5 @@
 ghost use Rattle.std.specs.Prelude.{◌≡◌, ◌^◌, ◌-◌, min, true};
 ghost use Rattle.std.specs.Time.{system_time_nanos};
-ghost use Rattle.pc_base.specs.Counts.{saturating_next};
 
 use pc_base::ActorId;
 use pc_clock::{Clock, Clocks};

@@ -3,7 +3,7 @@ use Rattle.std.specs.BTreeMap.{get}
 use Rattle.pc_base.specs.declared.transaction.TxnId.{TxnId}
 use Rattle.pc_files.proofs.Noting.{kept_new, kept_old, none_of, same_write_is, write_equal}
 use Rattle.pc_files.proofs.firsts.keep_first.Goals as goal
-use Rattle.pc_files.specs.Noted.{is_same_write, write_cmp}
+use Rattle.pc_files.specs.FirstPuts.{is_same_write, write_cmp}
 
 pub returns-in_ok-insert : goal.returns-in_ok-insert
 returns-in_ok-insert c id epoch seq =

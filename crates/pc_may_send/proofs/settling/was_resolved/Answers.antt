@@ -2,7 +2,7 @@ use Rattle.pc_files.proofs.Noting.{settled_iff}
 use Rattle.pc_known.proofs.Exact.{both}
 use Rattle.pc_may_send.proofs.Existing.{iff_same}
 use Rattle.std.specs.List.{list_any}
-use Rattle.pc_files.specs.Noted.{settles_key}
+use Rattle.pc_files.specs.SettledKeys.{settles_key}
 use Rattle.pc_may_send.proofs.settling.was_resolved.Goals as goal
 
 pub returns : goal.returns

@@ -3,7 +3,7 @@ use Rattle.std.proofs.lemmas.Result.{on_ok_weaker}
 use Rattle.std.specs.Option.{option_or}
 use Rattle.pc_files.proofs.Noting.{first_after}
 use Rattle.pc_files.proofs.firsts.Firsts.learn.Goals as goal
-use Rattle.pc_files.specs.Noted.{number_if}
+use Rattle.pc_files.specs.FirstPuts.{number_if}
 use Rattle.pc_proto.specs.Requests.{is_put_of}
 
 pub returns-in-Send : goal.returns-in-Send

@@ -4,7 +4,7 @@ use Rattle.pc_base.specs.Span.{same_key}
 use Rattle.pc_base.specs.Transaction.{same_txn}
 use Rattle.pc_files.proofs.Noting.{added_one, place_equal}
 use Rattle.pc_files.proofs.settled_keys.SettledKeys.add.Goals as goal
-use Rattle.pc_files.specs.Noted.{settled_key_cmp}
+use Rattle.pc_files.specs.SettledKeys.{settled_key_cmp}
 
 pub returns : goal.returns
 returns c id key =

@@ -2,7 +2,7 @@ use Rattle.std.proofs.Common.{◌≡◌, ◌||◌, ap, ◌∙◌}
 use Rattle.std.proofs.lemmas.Result.{on_ok_weaker}
 use Rattle.pc_files.proofs.Noting.{settled_after}
 use Rattle.pc_files.proofs.settled_keys.SettledKeys.learn.Goals as goal
-use Rattle.pc_files.specs.Noted.{settles_key}
+use Rattle.pc_files.specs.SettledKeys.{settles_key}
 
 pub returns-in-Some : goal.returns-in-Some
 returns-in-Some c all are =
