@@ -29,7 +29,7 @@ fn are_few(splits: &Keys) -> bool
 
 impl<'a> Allow<'a> {
     /// Whether the actor may make the event next.
-    fn may_next(&self, event: &Event) -> Result<bool, NoMemory>
+    fn may_next(&self, event: &'a Event) -> Result<bool, NoMemory>
         requires { length self.now.splits.now + 1 < 2 ^ 32 }
         ensures { (head : Head) (k : Known) → head.splits ≡ self.now.splits.now → KeepsKnowledge k self.now.known → IfOk result (λ may. IsTrue may ↔ MayDo head self.now.actor k event.now) }
     {
@@ -66,7 +66,7 @@ impl<'a> Client<'a> for Allow<'a> {
         })
     }
 
-    fn may(&self, event: &Event) -> Result<bool, NoMemory> {
+    fn may(&self, event: &'a Event) -> Result<bool, NoMemory> {
         if are_few(self.splits) {
             self.may_next(event)
         } else {

@@ -19,7 +19,7 @@ pub trait Client<'a> {
         ensures { IfOk result (λ made. (head : Head) → head.splits ≡ splits.now → keeps head actor nothing_known made) };
 
     /// Whether the actor may make the event next.
-    fn may(&self, event: &Event) -> Result<bool, NoMemory>
+    fn may(&self, event: &'a Event) -> Result<bool, NoMemory>
         ensures { IfOk result (λ may. (head : Head) (actor : actor_id) (k : Known) → keeps head actor k self.now → IsTrue may ↔ MayDo head actor k event.now) };
 
     /// Takes one more entry, which the actor may make, with the one that it names.

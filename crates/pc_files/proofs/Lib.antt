@@ -1,3 +1,4 @@
 pub mod Narrow
 pub mod Views
 pub mod Noting
+pub mod Ways

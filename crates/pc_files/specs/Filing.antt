@@ -7,6 +7,7 @@ use Rattle.pc_base.specs.Transaction.{same_txn, txn_cmp}
 use Rattle.pc_files.specs.declared.filed.Filed.{Filed}
 use Rattle.pc_files.specs.declared.files.Files.{Files}
 use Rattle.pc_files.specs.FirstPuts.{AreFirstPuts}
+use Rattle.pc_files.specs.RefreshedSpans.{AreRefreshedSpans}
 use Rattle.pc_files.specs.SettledKeys.{AreSettledKeys}
 use Rattle.pc_proto.specs.declared.request.Request.{Request}
 use Rattle.pc_proto.specs.declared.request.Request.TheVariants as requests
@@ -86,10 +87,12 @@ AreFiledReplies heard f = (id : TxnId) → filed_under id f ≡ replies_of id he
 abbrev pub AreFiledViews : List Heard → Filed Heard → Type 0
 AreFiledViews heard f = (id : TxnId) → filed_under id f ≡ views_of id heard
 
--- All stages, commits and replies of the actor are filed, and its first puts and the keys that were settled are noted.
+-- All stages, commits and replies of the actor are filed, and its first puts, the keys that were settled and the spans that were
+-- refreshed are noted.
 pub record KeepsFiles (k : Known) (x : Files) : Type 0 where
   pub deciding : AreFiledSends k.sent x.deciding
   pub firsts : AreFirstPuts k.sent x.firsts
   pub replies : AreFiledReplies k.heard x.replies
   pub views : AreFiledViews k.heard x.views
   pub settled : AreSettledKeys k.heard x.settled
+  pub refreshed : AreRefreshedSpans k.heard x.refreshed

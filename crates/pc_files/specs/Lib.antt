@@ -1,4 +1,5 @@
 -- How what was sent and heard is filed.
 pub mod Filing
 pub mod FirstPuts
+pub mod RefreshedSpans
 pub mod SettledKeys

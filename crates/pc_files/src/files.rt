@@ -1,20 +1,23 @@
-ghost use Rattle.std.specs.Prelude.{◌≡◌, ◌↔◌, ℕ, IsTrue, List, OnOk};
+ghost use Rattle.std.specs.Prelude.{◌≡◌, ◌↔◌, ◌≤◌, ℕ, IsTrue, List, OnOk};
 ghost use Rattle.std.specs.List.{list_any};
 ghost use Rattle.std.specs.Option.{option_copied};
 ghost use Rattle.pc_files.specs.Filing.{AreFiledReplies, AreFiledSends, AreFiledViews, KeepsFiles, deciding_of, replies_of, views_of};
 ghost use Rattle.pc_files.specs.FirstPuts.{first_put_of};
 ghost use Rattle.pc_files.specs.SettledKeys.{settles_key};
 ghost use Rattle.pc_world.specs.Known.{Known, known_after, nothing_known};
+ghost use Rattle.pc_known.specs.Parts.{part_span};
+ghost use Rattle.pc_world.specs.Known.Reads.{IsGoodTo};
 ghost use Rattle.pc_world.specs.Known.Traffic.{Heard, Sent, heard_after, sent_after};
 ghost use Rattle.pc_world.specs.StageFate.{IsUncommitted};
 
 use crate::filed::Filed;
 use crate::firsts::Firsts;
 use crate::named::{decided_by, txn_named, txn_viewed};
+use crate::refreshed::RefreshedSpans;
 use crate::settled_keys::SettledKeys;
-use pc_base::{Key, NoMemory, TxnId};
+use pc_base::{Key, NoMemory, Timestamp, TxnId};
 use pc_known::fate::is_uncommitted;
-use pc_known::{Hearing, Message};
+use pc_known::{Hearing, Message, Part};
 use pc_proto::{Event, Request};
 use std::alloc::Global;
 
@@ -31,6 +34,8 @@ pub struct Files<'a> {
     views: Filed<Hearing<'a>>,
     /// The keys that were settled, by transaction.
     settled: SettledKeys<'a>,
+    /// How far each span was refreshed, by transaction.
+    refreshed: RefreshedSpans<'a>,
 }
 
 impl<'a> Files<'a> {
@@ -44,6 +49,7 @@ impl<'a> Files<'a> {
             replies: Filed::new(alloc),
             views: Filed::new(alloc),
             settled: SettledKeys::new(alloc),
+            refreshed: RefreshedSpans::new(alloc),
         }
     }
 
@@ -89,6 +95,13 @@ impl<'a> Files<'a> {
         is_uncommitted(id, self.deciding(id), self.replies(id))
     }
 
+    /// Whether a read of the span that was made at `ts` is good up to `to`, by refreshes of that very span.
+    pub fn is_refreshed(&self, id: TxnId, span: Part<'a>, ts: Timestamp, to: Timestamp) -> bool
+        ensures { (k : Known) → KeepsFiles k self.now → IsTrue result → (good : ℕ) × IsGoodTo id k.heard (part_span span.entry) ts good × (to ≤ good) }
+    {
+        self.refreshed.lead(id, span, ts, to)
+    }
+
     /// Takes one more entry, and the reply that it brings. After a refusal nothing is known.
     pub fn learn(&mut self, event: &'a Event, heard: Option<&Hearing<'a>>) -> Result<(), NoMemory>
         ensures { (k : Known) (top high : ℕ) → KeepsFiles k self.old → OnOk result (KeepsFiles (known_after event.now (option_copied heard.entry) top high k) self.new) }
@@ -96,6 +109,7 @@ impl<'a> Files<'a> {
         file_sent(&mut self.deciding, event)?;
         self.firsts.learn(event)?;
         self.settled.learn(heard)?;
+        self.refreshed.learn(heard)?;
         file_view(&mut self.views, heard)?;
         file_heard(&mut self.replies, heard)
     }

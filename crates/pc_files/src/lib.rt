@@ -5,10 +5,12 @@ mod filed;
 mod files;
 mod firsts;
 mod named;
+mod refreshed;
 mod settled_keys;
 
 pub use filed::Filed;
 pub use files::Files;
 pub use firsts::Firsts;
 pub use named::put_by;
+pub use refreshed::RefreshedSpans;
 pub use settled_keys::SettledKeys;

@@ -1,3 +1,4 @@
 pub mod GoodReads
 pub mod Begun
+pub mod LastGood
 pub mod Raised

@@ -1,14 +1,13 @@
-//! How far the reads of a transaction are good, by the replies that its session heard.
+//! How far a read is good, by all the replies to requests of its transaction that its session heard.
 
-ghost use Rattle.std.specs.Prelude.{◌≡◌, ◌↔◌, ◌≤◌, ◌<◌, ℕ, All, IsTrue};
+ghost use Rattle.std.specs.Prelude.{◌≡◌, ◌↔◌, ◌≤◌, ◌<◌, ℕ, IsTrue};
 ghost use Rattle.pc_known.specs.Parts.{part_span};
 ghost use Rattle.pc_knowledge.specs.Good.{IsGoodJustTo, good_after_all, good_from, taken_further};
-ghost use Rattle.pc_world.specs.Known.Reads.{IsGoodAt, IsGoodTo};
-ghost use Rattle.pc_world.specs.Known.Transactions.{IsGood};
+ghost use Rattle.pc_world.specs.Known.Reads.{IsGoodTo};
 
 use pc_base::{Timestamp, TxnId};
 use pc_known::{Hearing, Part};
-use pc_own::{OwnRead, OwnTxn, holds, part_of};
+use pc_own::{OwnRead, holds, part_of};
 use pc_proto::{Reply, Request};
 
 /// From where to where the reply takes a read of the span, if it is that of a refresh of a span that holds it.
@@ -63,7 +62,7 @@ fn is_below(one: Timestamp, other: Timestamp) -> bool
     one < other
 }
 
-fn is_by(one: Timestamp, other: Timestamp) -> bool
+pub(crate) fn is_by(one: Timestamp, other: Timestamp) -> bool
     ensures { IsTrue result ↔ (one ≤ other) }
 {
     one <= other
@@ -83,32 +82,13 @@ pub fn good_to(id: TxnId, heard: &[Hearing<'_>], span: Part<'_>, ts: Timestamp) 
 }
 
 /// Whether the read is good at this timestamp, or at a later one.
-pub fn is_good_up_to(id: TxnId, heard: &[Hearing<'_>], read: &OwnRead<'_>, ts: Timestamp) -> bool
+pub(crate) fn is_good_up_to(
+    id: TxnId,
+    heard: &[Hearing<'_>],
+    read: &OwnRead<'_>,
+    ts: Timestamp,
+) -> bool
     ensures { IsTrue result ↔ ((good : ℕ) × IsGoodTo id heard.now read.now.span read.now.ts good × (ts ≤ good)) }
 {
     is_by(ts, read.ts) || is_by(ts, good_to(id, heard, read.span, read.ts))
-}
-
-fn is_good_at(id: TxnId, heard: &[Hearing<'_>], ts: Timestamp, read: &OwnRead<'_>) -> bool
-    ensures { IsTrue result ↔ IsGoodAt id heard.now ts read.now }
-{
-    is_by(read.ts, ts) && is_good_up_to(id, heard, read, ts)
-}
-
-fn are_good_at(id: TxnId, heard: &[Hearing<'_>], ts: Timestamp, reads: &[OwnRead<'_>]) -> bool
-    ensures { IsTrue result ↔ All (IsGoodAt id heard.now ts) reads.now }
-{
-    for read in reads {
-        if !is_good_at(id, heard, ts, read) {
-            return false;
-        }
-    }
-    true
-}
-
-/// Whether each read of the transaction's epoch is good at this timestamp, which is not below the begin timestamp.
-pub fn is_good(heard: &[Hearing<'_>], t: &OwnTxn<'_>, ts: Timestamp) -> bool
-    ensures { IsTrue result ↔ IsGood heard.now t.now ts }
-{
-    is_by(t.begin(), ts) && are_good_at(t.id(), heard, ts, t.reads().as_slice())
 }

@@ -10,12 +10,14 @@ ghost use Rattle.pc_known.specs.Heards.{KeepsHeards};
 ghost use Rattle.pc_known.specs.Sends.{KeepsSends, SendsNext};
 ghost use Rattle.pc_knowledge.specs.Asking.{deciding_asked};
 ghost use Rattle.pc_knowledge.specs.Keeping.{KeepsKnowledge};
+ghost use Rattle.pc_knowledge.specs.LastGood.{AreLastGood};
 ghost use Rattle.pc_own.specs.Numbered.{AreBegunInOrder};
 ghost use Rattle.pc_world.specs.Known.{Known, call_of, learn, next_number, nothing_known, open_txn, priority_asked, reading_of, told_first, txn_begun, txns_after, txns_told};
 ghost use Rattle.pc_world.specs.Known.Traffic.{replies_to};
 ghost use Rattle.pc_world.specs.Known.Transactions.{Txn, txn_heard};
 ghost use Rattle.pc_world.specs.StageFate.{IsUncommitted};
 
+use crate::reads::good_after;
 use pc_base::{Entry, Key, NoMemory, Priority, Timestamp, TxnId};
 use pc_files::Files;
 use pc_known::{Calls, Heards, Hearing, Message, Open, Sends};
@@ -32,6 +34,8 @@ pub struct Knowledge<'a> {
     heards: Heards<'a>,
     files: Files<'a>,
     txns: Txns<'a>,
+    /// A timestamp up to which the reads of the last transaction begun are good, 0 where none is known.
+    good: u128,
 }
 
 impl<'a> Knowledge<'a> {
@@ -46,6 +50,7 @@ impl<'a> Knowledge<'a> {
             heards: Heards::new(alloc),
             files: Files::new(alloc),
             txns: Txns::new(alloc),
+            good: 0,
         }
     }
 
@@ -107,6 +112,20 @@ impl<'a> Knowledge<'a> {
         ensures { (k : Known) → KeepsKnowledge k self.now → result.now ≡ k.heard_now }
     {
         self.heards.now()
+    }
+
+    /// What of it all is filed by transaction.
+    pub(crate) fn files(&self) -> &Files<'a>
+        ensures { (k : Known) → KeepsKnowledge k self.now → KeepsFiles k result.now }
+    {
+        &self.files
+    }
+
+    /// A timestamp up to which the reads of the last transaction begun are good, 0 where none is known.
+    pub(crate) fn good(&self) -> u128
+        ensures { (k : Known) → KeepsKnowledge k self.now → AreLastGood k result }
+    {
+        self.good
     }
 
     /// The stages and commits of the transaction that were sent.
@@ -175,6 +194,7 @@ impl<'a> Knowledge<'a> {
         ensures { (k : Known) → KeepsKnowledge k self.old → SendsNext (next_number k) entry.now.event → OnOk result (KeepsKnowledge (learn (pair entry.now (option_copied named.entry)) k) self.new) }
     {
         let heard = self.sends.heard_by(&entry.event, named);
+        self.good = good_after(self.good, &self.txns, &self.files, &entry.event);
         learn_txns(
             &mut self.txns,
             self.alloc,

@@ -1,60 +1,52 @@
 -- What is so of a transaction by what is filed under it is so by all that was sent and heard.
-use Rattle.std.proofs.Common.{◌≡◌, ◌≢◌, ◌↔◌, ◌≤◌, ℕ, true, Any, List, Option, ap, is_some, refl, sym, subst, inl, inr}
+use Rattle.std.proofs.Common.{◌≡◌, ◌≢◌, ◌↔◌, ℕ, true, Any, List, ap, is_some, refl, sym, subst, inl, inr}
 use Rattle.std.proofs.lemmas.List.Elements.{All-weaker}
-use Rattle.pc_base.specs.declared.span.Span.{Span}
 use Rattle.pc_base.specs.declared.transaction.TxnId.{TxnId}
 use Rattle.pc_base.specs.declared.transaction.Who.{Who}
 use Rattle.pc_files.proofs.Narrow.{any_narrow, each_commit, each_stage, itself, late, late_by_record, refused}
-use Rattle.pc_files.proofs.Views.{final, found, good_to, missed, pushed, reads_good}
+use Rattle.pc_files.proofs.Views.{final, found, missed, pushed}
 use Rattle.pc_files.specs.Filing.{decided_by, deciding_of, is_txn, replies_of, views_of}
-use Rattle.pc_may_send.specs.Deciding.{IsReadyToCommit}
 use Rattle.pc_may_send.specs.Listed.{HasFoundAll, HasListed, HasMissed}
-use Rattle.pc_may_send.specs.Refreshing.{IsRefreshIn}
 use Rattle.pc_may_send.specs.Settled.{IsFinalAbout, IsSettledBy}
-use Rattle.pc_may_send.specs.Staging.{IsNewStage, IsStageAgain}
-use Rattle.pc_proto.specs.declared.call.Call.{Call}
-use Rattle.pc_world.specs.Known.Reads.{IsGoodTo, Read}
+use Rattle.pc_may_send.specs.Staging.{IsStageAgain}
 use Rattle.pc_world.specs.Known.Traffic.{Heard, Sent}
 use Rattle.pc_world.specs.Known.Transactions.{Txn}
 use Rattle.pc_world.specs.Send.Recovery.{WasFound}
 use Rattle.pc_world.specs.Send.Stage.{IsPassed}
 use Rattle.pc_world.specs.StageFate.{EachCommit, EachStage, IsLate, SentStage, WasCommitRefused, stage_request}
 
-module _ (sent : List Sent) (heard : List Heard) (t : Txn) where
-  pub ready : (ts : ℕ) → IsReadyToCommit (deciding_of t.id sent) (replies_of t.id heard) ts t ↔ IsReadyToCommit sent heard ts t
-  ready ts = (
-    λ r. (((r.0.0.0, (reads_good heard t ts).0 r.0.0.1), r.0.1), (stages.0 r.1.0, commits.0 r.1.1)),
-    λ r. (((r.0.0.0, (reads_good heard t ts).1 r.0.0.1), r.0.1), (stages.1 r.1.0, commits.1 r.1.1)),
-  )
+module _ (sent : List Sent) (heard : List Heard) (id : TxnId) where
+  pub nothing_elsewhere : (ts : ℕ) → (EachStage id (deciding_of id sent) (λ s. s.ts ≢ ts → IsLate (replies_of id heard) s) × EachCommit id (deciding_of id sent) (λ c. c.ts ≢ ts → WasCommitRefused (replies_of id heard) c))
+      ↔ (EachStage id sent (λ s. s.ts ≢ ts → IsLate heard s) × EachCommit id sent (λ c. c.ts ≢ ts → WasCommitRefused heard c))
+  nothing_elsewhere ts = (λ r. (stages.0 r.0, commits.0 r.1), λ r. (stages.1 r.0, commits.1 r.1))
     where
-      stages : EachStage t.id (deciding_of t.id sent) (λ s. s.ts ≢ ts → IsLate (replies_of t.id heard) s) ↔ EachStage t.id sent (λ s. s.ts ≢ ts → IsLate heard s)
+      stages : EachStage id (deciding_of id sent) (λ s. s.ts ≢ ts → IsLate (replies_of id heard) s) ↔ EachStage id sent (λ s. s.ts ≢ ts → IsLate heard s)
       stages =
-          each_stage t.id (λ s. s.ts ≢ ts → IsLate (replies_of t.id heard) s) (λ s. s.ts ≢ ts → IsLate heard s)
-          (λ s whose. (λ f ne. (late s t.id whose heard).0 (f ne), λ f ne. (late s t.id whose heard).1 (f ne))) sent
+          each_stage id (λ s. s.ts ≢ ts → IsLate (replies_of id heard) s) (λ s. s.ts ≢ ts → IsLate heard s)
+          (λ s whose. (λ f ne. (late s id whose heard).0 (f ne), λ f ne. (late s id whose heard).1 (f ne))) sent
 
-      commits : EachCommit t.id (deciding_of t.id sent) (λ c. c.ts ≢ ts → WasCommitRefused (replies_of t.id heard) c) ↔ EachCommit t.id sent (λ c. c.ts ≢ ts → WasCommitRefused heard c)
+      commits : EachCommit id (deciding_of id sent) (λ c. c.ts ≢ ts → WasCommitRefused (replies_of id heard) c) ↔ EachCommit id sent (λ c. c.ts ≢ ts → WasCommitRefused heard c)
       commits =
-          each_commit t.id (λ c. c.ts ≢ ts → WasCommitRefused (replies_of t.id heard) c) (λ c. c.ts ≢ ts → WasCommitRefused heard c)
-          (λ c whose. (λ f ne. (refused c t.id whose heard).0 (f ne), λ f ne. (refused c t.id whose heard).1 (f ne))) sent
+          each_commit id (λ c. c.ts ≢ ts → WasCommitRefused (replies_of id heard) c) (λ c. c.ts ≢ ts → WasCommitRefused heard c)
+          (λ c whose. (λ f ne. (refused c id whose heard).0 (f ne), λ f ne. (refused c id whose heard).1 (f ne))) sent
 
-  passed : (ts : ℕ) (s : SentStage) → s.meta.id ≡ t.id → IsPassed (replies_of t.id heard) ts s ↔ IsPassed heard ts s
+  passed : (ts : ℕ) (s : SentStage) → s.meta.id ≡ id → IsPassed (replies_of id heard) ts s ↔ IsPassed heard ts s
   passed ts s whose = (
-    λ h. elim h [ inl l ↦ inl ((late s t.id whose heard).0 l.0, l.1) | inr r ↦ inr ((late_by_record s t.id whose heard).0 r) ],
-    λ h. elim h [ inl l ↦ inl ((late s t.id whose heard).1 l.0, l.1) | inr r ↦ inr ((late_by_record s t.id whose heard).1 r) ],
+    λ h. elim h [ inl l ↦ inl ((late s id whose heard).0 l.0, l.1) | inr r ↦ inr ((late_by_record s id whose heard).0 r) ],
+    λ h. elim h [ inl l ↦ inl ((late s id whose heard).1 l.0, l.1) | inr r ↦ inr ((late_by_record s id whose heard).1 r) ],
   )
 
-  pub new_stage : (s : SentStage) → IsNewStage (deciding_of t.id sent) (replies_of t.id heard) t s ↔ IsNewStage sent heard t s
-  new_stage s = (
-    λ n. ((n.0.0, (reads_good heard t s.ts).0 n.0.1), (stages.0 n.1.0, commits.0 n.1.1)),
-    λ n. ((n.0.0, (reads_good heard t s.ts).1 n.0.1), (stages.1 n.1.0, commits.1 n.1.1)),
-  )
+  pub way_free : (ts : ℕ) → (EachStage id (deciding_of id sent) (IsPassed (replies_of id heard) ts) × EachCommit id (deciding_of id sent) (WasCommitRefused (replies_of id heard)))
+      ↔ (EachStage id sent (IsPassed heard ts) × EachCommit id sent (WasCommitRefused heard))
+  way_free ts = (λ n. (stages.0 n.0, commits.0 n.1), λ n. (stages.1 n.0, commits.1 n.1))
     where
-      stages : EachStage t.id (deciding_of t.id sent) (IsPassed (replies_of t.id heard) s.ts) ↔ EachStage t.id sent (IsPassed heard s.ts)
-      stages = each_stage t.id (IsPassed (replies_of t.id heard) s.ts) (IsPassed heard s.ts) (passed s.ts) sent
+      stages : EachStage id (deciding_of id sent) (IsPassed (replies_of id heard) ts) ↔ EachStage id sent (IsPassed heard ts)
+      stages = each_stage id (IsPassed (replies_of id heard) ts) (IsPassed heard ts) (passed ts) sent
 
-      commits : EachCommit t.id (deciding_of t.id sent) (WasCommitRefused (replies_of t.id heard)) ↔ EachCommit t.id sent (WasCommitRefused heard)
-      commits = each_commit t.id (WasCommitRefused (replies_of t.id heard)) (WasCommitRefused heard) (λ c whose. refused c t.id whose heard) sent
+      commits : EachCommit id (deciding_of id sent) (WasCommitRefused (replies_of id heard)) ↔ EachCommit id sent (WasCommitRefused heard)
+      commits = each_commit id (WasCommitRefused (replies_of id heard)) (WasCommitRefused heard) (λ c whose. refused c id whose heard) sent
 
+module _ (sent : List Sent) (heard : List Heard) (t : Txn) where
   pub again : (s : SentStage) → IsStageAgain (deciding_of s.meta.id sent) (replies_of s.meta.id heard) t s ↔ IsStageAgain sent heard t s
   again s = (
     λ a. record { epoch_now = a.epoch_now; before = before.0 a.before; not_late = λ l. a.not_late (was_late.1 l) },
@@ -68,17 +60,6 @@ module _ (sent : List Sent) (heard : List Heard) (t : Txn) where
       before =
           any_narrow (λ (m : Sent). is_txn s.meta.id (decided_by m.request)) (λ m. m.request ≡ stage_request s)
           (λ m is. subst (λ r. is_txn s.meta.id (decided_by r) ≡ true) (sym is) (itself s.meta.id)) sent
-
-  good-from : (from : ℕ) (id : TxnId) (r : Read) → ((good : ℕ) × IsGoodTo id (replies_of id heard) r.span r.ts good × (from ≤ good)) ↔ ((good : ℕ) × IsGoodTo id heard r.span r.ts good × (from ≤ good))
-  good-from from id r = (λ g. (g.0, (good_to id heard r.span r.ts g.0).0 g.1, g.2), λ g. (g.0, (good_to id heard r.span r.ts g.0).1 g.1, g.2))
-
-  pub refresh : (call : Option Call) (id : TxnId) (from to : ℕ) (span : Span) → IsRefreshIn call t (replies_of t.id heard) id from to span ↔ IsRefreshIn call t heard id from to span
-  refresh call id from to span =
-      let Narrow : Read → Type 0 = λ r. (good : ℕ) × IsGoodTo t.id (replies_of t.id heard) r.span r.ts good × (from ≤ good) in
-      let Wide : Read → Type 0 = λ r. (good : ℕ) × IsGoodTo t.id heard r.span r.ts good × (from ≤ good) in (
-        λ h. (h.0, (h.1.0, (h.1.1.0, All-weaker Narrow Wide (λ r. (good-from from t.id r).0) t.reads h.1.1.1))),
-        λ h. (h.0, (h.1.0, (h.1.1.0, All-weaker Wide Narrow (λ r. (good-from from t.id r).1) t.reads h.1.1.1))),
-      )
 
 module _ (id : TxnId) (heard : List Heard) where
   pub final_about : Any (IsFinalAbout id) (views_of id heard) ↔ Any (IsFinalAbout id) heard

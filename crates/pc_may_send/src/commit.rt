@@ -120,10 +120,10 @@ fn may_commit(known: &Knowledge<'_>, t: &OwnTxn<'_>, ts: Timestamp) -> bool
 }
 
 /// Whether the transaction's write timestamp is this one, and its reads are good there.
-fn is_good_there(heard: &[Hearing<'_>], t: &OwnTxn<'_>, ts: Timestamp) -> bool
-    ensures { IsTrue result ↔ ((ts ≡ t.now.write_ts) × IsGood heard.now t.now ts) }
+fn is_good_there<'a>(known: &Knowledge<'a>, t: &OwnTxn<'a>, ts: Timestamp) -> bool
+    ensures { (k : Known) → KeepsKnowledge k known.now → IsTrue result ↔ ((ts ≡ t.now.write_ts) × IsGood k.heard t.now ts) }
 {
-    is_write_ts(t, ts) && is_good(heard, t, ts)
+    is_write_ts(t, ts) && is_good(known, t, ts)
 }
 
 fn is_write_ts(t: &OwnTxn<'_>, ts: Timestamp) -> bool
@@ -139,10 +139,10 @@ fn are_writes_proved_by(writes: &Writes<'_>, ts: Timestamp) -> bool
 }
 
 /// Whether its reads are good and its writes are proved at this timestamp, at which it writes.
-fn is_done_there(heard: &[Hearing<'_>], t: &OwnTxn<'_>, ts: Timestamp) -> bool
-    ensures { IsTrue result ↔ (((ts ≡ t.now.write_ts) × IsGood heard.now t.now ts) × All (IsProvedBy ts) t.now.writes) }
+fn is_done_there<'a>(known: &Knowledge<'a>, t: &OwnTxn<'a>, ts: Timestamp) -> bool
+    ensures { (k : Known) → KeepsKnowledge k known.now → IsTrue result ↔ (((ts ≡ t.now.write_ts) × IsGood k.heard t.now ts) × All (IsProvedBy ts) t.now.writes) }
 {
-    is_good_there(heard, t, ts) && are_writes_proved_by(t.writes(), ts)
+    is_good_there(known, t, ts) && are_writes_proved_by(t.writes(), ts)
 }
 
 /// Whether each stage and each commit of the transaction at another timestamp is known to have come to nothing.
@@ -157,24 +157,24 @@ fn is_nothing_elsewhere(
     are_late_elsewhere(id, sent, heard, ts) && are_refused_elsewhere(id, sent, heard, ts)
 }
 
-/// Whether, apart from what it was asked and told, the session knows by itself that its transaction may commit at this timestamp.
-fn is_decided(sent: &[Message<'_>], heard: &[Hearing<'_>], t: &OwnTxn<'_>, ts: Timestamp) -> bool
-    ensures { IsTrue result ↔ IsReadyToCommit sent.now heard.now ts t.now }
+fn is_nothing_elsewhere_now(known: &Knowledge<'_>, id: TxnId, ts: Timestamp) -> bool
+    ensures { (k : Known) → KeepsKnowledge k known.now → IsTrue result ↔ (EachStage id k.sent (λ s. s.ts ≢ ts → IsLate k.heard s) × EachCommit id k.sent (λ c. c.ts ≢ ts → WasCommitRefused k.heard c)) }
 {
-    is_done_there(heard, t, ts) && is_nothing_elsewhere(t.id(), sent, heard, ts)
+    is_nothing_elsewhere(id, known.deciding(id), known.replies(id), ts)
 }
 
-fn is_decided_now(known: &Knowledge<'_>, t: &OwnTxn<'_>, ts: Timestamp) -> bool
+/// Whether, apart from what it was asked and told, the session knows by itself that its transaction may commit at this timestamp.
+fn is_decided<'a>(known: &Knowledge<'a>, t: &OwnTxn<'a>, ts: Timestamp) -> bool
     ensures { (k : Known) → KeepsKnowledge k known.now → IsTrue result ↔ IsReadyToCommit k.sent k.heard ts t.now }
 {
-    is_decided(known.deciding(t.id()), known.replies(t.id()), t, ts)
+    is_done_there(known, t, ts) && is_nothing_elsewhere_now(known, t.id(), ts)
 }
 
 /// Whether the session knows by itself that its own transaction may commit at this timestamp.
-fn may_decide(known: &Knowledge<'_>, t: &OwnTxn<'_>, ts: Timestamp) -> bool
+fn may_decide<'a>(known: &Knowledge<'a>, t: &OwnTxn<'a>, ts: Timestamp) -> bool
     ensures { (k : Known) → KeepsKnowledge k known.now → Contains k.txns t.now → IsTrue result ↔ MayDecide k t.now ts }
 {
-    may_commit(known, t, ts) && is_decided_now(known, t, ts)
+    may_commit(known, t, ts) && is_decided(known, t, ts)
 }
 
 fn was_committed_so(known: &Knowledge<'_>, t: &OwnTxn<'_>, ts: Timestamp) -> bool
@@ -183,13 +183,13 @@ fn was_committed_so(known: &Knowledge<'_>, t: &OwnTxn<'_>, ts: Timestamp) -> boo
     was_committed(known.replies(t.id()), t.id(), ts)
 }
 
-fn may_commit_at(known: &Knowledge<'_>, t: &OwnTxn<'_>, ts: Timestamp) -> bool
+fn may_commit_at<'a>(known: &Knowledge<'a>, t: &OwnTxn<'a>, ts: Timestamp) -> bool
     ensures { (k : Known) → KeepsKnowledge k known.now → Contains k.txns t.now → IsTrue result ↔ (MayDecide k t.now ts ⊎ WasCommitted k.heard t.now.id ts) }
 {
     may_decide(known, t, ts) || was_committed_so(known, t, ts)
 }
 
-fn may_commit_by(known: &Knowledge<'_>, t: &OwnTxn<'_>, commit: &Commit<'_>) -> bool
+fn may_commit_by<'a>(known: &Knowledge<'a>, t: &OwnTxn<'a>, commit: &Commit<'_>) -> bool
     ensures { (k : Known) → KeepsKnowledge k known.now → Contains k.txns t.now → IsTrue result ↔ (MayDecide k t.now commit.now.ts ⊎ WasCommitted k.heard t.now.id commit.now.ts) }
 {
     may_commit_at(known, t, commit.ts)
@@ -201,7 +201,7 @@ fn is_commit_of(t: &OwnTxn<'_>, commit: &Commit<'_>) -> bool
     t.is_meta(commit.meta) && t.locks().are(commit.locks)
 }
 
-fn may_send_own(known: &Knowledge<'_>, t: &OwnTxn<'_>, commit: &Commit<'_>) -> bool
+fn may_send_own<'a>(known: &Knowledge<'a>, t: &OwnTxn<'a>, commit: &Commit<'_>) -> bool
     ensures { (k : Known) → KeepsKnowledge k known.now → Contains k.txns t.now → IsTrue result ↔ IsCommitBy k commit.now t.now }
 {
     is_commit_of(t, commit) && may_commit_by(known, t, commit)

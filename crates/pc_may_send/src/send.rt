@@ -22,13 +22,13 @@ use pc_proto::{Keys, Request};
 
 /// Whether the actor may send this message next: its number, its range and its timestamps are in order, and the rule of its request
 /// allows it.
-pub fn may_send(
+pub fn may_send<'a>(
     splits: &Keys,
     actor: ActorId,
-    known: &Knowledge<'_>,
+    known: &Knowledge<'a>,
     number: u64,
     range: u32,
-    request: &Request,
+    request: &'a Request,
 ) -> Result<bool, NoMemory>
     requires { length splits.now + 1 < 2 ^ 32 }
     ensures { (k : Known) → KeepsKnowledge k known.now → IfOk result (λ may. IsTrue may ↔ MaySend splits.now actor k number range request.now) }
@@ -49,11 +49,11 @@ pub fn may_send(
 }
 
 /// Whether the rule of the request allows it.
-fn may_send_row(
+fn may_send_row<'a>(
     splits: &Keys,
     actor: ActorId,
-    known: &Knowledge<'_>,
-    request: &Request,
+    known: &Knowledge<'a>,
+    request: &'a Request,
 ) -> Result<bool, NoMemory>
     requires { length splits.now + 1 < 2 ^ 32 }
     ensures { (k : Known) → KeepsKnowledge k known.now → IfOk result (λ may. IsTrue may ↔ MaySendRow splits.now actor k request.now) }
@@ -71,7 +71,12 @@ fn may_send_row(
 }
 
 /// The same of a request other than a scan.
-fn may_send_row_of(splits: &Keys, actor: ActorId, known: &Knowledge<'_>, request: &Request) -> bool
+fn may_send_row_of<'a>(
+    splits: &Keys,
+    actor: ActorId,
+    known: &Knowledge<'a>,
+    request: &'a Request,
+) -> bool
     requires { is_scan request.now ≡ false }
     ensures { (k : Known) → KeepsKnowledge k known.now → IsTrue result ↔ MaySendRow splits.now actor k request.now }
 {

@@ -126,16 +126,16 @@ fn are_commits_refused(id: TxnId, sent: &[Message<'_>], heard: &[Hearing<'_>]) -
 }
 
 /// Whether the stage says of the transaction what it must, and the reads are good at its timestamp.
-fn is_whole(heard: &[Hearing<'_>], t: &OwnTxn<'_>, stage: &Stage<'_>) -> bool
-    ensures { IsTrue result ↔ (StagesAll t.now stage.now × IsGood heard.now t.now stage.now.ts) }
+fn is_whole<'a>(known: &Knowledge<'a>, t: &OwnTxn<'a>, stage: &Stage<'_>) -> bool
+    ensures { (k : Known) → KeepsKnowledge k known.now → IsTrue result ↔ (StagesAll t.now stage.now × IsGood k.heard t.now stage.now.ts) }
 {
-    stages_all(t, stage) && is_good_at(heard, t, stage)
+    stages_all(t, stage) && is_good_at(known, t, stage)
 }
 
-fn is_good_at(heard: &[Hearing<'_>], t: &OwnTxn<'_>, stage: &Stage<'_>) -> bool
-    ensures { IsTrue result ↔ IsGood heard.now t.now stage.now.ts }
+fn is_good_at<'a>(known: &Knowledge<'a>, t: &OwnTxn<'a>, stage: &Stage<'_>) -> bool
+    ensures { (k : Known) → KeepsKnowledge k known.now → IsTrue result ↔ IsGood k.heard t.now stage.now.ts }
 {
-    is_good(heard, t, stage.ts)
+    is_good(known, t, stage.ts)
 }
 
 /// Whether the earlier stages and commits of the transaction do not stand in the way of a stage at this timestamp.
@@ -145,33 +145,23 @@ fn is_way_free(id: TxnId, sent: &[Message<'_>], heard: &[Hearing<'_>], ts: Times
     are_stages_passed(id, sent, heard, ts) && are_commits_refused(id, sent, heard)
 }
 
-fn is_own_way_free(
-    t: &OwnTxn<'_>,
-    sent: &[Message<'_>],
-    heard: &[Hearing<'_>],
-    stage: &Stage<'_>,
-) -> bool
-    ensures { IsTrue result ↔ (EachStage t.now.id sent.now (IsPassed heard.now stage.now.ts) × EachCommit t.now.id sent.now (WasCommitRefused heard.now)) }
+fn is_way_free_now(known: &Knowledge<'_>, id: TxnId, ts: Timestamp) -> bool
+    ensures { (k : Known) → KeepsKnowledge k known.now → IsTrue result ↔ (EachStage id k.sent (IsPassed k.heard ts) × EachCommit id k.sent (WasCommitRefused k.heard)) }
 {
-    is_way_free(t.id(), sent, heard, stage.ts)
+    is_way_free(id, known.deciding(id), known.replies(id), ts)
+}
+
+fn is_own_way_free(known: &Knowledge<'_>, t: &OwnTxn<'_>, stage: &Stage<'_>) -> bool
+    ensures { (k : Known) → KeepsKnowledge k known.now → IsTrue result ↔ (EachStage t.now.id k.sent (IsPassed k.heard stage.now.ts) × EachCommit t.now.id k.sent (WasCommitRefused k.heard)) }
+{
+    is_way_free_now(known, t.id(), stage.ts)
 }
 
 /// Whether the transaction may stage so, whatever was asked.
-fn is_new_stage(
-    t: &OwnTxn<'_>,
-    sent: &[Message<'_>],
-    heard: &[Hearing<'_>],
-    stage: &Stage<'_>,
-) -> bool
-    ensures { IsTrue result ↔ IsNewStage sent.now heard.now t.now stage.now }
-{
-    is_whole(heard, t, stage) && is_own_way_free(t, sent, heard, stage)
-}
-
-fn is_new_stage_now(known: &Knowledge<'_>, t: &OwnTxn<'_>, stage: &Stage<'_>) -> bool
+fn is_new_stage<'a>(known: &Knowledge<'a>, t: &OwnTxn<'a>, stage: &Stage<'_>) -> bool
     ensures { (k : Known) → KeepsKnowledge k known.now → IsTrue result ↔ IsNewStage k.sent k.heard t.now stage.now }
 {
-    is_new_stage(t, known.deciding(t.id()), known.replies(t.id()), stage)
+    is_whole(known, t, stage) && is_own_way_free(known, t, stage)
 }
 
 /// Whether the open call is a commit at the stage's reading.
@@ -181,10 +171,10 @@ fn is_commit_at(known: &Knowledge<'_>, stage: &Stage<'_>) -> bool
     asks_commit(known.call()) && known.reading() == Some(stage.reading)
 }
 
-fn is_new_stage_in(known: &Knowledge<'_>, t: &OwnTxn<'_>, stage: &Stage<'_>) -> bool
+fn is_new_stage_in<'a>(known: &Knowledge<'a>, t: &OwnTxn<'a>, stage: &Stage<'_>) -> bool
     ensures { (k : Known) → KeepsKnowledge k known.now → IsTrue result ↔ (((call_of k ≡ Some Call.Commit) × (reading_of k ≡ Some stage.now.now)) × IsNewStage k.sent k.heard t.now stage.now) }
 {
-    is_commit_at(known, stage) && is_new_stage_now(known, t, stage)
+    is_commit_at(known, stage) && is_new_stage(known, t, stage)
 }
 
 /// Whether the open transaction, in a commit, may send this stage for the first time.

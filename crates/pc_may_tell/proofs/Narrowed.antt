@@ -1,15 +1,17 @@
 -- What is so of a transaction by what is filed under it is so by all that was sent and heard.
-use Rattle.std.proofs.Common.{◌≡◌, ◌↔◌, ◌⊎◌, ℕ, true, List, inl, inr}
+use Rattle.std.proofs.Common.{◌≡◌, ◌↔◌, ◌⊎◌, ℕ, true, All, Any, IsTrue, List, inl, inr}
 use Rattle.pc_base.specs.declared.transaction.TxnId.{TxnId}
 use Rattle.pc_files.proofs.Narrow.{any_narrow, dead, refused, same_is}
-use Rattle.pc_files.proofs.Views.{committed, reads_good, staged}
+use Rattle.pc_files.proofs.Views.{committed, staged}
 use Rattle.pc_files.specs.Filing.{decided_by, deciding_of, is_txn, replies_of}
-use Rattle.pc_may_tell.specs.Ending.{HasCommitted}
 use Rattle.pc_proto.specs.declared.request.Request.{Request}
 use Rattle.pc_proto.specs.declared.request.Request.TheVariants as requests
 use Rattle.pc_world.specs.Known.Traffic.{Heard, Sent}
 use Rattle.pc_world.specs.Known.Transactions.{Txn}
+use Rattle.pc_world.specs.Known.Writes.{IsProvedBy}
 use Rattle.pc_world.specs.StageFate.{IsCommitWith, IsDead, IsStageWith, SentCommit, SentStage, SomeCommit, SomeStage, WasCommitRefused}
+use Rattle.pc_world.specs.Tell.End.{shows_staging}
+use Rattle.pc_world.specs.Views.{WasCommitted}
 
 module _ (id : TxnId) (P Q : SentStage → Type 0) (same : (s : SentStage) → s.meta.id ≡ id → P s ↔ Q s) where
   stage-with : (request : Request) → IsStageWith id P request ↔ IsStageWith id Q request
@@ -62,15 +64,12 @@ doubtful id sent heard = (
         some_commit id (λ c. WasCommitRefused (replies_of id heard) c → ⊥) (λ c. WasCommitRefused heard c → ⊥)
         (λ c whose. (λ f r. f ((refused c id whose heard).1 r), λ f r. f ((refused c id whose heard).0 r))) sent
 
--- the transaction has committed
-pub has_committed : (heard : List Heard) (t : Txn) (ts : ℕ) → HasCommitted (replies_of t.id heard) t ts ↔ HasCommitted heard t ts
-has_committed heard t ts = (
-  λ h. elim h [
-    | inl u ↦ inl (u.0, (reads_good heard t ts).0 u.1)
-    | inr told ↦ elim told [ inl c ↦ inr (inl ((committed t.id heard ts).0 c)) | inr s ↦ inr (inr ((staged t.id heard t.epoch ts).0 s.0, s.1)) ]
-  ],
-  λ h. elim h [
-    | inl u ↦ inl (u.0, (reads_good heard t ts).1 u.1)
-    | inr told ↦ elim told [ inl c ↦ inr (inl ((committed t.id heard ts).1 c)) | inr s ↦ inr (inr ((staged t.id heard t.epoch ts).1 s.0, s.1)) ]
-  ],
+-- The transaction was heard to have committed: a view said so, or it is staged there and each of its writes is proved.
+abbrev pub WasHeardSo : List Heard → Txn → ℕ → Type 0
+WasHeardSo heard t ts = WasCommitted heard t.id ts ⊎ (Any (λ h. IsTrue (shows_staging t.id t.epoch ts h)) heard × All (IsProvedBy ts) t.writes)
+
+pub heard_so : (heard : List Heard) (t : Txn) (ts : ℕ) → WasHeardSo (replies_of t.id heard) t ts ↔ WasHeardSo heard t ts
+heard_so heard t ts = (
+  λ h. elim h [ inl c ↦ inl ((committed t.id heard ts).0 c) | inr s ↦ inr ((staged t.id heard t.epoch ts).0 s.0, s.1) ],
+  λ h. elim h [ inl c ↦ inl ((committed t.id heard ts).1 c) | inr s ↦ inr ((staged t.id heard t.epoch ts).1 s.0, s.1) ],
 )

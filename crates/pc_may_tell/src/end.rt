@@ -40,10 +40,10 @@ fn was_own_staging(t: &OwnTxn<'_>, ts: Timestamp, heard: &[Hearing<'_>]) -> bool
 }
 
 /// Whether the transaction has no writes, and its reads are good where it began.
-fn is_unwritten(heard: &[Hearing<'_>], t: &OwnTxn<'_>, ts: Timestamp) -> bool
-    ensures { IsTrue result ↔ (((t.now.anchor ≡ None) × (ts ≡ t.now.begin)) × IsGood heard.now t.now ts) }
+fn is_unwritten<'a>(known: &Knowledge<'a>, t: &OwnTxn<'a>, ts: Timestamp) -> bool
+    ensures { (k : Known) → KeepsKnowledge k known.now → IsTrue result ↔ (((t.now.anchor ≡ None) × (ts ≡ t.now.begin)) × IsGood k.heard t.now ts) }
 {
-    is_without_put(t, ts) && is_good(heard, t, ts)
+    is_without_put(t, ts) && is_good(known, t, ts)
 }
 
 fn is_without_put(t: &OwnTxn<'_>, ts: Timestamp) -> bool
@@ -77,11 +77,17 @@ fn was_heard_to_commit(heard: &[Hearing<'_>], t: &OwnTxn<'_>, ts: Timestamp) -> 
     was_own_committed(heard, t, ts) || is_implicit(heard, t, ts)
 }
 
-/// Whether the transaction is known to have committed at this timestamp.
-fn has_committed(heard: &[Hearing<'_>], t: &OwnTxn<'_>, ts: Timestamp) -> bool
-    ensures { IsTrue result ↔ HasCommitted heard.now t.now ts }
+fn was_heard_so(known: &Knowledge<'_>, t: &OwnTxn<'_>, ts: Timestamp) -> bool
+    ensures { (k : Known) → KeepsKnowledge k known.now → IsTrue result ↔ (WasCommitted k.heard t.now.id ts ⊎ (Any (λ h. IsTrue (shows_staging t.now.id t.now.epoch ts h)) k.heard × All (IsProvedBy ts) t.now.writes)) }
 {
-    is_unwritten(heard, t, ts) || was_heard_to_commit(heard, t, ts)
+    was_heard_to_commit(known.replies(t.id()), t, ts)
+}
+
+/// Whether the transaction is known to have committed at this timestamp.
+fn has_committed<'a>(known: &Knowledge<'a>, t: &OwnTxn<'a>, ts: Timestamp) -> bool
+    ensures { (k : Known) → KeepsKnowledge k known.now → IsTrue result ↔ HasCommitted k.heard t.now ts }
+{
+    is_unwritten(known, t, ts) || was_heard_so(known, t, ts)
 }
 
 pub(crate) fn is_commit_of(call: &Open<'_>, t: &OwnTxn<'_>, id: TxnId) -> bool
@@ -90,16 +96,16 @@ pub(crate) fn is_commit_of(call: &Open<'_>, t: &OwnTxn<'_>, id: TxnId) -> bool
     matches!(call.call, Call::Commit) && id == t.id()
 }
 
-fn is_committed(
+fn is_committed<'a>(
+    known: &Knowledge<'a>,
     call: &Open<'_>,
-    t: &OwnTxn<'_>,
-    heard: &[Hearing<'_>],
+    t: &OwnTxn<'a>,
     id: TxnId,
     ts: Timestamp,
 ) -> bool
-    ensures { IsTrue result ↔ (((call.now.call ≡ Call.Commit) × (id ≡ t.now.id)) × HasCommitted heard.now t.now ts) }
+    ensures { (k : Known) → KeepsKnowledge k known.now → IsTrue result ↔ (((call.now.call ≡ Call.Commit) × (id ≡ t.now.id)) × HasCommitted k.heard t.now ts) }
 {
-    is_commit_of(call, t, id) && has_committed(heard, t, ts)
+    is_commit_of(call, t, id) && has_committed(known, t, ts)
 }
 
 /// Whether the call may be told that the transaction committed at this timestamp.
@@ -113,7 +119,7 @@ pub(crate) fn may_tell_committed(
 {
     match known.open_txn() {
         None => false,
-        Some(t) => is_committed(call, t, known.replies(t.id()), id, ts),
+        Some(t) => is_committed(known, call, t, id, ts),
     }
 }
 

@@ -6,3 +6,4 @@ pub mod Walking
 pub mod ByPlace
 pub mod Indexed
 pub mod Unproved
+pub mod SpansRead

@@ -1,5 +1,5 @@
 -- How the transactions change with an entry of their session.
-use Rattle.std.specs.Prelude.{◌≡◌, ℕ, suc, zero, ◌<◌, ◌≤◌, ◌==◌, if◌then◌else◌, Option, None, Some, List, length, slice_index_or, slice_set}
+use Rattle.std.specs.Prelude.{◌≡◌, ℕ, suc, ◌<◌, ◌==◌, if◌then◌else◌, Option, None, Some, List, length, slice_index_or, slice_set}
 use Rattle.std.specs.Option.{option_or}
 use Rattle.pc_proto.specs.declared.request.Request.{Request}
 use Rattle.pc_proto.specs.declared.request.Request.TheVariants as requests

@@ -3,3 +3,4 @@ pub mod Changes
 pub mod Numbered
 pub mod Places
 pub mod Flying
+pub mod ReadSpans

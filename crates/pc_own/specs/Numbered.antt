@@ -1,5 +1,5 @@
 -- Transactions by number.
-use Rattle.std.specs.Prelude.{◌≡◌, ℕ, ◌+◌, List, [], ◌∷◌, length, ⊤}
+use Rattle.std.specs.Prelude.{◌≡◌, ◌+◌, List, [], ◌∷◌, length, ⊤}
 use Rattle.pc_world.specs.Known.Transactions.{Txn}
 
 -- The transactions, the last one begun standing first, are numbered by their begins from 1.

@@ -4,6 +4,6 @@ use Rattle.pc_world.specs.Send.Stage.{IsPassed}
 use Rattle.pc_world.specs.StageFate.{EachCommit, EachStage, WasCommitRefused}
 
 pub returns : goal.returns
-returns c =
+returns c k keeps =
     rw (← c.stage.view_is)
-    (subst (λ id. IsTrue c.is_way_free.result ↔ (EachStage id c.args.sent.now (IsPassed c.args.heard.now c.stage.inside.ts) × EachCommit id c.args.sent.now (WasCommitRefused c.args.heard.now))) c.id.ensures c.is_way_free.ensures)
+    (subst (λ id. IsTrue c.is_way_free_now.result ↔ (EachStage id k.sent (IsPassed k.heard c.stage.inside.ts) × EachCommit id k.sent (WasCommitRefused k.heard))) c.id.ensures (c.is_way_free_now.ensures k keeps))

@@ -1,4 +1,4 @@
-use Rattle.std.proofs.Common.{◌≡◌, ◌&&◌, true, cond, ap, ◌∙◌}
+use Rattle.std.proofs.Common.{◌&&◌, true, cond, ap, ◌∙◌}
 use Rattle.std.specs.BTreeSet.{contains}
 use Rattle.pc_base.specs.Span.{same_key}
 use Rattle.pc_base.specs.Transaction.{same_txn}

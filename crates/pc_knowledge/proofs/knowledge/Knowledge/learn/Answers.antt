@@ -34,5 +34,6 @@ returns c k keeps next =
       txns = txns;
       numbered = many.0;
       counted = many.1;
+      good = c.good_after-self.ensures k (heard_by event named k.sent) top high keeps.files keeps.txns keeps.good;
     })
     (c.learn-4.ensures k keeps.calls)
