@@ -1,4 +1,5 @@
 pub mod Narrow
 pub mod Views
 pub mod Noting
+pub mod StaysUncommitted
 pub mod Ways

@@ -9,6 +9,7 @@ use Rattle.pc_files.specs.declared.files.Files.{Files}
 use Rattle.pc_files.specs.FirstPuts.{AreFirstPuts}
 use Rattle.pc_files.specs.RefreshedSpans.{AreRefreshedSpans}
 use Rattle.pc_files.specs.SettledKeys.{AreSettledKeys}
+use Rattle.pc_files.specs.Uncommitted.{AreUncommitted}
 use Rattle.pc_proto.specs.declared.request.Request.{Request}
 use Rattle.pc_proto.specs.declared.request.Request.TheVariants as requests
 use Rattle.pc_proto.specs.Replies.{view_in}
@@ -87,8 +88,8 @@ AreFiledReplies heard f = (id : TxnId) → filed_under id f ≡ replies_of id he
 abbrev pub AreFiledViews : List Heard → Filed Heard → Type 0
 AreFiledViews heard f = (id : TxnId) → filed_under id f ≡ views_of id heard
 
--- All stages, commits and replies of the actor are filed, and its first puts, the keys that were settled and the spans that were
--- refreshed are noted.
+-- All stages, commits and replies of the actor are filed, and its first puts, the keys that were settled, the spans that were refreshed
+-- and the transactions whose stages are known to be dead are noted.
 pub record KeepsFiles (k : Known) (x : Files) : Type 0 where
   pub deciding : AreFiledSends k.sent x.deciding
   pub firsts : AreFirstPuts k.sent x.firsts
@@ -96,3 +97,4 @@ pub record KeepsFiles (k : Known) (x : Files) : Type 0 where
   pub views : AreFiledViews k.heard x.views
   pub settled : AreSettledKeys k.heard x.settled
   pub refreshed : AreRefreshedSpans k.heard x.refreshed
+  pub uncommitted : AreUncommitted k.sent k.heard x.uncommitted

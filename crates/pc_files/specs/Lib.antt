@@ -3,3 +3,4 @@ pub mod Filing
 pub mod FirstPuts
 pub mod RefreshedSpans
 pub mod SettledKeys
+pub mod Uncommitted

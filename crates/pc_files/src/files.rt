@@ -15,6 +15,7 @@ use crate::firsts::Firsts;
 use crate::named::{decided_by, txn_named, txn_viewed};
 use crate::refreshed::RefreshedSpans;
 use crate::settled_keys::SettledKeys;
+use crate::uncommitted::Uncommitted;
 use pc_base::{Key, NoMemory, Timestamp, TxnId};
 use pc_known::fate::is_uncommitted;
 use pc_known::{Hearing, Message, Part};
@@ -36,6 +37,8 @@ pub struct Files<'a> {
     settled: SettledKeys<'a>,
     /// How far each span was refreshed, by transaction.
     refreshed: RefreshedSpans<'a>,
+    /// The transactions whose stages are known to be dead.
+    uncommitted: Uncommitted,
 }
 
 impl<'a> Files<'a> {
@@ -50,6 +53,7 @@ impl<'a> Files<'a> {
             views: Filed::new(alloc),
             settled: SettledKeys::new(alloc),
             refreshed: RefreshedSpans::new(alloc),
+            uncommitted: Uncommitted::new(alloc),
         }
     }
 
@@ -92,7 +96,7 @@ impl<'a> Files<'a> {
     pub fn is_uncommitted(&self, id: TxnId) -> bool
         ensures { (k : Known) → KeepsFiles k self.now → IsTrue result ↔ IsUncommitted id k.sent k.heard }
     {
-        is_uncommitted(id, self.deciding(id), self.replies(id))
+        self.uncommitted.has(id) || is_uncommitted(id, self.deciding(id), self.replies(id))
     }
 
     /// Whether a read of the span that was made at `ts` is good up to `to`, by refreshes of that very span.
@@ -106,6 +110,8 @@ impl<'a> Files<'a> {
     pub fn learn(&mut self, event: &'a Event, heard: Option<&Hearing<'a>>) -> Result<(), NoMemory>
         ensures { (k : Known) (top high : ℕ) → KeepsFiles k self.old → OnOk result (KeepsFiles (known_after event.now (option_copied heard.entry) top high k) self.new) }
     {
+        self.uncommitted
+            .learn(&self.deciding, &self.replies, &self.firsts, event)?;
         file_sent(&mut self.deciding, event)?;
         self.firsts.learn(event)?;
         self.settled.learn(heard)?;

@@ -7,6 +7,7 @@ mod firsts;
 mod named;
 mod refreshed;
 mod settled_keys;
+mod uncommitted;
 
 pub use filed::Filed;
 pub use files::Files;
@@ -14,3 +15,4 @@ pub use firsts::Firsts;
 pub use named::put_by;
 pub use refreshed::RefreshedSpans;
 pub use settled_keys::SettledKeys;
+pub use uncommitted::Uncommitted;
