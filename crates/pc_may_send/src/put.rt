@@ -68,13 +68,29 @@ fn is_again(t: &OwnTxn<'_>, write: &OwnWrite<'_>, put: &Put<'_>) -> bool
         && (number(put.ts) == t.write_ts() || write.was_asked_at(put.ts))
 }
 
-fn is_any_again(t: &OwnTxn<'_>, put: &Put<'_>) -> bool
+/// Whether it is so of the write of this sequence.
+fn is_own_again(t: &OwnTxn<'_>, put: &Put<'_>) -> bool
+    ensures { IsTrue result → IsAnySentAgain t.now put.now.seq put.now.ts put.now.key.now (option_copied put.now.value) }
+{
+    match t.writes().of(put.seq) {
+        Some(write) => is_again(t, write, put),
+        None => false,
+    }
+}
+
+fn is_some_again(t: &OwnTxn<'_>, put: &Put<'_>) -> bool
     ensures { IsTrue result ↔ IsAnySentAgain t.now put.now.seq put.now.ts put.now.key.now (option_copied put.now.value) }
 {
     t.writes()
         .as_slice()
         .iter()
         .any(|write| is_again(t, write, put))
+}
+
+fn is_any_again(t: &OwnTxn<'_>, put: &Put<'_>) -> bool
+    ensures { IsTrue result ↔ IsAnySentAgain t.now put.now.seq put.now.ts put.now.key.now (option_copied put.now.value) }
+{
+    is_own_again(t, put) || is_some_again(t, put)
 }
 
 /// Whether the meta is the transaction's, and the put sends one of its writes again.

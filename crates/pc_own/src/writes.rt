@@ -1,4 +1,4 @@
-ghost use Rattle.std.specs.Prelude.{◌≡◌, ◌↔◌, ◌<◌, ◌∷◌, ◌++◌, [], All, IsTrue, None, OnErr, OnOk, Some, false, length, map, slice_index_or, slice_set};
+ghost use Rattle.std.specs.Prelude.{◌≡◌, ◌↔◌, ◌<◌, ◌∷◌, ◌++◌, [], All, Contains, IsTrue, None, OnErr, OnOk, Some, false, length, map, slice_index_or, slice_set};
 ghost use Rattle.std.specs.Option.{option_copied};
 ghost use Rattle.pc_base.specs.Span.{same_key};
 ghost use Rattle.pc_known.specs.Parts.{part_span};
@@ -59,6 +59,16 @@ impl<'a> Writes<'a> {
         ensures { result ≡ last_seq_of self.now }
     {
         self.places.last
+    }
+
+    /// The write of this sequence, if there is one.
+    pub fn of(&self, seq: u32) -> Option<&OwnWrite<'a>>
+        ensures { (w : Write) → option_copied result ≡ Some w → Contains self.now w }
+    {
+        match self.places.place(seq) {
+            Some(place) => self.writes.get(place),
+            None => None,
+        }
     }
 
     pub(crate) fn clear(&mut self)
