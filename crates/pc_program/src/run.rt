@@ -5,7 +5,7 @@ ghost use Rattle.pc_io.specs.Reading.{HasNoneLeft, TakesAtMost, TakesExactly};
 ghost use Rattle.pc_program.specs.Causes.{HasBegunWriting, HasWritten, HasWrittenOf, IfDone, IfRead, IfRefused, IfWriteFault, IsAfterReading, IsFront, IsOfRun, IsWhole, UnlessWriteFault, UnlessWriting};
 ghost use Rattle.pc_work.specs.Accepted.{IsAccepted};
 ghost use Rattle.pc_work.specs.Workload.{IsJson, IsNumberOf, accepted_in};
-ghost use Rattle.pc_work.specs.declared.refusal.TheConstants.{NOT_BUILT, NO_JSON};
+ghost use Rattle.pc_work.specs.declared.refusal.TheConstants.{NOBODY_THERE, NO_JSON};
 
 use crate::output::output;
 use crate::status::Status;
@@ -50,7 +50,7 @@ where
         (result ≡ Status.Workload number) ↔ IsNumberOf bytes number)) }
     ensures accepted { IfRead result (IfSome (S.left source.old) (λ bytes.
         HasBegunWriting result ↔ (IsJson bytes × IsSome (accepted_in bytes)))) }
-    ensures numbers { IfRefused result (λ number. (NO_JSON ≤ number) × (number ≤ NOT_BUILT)) }
+    ensures numbers { IfRefused result (λ number. (NO_JSON ≤ number) × (number ≤ NOBODY_THERE)) }
 
     // Done is the whole output behind what the sink had taken; a write fault is a part of it. Else nothing was written.
     ensures done { IfDone result (HasWritten (M.rules clocks.old) (S.left source.old) (K.taken sink.old) (K.taken sink.new) IsWhole) }
@@ -86,7 +86,7 @@ where
     ensures write_fault { IfWriteFault result (λ written. K.faults sink.new ≡ saturating_next (K.faults sink.old)) }
     ensures write_count { UnlessWriteFault result (K.faults sink.new ≡ K.faults sink.old) }
     ensures unwritten { UnlessWriting result (sink.new ≡ sink.old) }
-    ensures numbers { IfRefused result (λ number. (NO_JSON ≤ number) × (number ≤ NOT_BUILT)) }
+    ensures numbers { IfRefused result (λ number. (NO_JSON ≤ number) × (number ≤ NOBODY_THERE)) }
     ensures kind { IsAfterReading result }
 {
     match Workload::read(alloc, bytes) {

@@ -11,6 +11,14 @@ is_losing (verdicts.Hold later) = true
 is_losing verdicts.Deliver = false
 is_losing (verdicts.Repeat later) = false
 
+-- The message, or a copy of it, is evaluated late.
+abbrev pub is_late : Verdict → Bool
+is_late (verdicts.Repeat later) = true
+is_late (verdicts.Hold later) = true
+is_late verdicts.Deliver = false
+is_late verdicts.LoseRequest = false
+is_late verdicts.LoseReply = false
+
 -- A count of faults after one more verdict; it stands still at the greatest `u64`.
 abbrev pub faults_after : Verdict → ℕ → ℕ
 faults_after verdict faults = cond (is_losing verdict) (min (faults + 1) (2 ^ 64 - 1)) faults

@@ -23,8 +23,9 @@ pub trait Wire {
 pub(crate) fn count_after(verdict: Verdict, faults: u64) -> u64
     ensures { result ≡ faults_after verdict faults }
 {
-    match verdict {
-        Verdict::LoseRequest | Verdict::LoseReply | Verdict::Hold(_) => faults.saturating_add(1),
-        Verdict::Deliver | Verdict::Repeat(_) => faults,
+    if verdict.is_losing() {
+        faults.saturating_add(1)
+    } else {
+        faults
     }
 }

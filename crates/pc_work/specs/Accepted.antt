@@ -9,13 +9,21 @@ use Rattle.pc_work.specs.Stop.{IsStop}
 use Rattle.pc_work.specs.Together.{first_items}
 use Rattle.pc_work.specs.declared.item.Item.{Item}
 use Rattle.pc_work.specs.declared.item.Item.TheVariants.{Learn, Txn}
-use Rattle.pc_work.specs.declared.limits.TheConstants.{MOST_TRIES}
+use Rattle.pc_work.specs.declared.limits.TheConstants.{MOST_SENDS, MOST_TRIES}
 use Rattle.pc_work.specs.declared.session.SessionWork.{SessionWork}
+use Rattle.pc_work.specs.declared.wire.WireWork.{WireWork}
+use Rattle.pc_work.specs.declared.wire.WireWork.TheVariants as wires
 use Rattle.pc_work.specs.declared.workload.Workload.{Workload}
 
 -- Where the session stops, it does so at an entry that there may be.
 abbrev pub StopsWithin : SessionWork → Type 0
 StopsWithin session = IsStop session.stop
+
+-- A wire that has a verdict for each so many messages has a period.
+abbrev pub IsWireWithin : WireWork → Type 0
+IsWireWithin wires.Quiet = ⊤
+IsWireWithin (wires.Listed list) = ⊤
+IsWireWithin (wires.Periodic period verdict) = (1 ≤ period) × (period ≤ MOST_SENDS)
 
 -- Each learn of the session's script names one of so many sessions.
 abbrev pub HasItemsOf : ℕ → SessionWork → Type 0
@@ -54,6 +62,10 @@ pub record IsAccepted (work : Workload) : Type 0 where
   pub sessions : All (HasItemsOf (length work.sessions)) work.sessions
   -- Each session that stops does so at an entry that there may be.
   pub stops : All StopsWithin work.sessions
+  -- Each wire has a period, where its verdict comes again.
+  pub wires : All (λ session. IsWireWithin session.wire) work.sessions
+  -- So has that of each recoverer.
+  pub recoverer_wires : All (λ recoverer. IsWireWithin recoverer.wire) work.recoverers
   -- Where no turns are stated, nothing is learnt.
   pub learns : work.turns ≡ None → All HasTransactions work.sessions
   -- The statements of all sessions are no more than their limit.

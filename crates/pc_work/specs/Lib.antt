@@ -31,4 +31,5 @@ pub mod Stop
 pub mod Texts
 pub mod Together
 pub mod Turn
+pub mod Wire
 pub mod Workload

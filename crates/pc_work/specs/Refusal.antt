@@ -4,7 +4,7 @@ use Rattle.std.specs.Prelude.{ℕ, min, suc, Bool, true, false, ◌&&◌, nat_le
 use Rattle.serde_json.specs.Data.{Data, Items, no_items, item}
 use Rattle.serde_json.specs.Find.{as_array, get}
 use Rattle.pc_work.specs.Members.{whole_of}
-use Rattle.pc_work.specs.declared.refusal.TheConstants.{NOT_BUILT, OTHER_FORM, WRONG_COUNT, WRONG_NUMBER}
+use Rattle.pc_work.specs.declared.refusal.TheConstants.{OTHER_FORM, WRONG_COUNT, WRONG_NUMBER}
 
 -- The less of two numbers; where only one is there, that one.
 abbrev pub least : Option ℕ → Option ℕ → Option ℕ
@@ -16,11 +16,6 @@ least (Some number) (Some other) = Some (min number other)
 abbrev pub unless : Bool → ℕ → Option ℕ
 unless true number = None
 unless false number = Some number
-
--- No rule is broken but that of what is not built yet, which has the greatest number.
-abbrev pub is_right : Option ℕ → Bool
-is_right None = true
-is_right (Some number) = nat_le NOT_BUILT number
 
 -- What was found as it is judged; where nothing was found, the form is another one.
 abbrev pub judged : {X : Type 0} → (X → Option ℕ) → Option X → Option ℕ

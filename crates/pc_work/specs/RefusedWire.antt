@@ -1,5 +1,4 @@
--- Which rule a wire breaks: what becomes of the messages of a session or a recoverer. A wire that breaks no other rule has the
--- greatest number, since messages that are lost, held or repeated are not built yet.
+-- Which rule a wire breaks: what becomes of the messages of a session or a recoverer.
 use Rattle.std.specs.Prelude.{ℕ, Bool, false, ◌||◌, List, [], ◌∷◌, Option, Some, None, codes, if◌then◌else◌}
 use Rattle.std.specs.Str.{bytes_eq}
 use Rattle.serde_json.specs.Data.{Data}
@@ -7,7 +6,8 @@ use Rattle.serde_json.specs.Find.{as_str}
 use Rattle.pc_work.specs.Members.{has_only}
 use Rattle.pc_work.specs.Refusal.{in_list, in_member, least, number_refusal}
 use Rattle.pc_work.specs.declared.limits.TheConstants.{MOST_SENDS}
-use Rattle.pc_work.specs.declared.refusal.TheConstants.{NOT_BUILT, OTHER_FORM}
+use Rattle.pc_work.specs.Wire.{period_names}
+use Rattle.pc_work.specs.declared.refusal.TheConstants.{OTHER_FORM}
 
 -- The text names a verdict that has no number: a message is delivered, or it or its reply is lost.
 abbrev pub names_verdict : Option (List ℕ) → Bool
@@ -22,18 +22,10 @@ verdict_refusal value =
     else (if has_only (codes "hold" ∷ []) value then in_member (number_refusal 1 MOST_SENDS) (codes "hold") value
     else Some OTHER_FORM))
 
--- The names of the members of a wire that has one verdict for each so many messages.
-abbrev pub period_names : List (List ℕ)
-period_names = codes "period" ∷ codes "verdict" ∷ []
-
 -- The form and the numbers of a wire: verdicts in a list, or one verdict and its period.
-unfoldable pub verdicts_refusal : Data → Option ℕ
-verdicts_refusal value =
+unfoldable pub wire_refusal : Data → Option ℕ
+wire_refusal value =
     if has_only (codes "list" ∷ []) value then in_member (in_list verdict_refusal) (codes "list") value
     else (if has_only period_names value
     then least (in_member (number_refusal 1 MOST_SENDS) (codes "period") value) (in_member verdict_refusal (codes "verdict") value)
     else Some OTHER_FORM)
-
--- A wire.
-abbrev pub wire_refusal : Data → Option ℕ
-wire_refusal value = least (verdicts_refusal value) (Some NOT_BUILT)

@@ -4,7 +4,7 @@ use Rattle.std.specs.Prelude.{◌≡◌, ℕ, ◌⊎◌, List, Option, Some, Non
 use Rattle.serde_json.specs.Data.{Data}
 use Rattle.serde_json.specs.Read.{read}
 use Rattle.pc_work.specs.Reading.{◌>>=◌}
-use Rattle.pc_work.specs.Refusal.{is_right, judged_if, least}
+use Rattle.pc_work.specs.Refusal.{judged_if}
 use Rattle.pc_work.specs.RefusedWork.{parts_refusal}
 use Rattle.pc_work.specs.Stated.{stated_of}
 use Rattle.pc_work.specs.Together.{together_refusal}
@@ -16,9 +16,7 @@ use Rattle.pc_work.specs.declared.workload.Workload.{Workload}
 
 -- The number of a value's refusal, the least that applies: what its parts break, and where they are right what they break together.
 unfoldable pub refusal_of : Data → Option ℕ
-refusal_of value = if is_right (parts_refusal value)
-    then least (parts_refusal value) (judged_if together_refusal (stated_of value))
-    else parts_refusal value
+refusal_of value = if is_none (parts_refusal value) then judged_if together_refusal (stated_of value) else parts_refusal value
 
 -- The workload of these parts.
 abbrev pub work_of : Stated → Workload

@@ -35,4 +35,5 @@ pub use recoverer::{RecovererWork, Recoverers};
 pub use session::{SessionWork, Sessions};
 pub use statement::{Statement, Statements};
 pub use turn::{Turn, Turns};
+pub use wire::{Verdicts, WireWork};
 pub use workload::Workload;

@@ -12,13 +12,13 @@ use crate::judge::{Judged, in_number, in_stated};
 use crate::priority::priority_or_normal;
 use crate::refusal::{OTHER_FORM, least};
 use crate::stop::stop_if;
-use crate::wire::Wire;
+use crate::wire::{WireWork, wire_or_quiet};
 use pc_base::limits::{DEFAULT_ROUNDS, MOST_ENTRIES, MOST_ROUNDS};
 use pc_base::{Items, Priority};
 use serde_json::Value as Json;
 use std::alloc::Global;
 
-/// What one recoverer does, how it tells the time, and where it stops.
+/// What one recoverer does, how it tells the time, what becomes of its messages, and where it stops.
 #[derive(Debug, PartialEq, Eq, Drop)]
 pub struct RecovererWork {
     /// The level at which it pushes.
@@ -27,6 +27,7 @@ pub struct RecovererWork {
     pub rounds: u32,
     /// Where there is none, the clock that the caller hands in.
     pub clock: Option<ClockWork>,
+    pub wire: WireWork,
     /// After how many entries of its own it stops. Where there is none, it makes all its rounds.
     pub stop: Option<u64>,
 }
@@ -38,18 +39,20 @@ impl FromJson for RecovererWork {
     ghost found_in = { recoverer_of };
 
     #[tactic(auto, unfolding(crate::specs::Recoverer::recoverer_of))]
-    fn from_json(_alloc: Global, json: &Json) -> Result<RecovererWork, Misfit> {
+    fn from_json(alloc: Global, json: &Json) -> Result<RecovererWork, Misfit> {
         if !has_only(json, &["clock", "level", "rounds", "stop", "wire"]) {
             return Err(Misfit::OtherForm);
         }
         let clock = clock_if(json, "clock")?;
         let level = priority_or_normal(json, "level")?;
         let rounds = rounds_or_one(json, "rounds")?;
+        let wire = wire_or_quiet(alloc, json, "wire")?;
         let stop = stop_if(json, "stop")?;
         Ok(RecovererWork {
             level,
             rounds,
             clock,
+            wire,
             stop,
         })
     }
@@ -76,7 +79,7 @@ impl Judged for RecovererWork {
         let clock = in_stated::<ClockWork>(json, "clock");
         let level = in_stated::<Priority>(json, "level");
         let rounds = in_number(json, "rounds", 0, u64::from(MOST_ROUNDS));
-        let wire = in_stated::<Wire>(json, "wire");
+        let wire = in_stated::<WireWork>(json, "wire");
         let stop = in_number(json, "stop", 1, MOST_ENTRIES);
         least(clock, least(level, least(rounds, least(wire, stop))))
     }

@@ -29,9 +29,6 @@ pub const MANY_STATEMENTS: u8 = 8;
 /// A turn or a learn names one that isn't there, or a learn stands where no turns are stated.
 pub const NOBODY_THERE: u8 = 9;
 
-/// A wire is stated: messages that are lost, held or repeated are not built yet.
-pub const NOT_BUILT: u8 = 10;
-
 /// The less of two numbers; where only one is there, that one.
 pub(crate) fn least(one: Option<u8>, other: Option<u8>) -> Option<u8>
     ensures { result ≡ least one other }

@@ -8,18 +8,19 @@ use crate::json::{FromJson, has_only, list, member};
 use crate::judge::{Judged, in_member, in_number, in_stated};
 use crate::refusal::{OTHER_FORM, least};
 use crate::stop::stop_if;
-use crate::wire::Wire;
+use crate::wire::{WireWork, wire_or_quiet};
 use pc_base::Items;
 use pc_base::limits::MOST_ENTRIES;
 use serde_json::Value as Json;
 use std::alloc::Global;
 
-/// What one session does, how it tells the time, and where it stops.
+/// What one session does, how it tells the time, what becomes of its messages, and where it stops.
 #[derive(Debug, PartialEq, Eq, Drop)]
 pub struct SessionWork {
     pub script: Script,
     /// Where there is none, the clock that the caller hands in.
     pub clock: Option<ClockWork>,
+    pub wire: WireWork,
     /// After how many entries of its own it stops. Where there is none, it goes on to the end of its script.
     pub stop: Option<u64>,
 }
@@ -36,11 +37,13 @@ impl FromJson for SessionWork {
             return Err(Misfit::OtherForm);
         }
         let clock = clock_if(json, "clock")?;
+        let wire = wire_or_quiet(alloc, json, "wire")?;
         let stop = stop_if(json, "stop")?;
         let script: Script = list(alloc, member(json, "script")?)?;
         Ok(SessionWork {
             script,
             clock,
+            wire,
             stop,
         })
     }
@@ -56,7 +59,7 @@ impl Judged for SessionWork {
         }
         let clock = in_stated::<ClockWork>(json, "clock");
         let stop = in_number(json, "stop", 1, MOST_ENTRIES);
-        let wire = in_stated::<Wire>(json, "wire");
+        let wire = in_stated::<WireWork>(json, "wire");
         let script = in_member::<Script>(json, "script");
         least(clock, least(stop, least(wire, script)))
     }

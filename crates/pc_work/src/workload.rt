@@ -2,16 +2,15 @@ ghost use Rattle.std.specs.Prelude.{◌≡◌, ◌≤◌, ◌↔◌, ℕ, true, 
 ghost use Rattle.serde_json.specs.View.{view};
 ghost use Rattle.pc_work.specs.Accepted.{IsAccepted};
 ghost use Rattle.pc_work.specs.Answered.{AnswersValue};
-ghost use Rattle.pc_work.specs.Refusal.{is_right};
 ghost use Rattle.pc_work.specs.RefusedWork.{parts_refusal};
 ghost use Rattle.pc_work.specs.Together.{together_refusal};
-ghost use Rattle.pc_work.specs.declared.refusal.TheConstants.{NO_JSON, NOT_BUILT};
+ghost use Rattle.pc_work.specs.declared.refusal.TheConstants.{NO_JSON, NOBODY_THERE};
 ghost use Rattle.pc_work.specs.Workload.{work_of, IsJson, IsNumberOf, UnlessMemory, accepted_in};
 
 use crate::fault::{Misfit, WorkFault};
 use crate::parts::parts_refusal;
 use crate::recoverer::Recoverers;
-use crate::refusal::{NO_JSON, NOT_BUILT, least};
+use crate::refusal::NO_JSON;
 use crate::session::Sessions;
 use crate::stated::{Stated, stated_of};
 use crate::together::together_refusal;
@@ -52,7 +51,7 @@ impl Workload {
 
         // Each number is answered exactly where it is that of the refusal: the least that applies.
         ensures no_json { UnlessMemory result (IsErrOf result (WorkFault.Refused 1) ↔ ¬ (IsJson bytes.now)) }
-        ensures numbers { (number : ℕ) → result ≡ Err (WorkFault.Refused number) → (NO_JSON ≤ number) × (number ≤ NOT_BUILT) }
+        ensures numbers { (number : ℕ) → result ≡ Err (WorkFault.Refused number) → (NO_JSON ≤ number) × (number ≤ NOBODY_THERE) }
         ensures refused { (number : ℕ) → UnlessMemory result (IsErrOf result (WorkFault.Refused number) ↔ IsNumberOf bytes.now number) }
     {
         match Json::from_slice(alloc, bytes) {
@@ -71,15 +70,14 @@ fn accepted(alloc: Global, json: &Json) -> Result<Workload, WorkFault>
         return Err(WorkFault::NoMemory);
     };
     match parts {
-        Some(number) if number < NOT_BUILT => Err(WorkFault::Refused { number }),
-        _ => together(alloc, json, parts),
+        Some(number) => Err(WorkFault::Refused { number }),
+        None => together(alloc, json),
     }
 }
 
-/// The same, where the parts are right, and this is what they break.
-fn together(alloc: Global, json: &Json, parts: Option<u8>) -> Result<Workload, WorkFault>
-    requires parts { parts ≡ parts_refusal (view json.now) }
-    requires right { is_right parts ≡ true }
+/// The same, where the parts break no rule.
+fn together(alloc: Global, json: &Json) -> Result<Workload, WorkFault>
+    requires { parts_refusal (view json.now) ≡ None }
     ensures { AnswersValue result (view json.now) }
 {
     let stated = match stated_of(alloc, json) {
@@ -87,7 +85,7 @@ fn together(alloc: Global, json: &Json, parts: Option<u8>) -> Result<Workload, W
         Err(Misfit::OtherForm) => unreachable!(),
         Err(Misfit::NoMemory) => return Err(WorkFault::NoMemory),
     };
-    match least(parts, together_refusal(&stated)) {
+    match together_refusal(&stated) {
         Some(number) => Err(WorkFault::Refused { number }),
         None => Ok(work_of(stated)),
     }
