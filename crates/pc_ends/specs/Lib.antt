@@ -1,3 +1,4 @@
 -- Both ends of a workload's run.
 pub mod SessionClock
+pub mod SessionWire
 pub mod Finishing

@@ -13,6 +13,7 @@ ghost use Rattle.pc_work.specs.declared.recoverer.RecovererWork.{RecovererWork a
 ghost use Rattle.pc_work.specs.declared.session.SessionWork.{SessionWork as Work};
 
 use crate::session_clock::{SessionClock, clock_for};
+use crate::session_wire::{SessionWire, wire_for};
 use pc_base::{ActorId, NoMemory, TryCopy};
 use pc_clock::Clocks;
 use pc_closing::{Opened, open};
@@ -22,15 +23,14 @@ use pc_recoverer::Recoverer;
 use pc_rounds::CountedRecoverer;
 use pc_scripted::Scripted;
 use pc_session::Session;
-use pc_wire::Quiet;
 use pc_work::Workload;
 use std::alloc::Global;
 
-/// A session of a workload with its script, over a quiet wire.
-pub type Runner<'a, N, C, G> = Scripted<'a, N, SessionClock<C>, Quiet, G>;
+/// A session of a workload with its script.
+pub type Runner<'a, N, C, G> = Scripted<'a, N, SessionClock<C>, SessionWire, G>;
 
-/// A recoverer of a workload with its rounds, over a quiet wire.
-pub type RoundRunner<'a, N, C, G> = CountedRecoverer<'a, N, SessionClock<C>, Quiet, G>;
+/// A recoverer of a workload with its rounds.
+pub type RoundRunner<'a, N, C, G> = CountedRecoverer<'a, N, SessionClock<C>, SessionWire, G>;
 
 /// The table of the workload's history.
 pub fn blank_of(alloc: Global, work: &Workload) -> Result<Blank<CommitWorld>, NoMemory>
@@ -119,6 +119,7 @@ where
 {
     let stated = &work.sessions.as_slice()[index];
     let number = index as u32 + 1;
+    let wire = wire_for(alloc, &stated.wire)?;
     let clock = clock_for(clocks, stated.clock, ActorId::Session(number));
     let session = Session::new(
         alloc,
@@ -126,7 +127,7 @@ where
         actor,
         ranges,
         clock,
-        Quiet::new(),
+        wire,
         work.tries,
         work.pipelining,
         work.turns.is_none(),
@@ -155,7 +156,7 @@ where
 {
     let mut recoverers = Vec::new(alloc);
     for actor in actors {
-        let recoverer = begin_recoverer(alloc, work, clocks, ranges, actor, recoverers.len());
+        let recoverer = begin_recoverer(alloc, work, clocks, ranges, actor, recoverers.len())?;
         recoverers.push(recoverer)?;
     }
     Ok(recoverers)
@@ -169,7 +170,7 @@ fn begin_recoverer<'a, N: Named<CommitWorld>, M: Clocks, G: Gate>(
     ranges: &'a Ranges<'a, N, G>,
     actor: Actor<CommitWorld, N>,
     index: usize,
-) -> RoundRunner<'a, N, M::Clock, G>
+) -> Result<RoundRunner<'a, N, M::Clock, G>, NoMemory>
 where
     M::Clock: Drop,
     requires accepted { IsAccepted work.now }
@@ -177,14 +178,15 @@ where
     requires ranges { ranges.now ≡ record { splits = work.now.splits; limit = work.now.limit } }
     requires world { actor.world ≡ head_in_work work.now }
     requires part { actor.part ≡ newcomer (actors.Recoverer (index + 1)) }
-    ensures recoverer { IsRecovererIn work.now index result }
-    ensures fresh { entries_made result ≡ [] }
-    ensures clock { (recoverer : RoundWork) → slice_get work.now.recoverers index ≡ Some recoverer →
-        session_rule M.Clock.rule result.recoverer.desk.log.clock ≡ clock_rule recoverer.clock (M.rules clocks.old (actors.Recoverer (index + 1))) }
+    ensures recoverer { IfOk result (IsRecovererIn work.now index) }
+    ensures fresh { IfOk result (λ r. entries_made r ≡ []) }
+    ensures clock { IfOk result (λ r. (recoverer : RoundWork) → slice_get work.now.recoverers index ≡ Some recoverer →
+        session_rule M.Clock.rule r.recoverer.desk.log.clock ≡ clock_rule recoverer.clock (M.rules clocks.old (actors.Recoverer (index + 1)))) }
     ensures kept { M.rules clocks.new ≡ M.rules clocks.old }
 {
     let asked = &work.recoverers.as_slice()[index];
     let number = index as u32 + 1;
+    let wire = wire_for(alloc, &asked.wire)?;
     let clock = clock_for(clocks, asked.clock, ActorId::Recoverer(number));
     let recoverer = Recoverer::new(
         alloc,
@@ -192,10 +194,11 @@ where
         actor,
         ranges,
         clock,
-        Quiet::new(),
+        wire,
+        work.tries,
         asked.level,
         work.limit,
         asked.stop,
     );
-    CountedRecoverer::new(recoverer, asked.rounds)
+    Ok(CountedRecoverer::new(recoverer, asked.rounds))
 }

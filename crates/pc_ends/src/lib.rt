@@ -5,7 +5,9 @@
 mod beginning;
 mod ending;
 mod session_clock;
+mod session_wire;
 
 pub use beginning::{RoundRunner, Runner, begin, begin_recoverers, blank_of, open_work};
 pub use ending::finish;
 pub use session_clock::SessionClock;
+pub use session_wire::SessionWire;
