@@ -2,7 +2,7 @@ ghost use Rattle.std.specs.Prelude.{◌≡◌, ◌++◌, ◌∷◌, [], All, IfO
 ghost use Rattle.pc_closing.specs.Closing.{IsClosedOver};
 ghost use Rattle.pc_closing.specs.Leaving.{AreLeavers, HasSettledAll, MayLeave};
 ghost use Rattle.pc_closing.specs.Opening.{opener_of};
-ghost use Rattle.pc_desk.specs.Desk.{IsReadyToGo};
+ghost use Rattle.pc_desk.specs.Rest.{IsReadyLeft};
 ghost use Rattle.pc_history.specs.declared.view.Part.{Part};
 ghost use Rattle.pc_history.specs.Parts.{told};
 ghost use Rattle.pc_proto.specs.declared.event.Event.{Event as Made};
@@ -44,7 +44,7 @@ fn leave<N: Named<CommitWorld>, G: Gate, R: Wait>(
     ranges: &Ranges<'_, N, G>,
     leaver: Leaver<N>,
 ) -> Result<(), NoMemory>
-    requires ready { All (IsReadyToGo leaver.0.part.id ranges.now.splits) leaver.1 }
+    requires ready { All (IsReadyLeft leaver.0.part.id ranges.now.splits) leaver.1 }
     requires may { MayLeave ranges.now.limit leaver.0.part leaver.1 }
     ensures left { OnOk result ((part : Part Made) × HasSettledAll ranges.now.limit leaver.0.part part × (opener.new ≡ record opener.old { parts = opener.old.parts ++ part ∷ []; whole = opener.new.whole })) }
 {
@@ -61,7 +61,7 @@ fn deliver<N: Named<CommitWorld>, G: Gate, R: Wait>(
     actor: &mut Actor<CommitWorld, N>,
     rest: Rest<N>,
 ) -> Result<(), NoMemory>
-    requires ready { All (IsReadyToGo actor.old.part.id ranges.now.splits) rest }
+    requires ready { All (IsReadyLeft actor.old.part.id ranges.now.splits) rest }
     requires may { MayLeave ranges.now.limit actor.old.part rest }
     ensures { OnOk result (HasSettledAll ranges.now.limit actor.old.part actor.new.part) }
 {

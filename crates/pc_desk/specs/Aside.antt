@@ -1,11 +1,13 @@
 -- Messages that were set aside: they are sent, and are delivered once a wave waits for them, or as strays. Own profile.
-use Rattle.std.specs.Prelude.{◌≡◌, ℕ, ◌+◌, ◌&&◌, ◌||◌, ◌==◌, ◌⊎◌, List, ◌∷◌, Option, None, Some, cond, Contains, not}
+use Rattle.std.specs.Prelude.{◌≡◌, ℕ, ◌+◌, ◌&&◌, ◌||◌, ◌==◌, ◌⊎◌, List, ◌∷◌, Option, None, Some, true, cond, Contains, not}
 use Rattle.std.specs.BTreeMap.{insert_entry}
 use Rattle.std.specs.Ordering.{nat_cmp}
 use Rattle.pc_desk.specs.Desk.{DeskMeaning, KeepsTrack, Posted, is_on_way, posted_as}
 use Rattle.pc_history.specs.declared.view.Known.{Known as KnownEntry}
 use Rattle.pc_proto.specs.declared.event.Event.{Event}
+use Rattle.pc_wire.specs.declared.outbox.Stray.{Stray}
 use Rattle.pc_wire.specs.declared.outbox.Waiting.{Waiting}
+use Rattle.pc_wire.specs.Verdicts.{is_late}
 
 -- Just the message of this number went from the first to the second; each of the others stays where it was.
 pub record HasChangedPlace (number : ℕ) (old_from new_from old_to new_to : List Posted) : Type 0 where
@@ -33,10 +35,13 @@ pub record HasJoinedWave {C : Type 0} (old new : DeskMeaning C) (number : ℕ) :
   pub track : KeepsTrack new
   pub way : (other : ℕ) → is_on_way other new ≡ (number == other || is_on_way other old)
 
--- Of what was set aside the first messages were evaluated, and nobody hears the replies; the actor made no entry, and what it knew it knows still.
+-- Of what was set aside the first messages were delivered as strays, as their verdicts have it: evaluated, or dropped, or put into the bag; nobody hears
+-- the replies. The actor made no entry, and what it knew it knows still.
 pub record HasDropped {C : Type 0} (old new : DeskMeaning C) : Type 0 where
   pub own : new.log ≡ record old.log { part = record old.log.part { known = new.log.part.known } }
-  pub rest : new ≡ record old { log = new.log; later = new.later }
+  pub rest : new ≡ record old { log = new.log; later = new.later; bag = new.bag }
+  pub kept : (e : ℕ × Stray Posted) → Contains old.bag e → Contains new.bag e
+  pub put : (e : ℕ × Stray Posted) → Contains new.bag e → Contains old.bag e ⊎ (Contains old.later e.1.message × (is_late (old.log.verdict e.0) ≡ true))
   pub more : (k : KnownEntry Event) → Contains old.log.part.known k → Contains new.log.part.known k
   pub track : KeepsTrack new
 

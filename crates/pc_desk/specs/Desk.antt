@@ -1,6 +1,9 @@
 -- The messages of an actor on their way: each that it sent stands at one stage.
 use Rattle.std.specs.Prelude.{◌≡◌, ℕ, ◌+◌, ◌-◌, ◌<◌, ◌≤◌, Bool, true, false, ◌&&◌, ◌||◌, ◌==◌, cond, not, ◌⊎◌, Option, None, Some, List, [], ◌∷◌, ◌++◌, length, count_by, slice_get, All, Contains, ⊤}
-use Rattle.std.specs.List.{list_any}
+use Rattle.std.specs.BTreeMap.{insert_entry}
+use Rattle.std.specs.List.{AllZip, list_any}
+use Rattle.std.specs.List.Sorted.{IsStrictlySortedBy}
+use Rattle.std.specs.Ordering.{nat_cmp}
 use Rattle.pc_base.specs.declared.actor.ActorId.{ActorId}
 use Rattle.pc_base.specs.declared.actor.ActorId.TheVariants as actors
 use Rattle.pc_base.specs.Rising.{AreRising}
@@ -21,8 +24,10 @@ use Rattle.pc_proto.specs.declared.request.Request.{Request}
 use Rattle.pc_proto.specs.Requests.{is_put}
 use Rattle.pc_proto.specs.Stamps.{request_stamps}
 use Rattle.pc_range.specs.Message.{IsFullNote, evaluation, sending}
+use Rattle.pc_wire.specs.declared.outbox.Stray.{Stray}
 use Rattle.pc_wire.specs.declared.verdict.Verdict.{Verdict}
 use Rattle.pc_wire.specs.declared.verdict.Verdict.TheVariants as verdicts
+use Rattle.pc_wire.specs.Verdicts.{is_late, is_losing}
 use Rattle.pc_world.specs.Exchange.{IsAllowed}
 use Rattle.pc_world.specs.Known.{Known, known_of}
 use Rattle.pc_world.specs.Known.Traffic.{Sent, request_sent}
@@ -41,24 +46,37 @@ pub record Posted : Type 0 where
 abbrev pub posting : ℕ → ℕ → Request → ℕ → Posted
 posting number range request uses = record { number = number; range = range; request = request; uses = uses }
 
--- The actor's own list, how many messages it sent, those that wait to be evaluated, those that were set aside until a wave waits for them, and the
--- replies that wait to be heard; and how many entries a range may have.
+-- A message in the bag, which is due once its sender has sent so many.
+abbrev pub straying : ℕ → Posted → Stray Posted
+straying due m = record { due = due; message = m }
+
+-- The bag once this was put into it, under its number.
+abbrev pub with_late : ℕ → Posted → List (ℕ × Stray Posted) → List (ℕ × Stray Posted)
+with_late due m bag = insert_entry nat_cmp bag m.number (straying due m)
+
+-- The actor's own list, how many messages it sent, those that wait to be evaluated, those that were set aside until a wave waits for them, the bag of
+-- those that are evaluated late, each under its number, the replies that wait to be heard, and the numbers of those of the last wave that were lost, until
+-- they are asked for; and how many entries a range may have.
 pub record DeskMeaning (C : Type 0) : Type 0 where
   pub log : LogMeaning C
   pub sends : ℕ
   pub posted : List Posted
   pub later : List Posted
+  pub bag : List (ℕ × Stray Posted)
   pub replies : List Answered
+  pub lost : List ℕ
   pub range_limit : ℕ
 
 -- An actor that has sent nothing, with its new list.
-abbrev pub new_desk : {C : Type 0} → Head → Part Event → ℕ → C → Bool → Bool → ℕ → Option ℕ → ℕ → DeskMeaning C
-new_desk head part spare clock pipelining beside limit stop range_limit = record {
-  log = record { head = head; part = part; spare = spare; clock = clock; pipelining = pipelining; beside = beside; limit = limit; stop = stop; stopped = false };
+abbrev pub new_desk : {C : Type 0} → Head → Part Event → ℕ → C → (ℕ → Verdict) → ℕ → Bool → Bool → ℕ → Option ℕ → ℕ → DeskMeaning C
+new_desk head part spare clock verdict tries pipelining beside limit stop range_limit = record {
+  log = record { head = head; part = part; spare = spare; clock = clock; verdict = verdict; tries = tries; pipelining = pipelining; beside = beside; limit = limit; stop = stop; stopped = false };
   sends = 0;
   posted = [];
   later = [];
+  bag = [];
   replies = [];
+  lost = [];
   range_limit = range_limit;
 }
 
@@ -96,13 +114,14 @@ pub record WaitingMessage : Type 0 where
 abbrev pub waiting_as : ℕ → ActorId → Verdict → Posted → WaitingMessage
 waiting_as key sender verdict posted = record { key = key; sender = sender; verdict = verdict; posted = posted }
 
--- The message may go: it stands under its number, is delivered, and goes to a range that is there, which may evaluate it.
-pub record IsReadyToGo (id : ActorId) (splits : List (List ℕ)) (w : WaitingMessage) : Type 0 where
+-- The message may go: it stands under its number, has the verdict on it, and goes to a range that is there, which may evaluate it as often as its verdict
+-- lets it be.
+pub record IsReadyToGo (id : ActorId) (splits : List (List ℕ)) (verdict : ℕ → Verdict) (w : WaitingMessage) : Type 0 where
   pub numbered : w.key ≡ w.posted.number
   pub whose : w.sender ≡ id
-  pub delivered : w.verdict ≡ verdicts.Deliver
+  pub ruled : w.verdict ≡ verdict w.posted.number
   pub there : w.posted.range ≤ length splits
-  pub use_left : 1 ≤ w.posted.uses
+  pub uses : uses_by w.verdict ≤ w.posted.uses
   pub below : AllBelowGreatest (request_stamps w.posted.request)
 
 -- The ranges are those of the actor's world, and each message that waits may go.
@@ -110,7 +129,28 @@ pub record IsDesk {C : Type 0} (splits : List (List ℕ)) (log : LogMeaning C) (
   pub same : splits ≡ log.head.splits
   pub rising : AreRising log.head.splits
   pub few : length log.head.splits ≤ 31
-  pub ready : All (IsReadyToGo log.part.id log.head.splits) waiting
+  pub ready : All (IsReadyToGo log.part.id log.head.splits log.verdict) waiting
+
+-- A message in the bag: the number under which it stands, its sender, and what contracts see of it.
+pub record LateMessage : Type 0 where
+  pub key : ℕ
+  pub sender : ActorId
+  pub posted : Posted
+
+abbrev pub late_as : ℕ → ActorId → Posted → LateMessage
+late_as key sender posted = record { key = key; sender = sender; posted = posted }
+
+-- The message in the bag may go: it stands under its number, and goes to a range that is there, which may evaluate it.
+pub record IsReadyLate (id : ActorId) (splits : List (List ℕ)) (l : LateMessage) : Type 0 where
+  pub numbered : l.key ≡ l.posted.number
+  pub whose : l.sender ≡ id
+  pub there : l.posted.range ≤ length splits
+  pub use_left : 1 ≤ l.posted.uses
+  pub below : AllBelowGreatest (request_stamps l.posted.request)
+
+-- Each message in the bag may go.
+abbrev pub IsBag : {C : Type 0} → LogMeaning C → List LateMessage → Type 0
+IsBag log late = All (IsReadyLate log.part.id log.head.splits) late
 
 -- The reply is that of an evaluation which the actor knows, of a message that it sent.
 pub record IsAnsweredBy {C : Type 0} (log : LogMeaning C) (a : Answered) : Type 0 where
@@ -120,10 +160,15 @@ pub record IsAnsweredBy {C : Type 0} (log : LogMeaning C) (a : Answered) : Type 
   pub said : request_sent a.number (known_of log.part.own).sent ≡ Some request
   pub knows : Contains log.part.known (record { entry = evaluation a.step range log.part.id a.number a.reply; place = place; uses = 0 })
 
--- The actor counts the uses that it gave of each of its entries: of none more than one.
-pub record GivesOnce (part : Part Event) : Type 0 where
+-- How many uses an entry with this event may have been given: where it sends a message, as many as its verdict lets it be evaluated.
+abbrev pub uses_allowed : (ℕ → Verdict) → Event → ℕ
+uses_allowed verdict (events.Send number range request) = uses_by (verdict number)
+uses_allowed verdict _ = 0
+
+-- The actor counts the uses that it gave of each of its entries: of none more than its event allows by the verdicts.
+pub record GivesByVerdicts (verdict : ℕ → Verdict) (part : Part Event) : Type 0 where
   pub each : length part.given ≡ length part.own
-  pub once : All (λ uses. uses ≤ 1) part.given
+  pub within : AllZip (λ uses p. uses ≤ uses_allowed verdict p.entry.event) part.given part.own
 
 -- A message that waits, as it was sent.
 abbrev pub as_sent : Posted → Sent
@@ -138,13 +183,48 @@ pub record WasSetAside (sent : List Sent) (m : Posted) : Type 0 where
   pub one : IsOneSent sent m
   pub puts : is_put m.request ≡ true
 
--- The message is a stray: it was set aside, the actor knows an evaluation of it, and nobody hears its reply.
-pub record IsStray {C : Type 0} (log : LogMeaning C) (m : Posted) : Type 0 where
-  pub aside : WasSetAside (known_of log.part.own).sent m
-  pub step : ℕ
+-- The actor knows an evaluation of the message, at this step.
+pub record WasEvaluatedAt {C : Type 0} (log : LogMeaning C) (m : Posted) (step : ℕ) : Type 0 where
   pub reply : Reply
   pub place : ℕ
   pub knows : Contains log.part.known (record { entry = evaluation step m.range log.part.id m.number reply; place = place; uses = 0 })
+
+-- The message waits in the bag.
+pub record IsLate (bag : List (ℕ × Stray Posted)) (m : Posted) : Type 0 where
+  pub due : ℕ
+  pub there : Contains bag (m.number, straying due m)
+
+-- The message is evaluated as its verdict has it, though nobody hears its reply: never, where the verdict drops it; else it waits in the bag, or the actor
+-- knows an evaluation of it.
+abbrev pub IsDropped : {C : Type 0} → DeskMeaning C → Posted → Type 0
+IsDropped d m = (d.log.verdict m.number ≡ verdicts.LoseRequest) ⊎ IsLate d.bag m ⊎ ((step : ℕ) × WasEvaluatedAt d.log m step)
+
+-- Nobody hears a reply to the message: its verdict loses it, or it was set aside and delivered as a stray.
+pub record IsUnheard {C : Type 0} (d : DeskMeaning C) (m : Posted) : Type 0 where
+  pub one : IsOneSent (known_of d.log.part.own).sent m
+  pub why : (is_losing (d.log.verdict m.number) ≡ true) ⊎ (is_put m.request ≡ true)
+  pub dropped : IsDropped d m
+
+-- The verdict has the message evaluated twice.
+abbrev pub is_repeating : Verdict → Bool
+is_repeating (verdicts.Repeat later) = true
+is_repeating _ = false
+
+-- Of a message that is evaluated twice and does not wait for its first evaluation, the copy waits in the bag, or the actor knows two evaluations.
+abbrev pub IsRepeatedOrLate : {C : Type 0} → DeskMeaning C → Posted → Type 0
+IsRepeatedOrLate d m = IsLate d.bag m ⊎ ((one other : ℕ) × (one < other) × WasEvaluatedAt d.log m one × WasEvaluatedAt d.log m other)
+
+-- What is in the bag was sent; its verdict holds it, or repeats it.
+pub record IsOfBag {C : Type 0} (d : DeskMeaning C) (e : ℕ × Stray Posted) : Type 0 where
+  pub one : IsOneSent (known_of d.log.part.own).sent e.1.message
+  pub number : e.0 ≡ e.1.message.number
+  pub late : is_late (d.log.verdict e.0) ≡ true
+
+-- The numbers of messages that were lost and are not asked for yet: they rise, and each was sent, lost by its verdict, and not heard.
+pub record AreLost {C : Type 0} (d : DeskMeaning C) : Type 0 where
+  pub rising : IsStrictlySortedBy nat_cmp d.lost
+  pub each : All (λ number. (is_losing (d.log.verdict number) ≡ true) × (times_sent number (known_of d.log.part.own) ≡ 1) × (heard_as_number number (known_of d.log.part.own) ≡ 0)) d.lost
+  pub behind : All (λ m. All (λ number. number < m.number) d.lost) d.posted
 
 -- The replies are to messages of rising numbers.
 abbrev pub AreInTurn : List Answered → Type 0
@@ -157,23 +237,26 @@ pub record WaitInTurn (replies : List Answered) (posted : List Posted) : Type 0 
   pub behind : All (λ m. All (λ a. a.number < m.number) replies) posted
 
 -- Each message that the actor sent stands at one stage, and no other does at any: it waits to be evaluated, or was set aside, or its reply waits to be
--- heard, or that was heard, or it is a stray whose reply was dropped. What waits says what was sent, is in turn, and waits with its wave; and of no entry
--- more than one use was given.
+-- heard, or that was heard, or nobody hears one. What is evaluated once more, or late, is in the bag until then. What waits says what was sent, is in turn,
+-- and waits with its wave; and of no entry more uses were given than its verdict allows.
 pub record KeepsTrack {C : Type 0} (d : DeskMeaning C) : Type 0 where
   pub log : IsOwnLog d.log
   pub counted : d.sends ≡ length (known_of d.log.part.own).sent
   pub numbers : All (λ m. m.number ≤ length (known_of d.log.part.own).sent) (known_of d.log.part.own).sent
   pub once : (number : ℕ) → times_sent number (known_of d.log.part.own) ≤ 1
-  pub dropped : List Posted
-  pub strays : All (IsStray d.log) dropped
-  pub stages : (number : ℕ) → posted_as number d.posted + (posted_as number d.later + posted_as number dropped) + answered_as number d.replies + heard_as_number number (known_of d.log.part.own) ≡ times_sent number (known_of d.log.part.own)
+  pub unheard : List Posted
+  pub each_unheard : All (IsUnheard d) unheard
+  pub stages : (number : ℕ) → posted_as number d.posted + (posted_as number d.later + posted_as number unheard) + answered_as number d.replies + heard_as_number number (known_of d.log.part.own) ≡ times_sent number (known_of d.log.part.own)
+  pub repeated : (m : Posted) → IsOneSent (known_of d.log.part.own).sent m → is_repeating (d.log.verdict m.number) ≡ true → posted_as m.number d.posted + posted_as m.number d.later ≡ 0 → IsRepeatedOrLate d m
+  pub late : All (IsOfBag d) d.bag
+  pub lost : AreLost d
   pub posted : All (λ m. request_sent m.number (known_of d.log.part.own).sent ≡ Some m.request) d.posted
   pub waits : All (IsOneSent (known_of d.log.part.own).sent) d.posted
   pub aside : All (WasSetAside (known_of d.log.part.own).sent) d.later
   pub answered : All (IsAnsweredBy d.log) d.replies
   pub turn : WaitInTurn d.replies d.posted
   pub wave : WaitInWave d.log.beside d.log.part.own d.posted d.replies
-  pub given : GivesOnce d.log.part
+  pub given : GivesByVerdicts d.log.verdict d.log.part
 
 -- The message of the least number was taken from those that wait, and nothing else was done.
 pub record HasTakenFirst {C : Type 0} (old new : DeskMeaning C) (m : Posted) : Type 0 where
@@ -205,18 +288,20 @@ pub record MaySendTo {C : Type 0} (l : LogMeaning C) (range : ℕ) (request : Re
   pub goes : GoesTo l.head.splits request range
   pub keeps : (number : ℕ) → KeepsNext l.part.id l.head.splits l.pipelining l.part.own (events.Send number range request) None
 
--- The actor sent this under its next number, to its range; its note, with one use, waits in the outbox.
+-- The actor sent this under its next number, to its range; its note, with as many uses as its verdict lets it be evaluated, waits in the outbox.
 pub record HasSentNext {C : Type 0} (old new : DeskMeaning C) (number : ℕ) (request : Request) : Type 0 where
   pub range : ℕ
   pub goes : GoesTo old.log.head.splits request range
   pub next : number ≡ old.sends + 1
   pub sent : LogMeaning C
   pub entered : HasEntered old.log sent (events.Send number range request)
-  pub noted : new.log ≡ record sent { part = gave (length sent.part.own - 1) 1 sent.part }
+  pub noted : new.log ≡ record sent { part = gave (length sent.part.own - 1) (uses_by (old.log.verdict number)) sent.part }
   pub track : KeepsTrack new
   pub way : (other : ℕ) → is_on_way other new ≡ (number == other || is_on_way other old)
   pub replies : new.replies ≡ old.replies
   pub later : new.later ≡ old.later
+  pub bag : new.bag ≡ old.bag
+  pub lost : new.lost ≡ old.lost
   pub limit : new.range_limit ≡ old.range_limit
 
 -- The actor sent this so, to this range.
@@ -232,12 +317,13 @@ pub record EndsWithSend {C : Type 0} (l : LogMeaning C) (number range : ℕ) (re
   pub there : slice_get l.part.own (length l.part.own - 1) ≡ Some last
   pub is : last.entry ≡ sending step l.part.id number range request
 
--- The message waits in the outbox now, with one use of the entry in which it was sent, which is the actor's last.
+-- The message waits in the outbox now, with as many uses of the entry in which it was sent, which is the actor's last, as its verdict lets it be
+-- evaluated.
 pub record HasPosted {C : Type 0} (old new : DeskMeaning C) (number range : ℕ) (request : Request) : Type 0 where
-  pub log : new.log ≡ record old.log { part = gave (length old.log.part.own - 1) 1 old.log.part }
+  pub log : new.log ≡ record old.log { part = gave (length old.log.part.own - 1) (uses_by (old.log.verdict number)) old.log.part }
   pub rest : new ≡ record old { log = new.log; posted = new.posted }
   pub counts : (n : ℕ) → posted_as n new.posted ≡ posted_as n old.posted + cond (number == n) 1 0
-  pub all : (m : Posted) → Contains new.posted m → Contains old.posted m ⊎ (posting number range request 1 ≡ m)
+  pub all : (m : Posted) → Contains new.posted m → Contains old.posted m ⊎ (posting number range request (uses_by (old.log.verdict number)) ≡ m)
 
 -- The actor made this event, which sends and hears nothing, and did nothing else.
 pub record HasDone {C : Type 0} (old new : DeskMeaning C) (event : Event) : Type 0 where
@@ -250,12 +336,18 @@ pub record HasKept {C : Type 0} (old new : DeskMeaning C) (a : Answered) (note :
   pub kept : new ≡ record old { log = record old.log { part = told note old.log.part }; replies = old.replies ++ a ∷ [] }
   pub log : IsOwnLog new.log
 
--- What was posted was evaluated, and the actor made no entry; what it knew it knows still.
+-- The message of this number is lost, and not asked for yet.
+abbrev pub has_lost : {C : Type 0} → ℕ → DeskMeaning C → Bool
+has_lost number d = list_any (λ n. n == number) d.lost
+
+-- What was posted was evaluated as its verdicts have it, and the actor made no entry; what it knew it knows still. What was on its way is so still, but for
+-- what was lost since.
 pub record HasDelivered {C : Type 0} (old new : DeskMeaning C) : Type 0 where
   pub own : new.log ≡ record old.log { part = record old.log.part { known = new.log.part.known } }
   pub sends : new.sends ≡ old.sends
   pub track : KeepsTrack new
-  pub way : (number : ℕ) → is_on_way number new ≡ is_on_way number old
+  pub way : (number : ℕ) → (is_on_way number new || has_lost number new) ≡ (is_on_way number old || has_lost number old)
+  pub kept : (number : ℕ) → has_lost number old ≡ true → has_lost number new ≡ true
   pub later : new.later ≡ old.later
   pub more : (k : KnownEntry Event) → Contains old.log.part.known k → Contains new.log.part.known k
   pub limit : new.range_limit ≡ old.range_limit
@@ -276,6 +368,8 @@ pub record HasHeardFirst {C : Type 0} (old new : DeskMeaning C) (a : Answered) :
   pub track : KeepsTrack new
   pub way : (number : ℕ) → is_on_way number new ≡ (is_on_way number old && not (a.number == number))
   pub later : new.later ≡ old.later
+  pub bag : new.bag ≡ old.bag
+  pub lost : new.lost ≡ old.lost
   pub limit : new.range_limit ≡ old.range_limit
 
 -- The actor knows an entry of the range, which has at least so many entries up to it.

@@ -1,6 +1,6 @@
 -- How an actor's list ends before its work does: where it has as many entries as it may have, or a range has, or at its stated stop; and what
 -- becomes of its messages then.
-use Rattle.std.specs.Prelude.{◌≡◌, ℕ, ◌<◌, true, false, ◌⊎◌, Some, List, [], ◌∷◌, ◌++◌, length, is_some, All, Contains, IsTrue, ⊤}
+use Rattle.std.specs.Prelude.{◌≡◌, ℕ, ◌<◌, true, false, ◌⊎◌, Some, List, [], ◌∷◌, ◌++◌, length, map, is_some, All, Contains, IsTrue, ⊤}
 use Rattle.pc_desk.specs.declared.halt.Halt.{Halt}
 use Rattle.pc_desk.specs.declared.halt.Halt.TheVariants as halts
 use Rattle.pc_desk.specs.Desk.{DeskMeaning, KeepsTrack, Posted, as_sent}
@@ -12,6 +12,7 @@ use Rattle.pc_history.specs.Parts.{knowledge}
 use Rattle.pc_proto.specs.declared.event.Event.{Event}
 use Rattle.pc_proto.specs.declared.request.Request.{Request}
 use Rattle.pc_proto.specs.Requests.{is_put}
+use Rattle.pc_wire.specs.declared.verdict.Verdict.TheVariants as verdicts
 use Rattle.pc_world.specs.Caused.{Evaluates}
 use Rattle.pc_world.specs.Known.{Known, known_of}
 use Rattle.pc_world.specs.Known.Traffic.{Sent}
@@ -29,13 +30,13 @@ pub record KnowsEvaluation (part : Part Event) (number : ℕ) : Type 0 where
   pub knows : Contains part.known evaluation
   pub of_it : Evaluates part.id number evaluation.entry.event
 
--- The messages that wait to be evaluated, and behind them those that were set aside.
+-- The messages that wait to be evaluated, behind them those that were set aside, and those in the bag.
 abbrev pub all_waiting : {C : Type 0} → DeskMeaning C → List Posted
-all_waiting d = d.posted ++ d.later
+all_waiting d = (d.posted ++ d.later) ++ map (λ e. e.1.message) d.bag
 
--- The message was heard, or it waits to be evaluated, or the actor knows an evaluation of it.
+-- The message was heard, or it waits to be evaluated, or the actor knows an evaluation of it, or its verdict has it never evaluated.
 abbrev pub IsNotLost : {C : Type 0} → DeskMeaning C → Sent → Type 0
-IsNotLost d m = IsTrue (is_heard (known_of d.log.part.own).heard m) ⊎ WaitsStill (all_waiting d) m.number ⊎ KnowsEvaluation d.log.part m.number
+IsNotLost d m = IsTrue (is_heard (known_of d.log.part.own).heard m) ⊎ WaitsStill (all_waiting d) m.number ⊎ KnowsEvaluation d.log.part m.number ⊎ (d.log.verdict m.number ≡ verdicts.LoseRequest)
 
 -- What waits was sent, and no reply to it was heard.
 pub record WaitsUnheard (k : Known) (m : Posted) : Type 0 where
@@ -46,13 +47,13 @@ pub record WaitsUnheard (k : Known) (m : Posted) : Type 0 where
 pub record IsAtOwnEnd {C : Type 0} (d : DeskMeaning C) : Type 0 where
   pub long : length d.log.part.own ≡ d.log.limit
   pub each : All (IsNotLost d) (known_of d.log.part.own).sent
-  pub waits : All (WaitsUnheard (known_of d.log.part.own)) (all_waiting d)
+  pub waits : All (WaitsUnheard (known_of d.log.part.own)) (d.posted ++ d.later)
 
 -- The list has just as many entries as are stated for its stop, and no message was lost: those that were not evaluated wait.
 pub record IsAtStop {C : Type 0} (d : DeskMeaning C) : Type 0 where
   pub long : d.log.stop ≡ Some (length d.log.part.own)
   pub each : All (IsNotLost d) (known_of d.log.part.own).sent
-  pub waits : All (WaitsUnheard (known_of d.log.part.own)) (all_waiting d)
+  pub waits : All (WaitsUnheard (known_of d.log.part.own)) (d.posted ++ d.later)
 
 -- The message is spent: its range, which is full, refused it, so it is never evaluated, and no reply to it was heard.
 pub record IsSpent {C : Type 0} (d : DeskMeaning C) (m : Sent) : Type 0 where
@@ -75,7 +76,7 @@ pub record IsAtFullRange {C : Type 0} (d : DeskMeaning C) : Type 0 where
   pub spent : IsSpent d message
   pub in_call : PutsInCall (known_of d.log.part.own) message.request
   pub others : All (λ m. IsSpent d m ⊎ IsNotLost d m) (known_of d.log.part.own).sent
-  pub waits : All (WaitsUnheard (known_of d.log.part.own)) (all_waiting d)
+  pub waits : All (WaitsUnheard (known_of d.log.part.own)) (d.posted ++ d.later)
   pub later : All (λ p. message.number < p.number) d.posted
 
 -- The list has ended before its work: at the limit of its entries, at a range that is full, or at its stop.

@@ -11,5 +11,9 @@ pub mod Waiting
 pub mod Desk
 pub mod Refused
 pub mod Wave
+pub mod Errand
+pub mod Evaluating
+pub mod Late
+pub mod TakenWave
 pub mod Ending
 pub mod Rest

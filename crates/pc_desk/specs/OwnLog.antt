@@ -12,16 +12,20 @@ use Rattle.pc_history.specs.declared.view.Part.{Part}
 use Rattle.pc_history.specs.Closed.{IsSound, StandsInHistory}
 use Rattle.pc_history.specs.Parts.{IsCausedFor, IsLocalFor, acted, knowledge, named_by, told}
 use Rattle.pc_proto.specs.declared.event.Event.{Event}
+use Rattle.pc_wire.specs.declared.verdict.Verdict.{Verdict}
 use Rattle.pc_world.specs.Local.{Head, IsActorOf}
 use Rattle.pc_world.specs.Run.{protocol, spends}
 
--- What the actor stored and knows, and for how many more entries it has room; its clock, whether its writes are pipelined, and whether the
--- evaluations of a wave go beside each other; how many entries it may have; at which it stops, if that is stated; and whether it has stopped.
+-- What the actor stored and knows, and for how many more entries it has room; its clock, what becomes of its message of each number, how often in a
+-- row it sends a request to which it hears no reply, whether its writes are pipelined, and whether the evaluations of a wave go beside each other; how
+-- many entries it may have; at which it stops, if that is stated; and whether it has stopped.
 pub record LogMeaning (C : Type 0) : Type 0 where
   pub head : Head
   pub part : Part Event
   pub spare : ℕ
   pub clock : C
+  pub verdict : ℕ → Verdict
+  pub tries : ℕ
   pub pipelining : Bool
   pub beside : Bool
   pub limit : ℕ
@@ -45,6 +49,7 @@ pub record IsOwnLog {C : Type 0} (l : LogMeaning C) : Type 0 where
   pub there : IsActorOf l.head l.part.id
   pub client : IsNoRange l.part.id
   pub whose : All (λ p. p.entry.actor ≡ l.part.id) l.part.own
+  pub tries : 1 ≤ l.tries
   pub short : l.limit < 2 ^ 32
   pub within : length l.part.own ≤ l.limit
   pub keeps : KeepsEach l.part.id l.head.splits l.pipelining l.part.own

@@ -1,4 +1,4 @@
--- A wave whose messages are evaluated beside each other: they are taken from the outbox together, and then what became of each is taken in.
+-- The messages of a wave that are evaluated beside each other, and what became of each.
 use Rattle.std.specs.Prelude.{◌≡◌, ℕ, ◌<◌, ◌≤◌, ◌⊎◌, true, List, [], ◌∷◌, ◌++◌, length, map, All, Contains, Result, Ok, Err, ⊤}
 use Rattle.pc_base.specs.declared.actor.ActorId.TheVariants as actors
 use Rattle.pc_desk.specs.declared.answered.Answered.{Answered}
@@ -48,14 +48,6 @@ pub record GoesOut {C N : Type 0} {G : Ghosts N CommitWorld} (desk : DeskMeaning
   pub may : MayBeServed desk.log.head.splits d
   pub behind : IsBehindAll desk.log.part.own d.last.known
 
--- The first of the messages that waited were taken, in the order of their numbers, and nothing else was done.
-pub record HasTakenWave {C N : Type 0} {G : Ghosts N CommitWorld} (old new : DeskMeaning C) (wave : List (Delivery N G)) : Type 0 where
-  pub whole : old.posted ≡ posted_in wave ++ new.posted
-  pub rest : new ≡ record old { posted = new.posted }
-  pub rising : AreRisingMessages (posted_in wave)
-  pub later : All (λ m. All (λ p. m.number < p.number) new.posted) (posted_in wave)
-  pub each : All (GoesOut old) wave
-
 -- The message stands behind the others of its wave, beside a copy of a note that tells this.
 pub record HasJoined {N : Type 0} {G : Ghosts N CommitWorld} (old new : List (Delivery N G)) (message : Message N G) (note : List (KnownEntry Event)) : Type 0 where
   pub joined : Delivery N G
@@ -72,41 +64,6 @@ IsReply (Err fault) = ⊥
 abbrev pub answered_by : {N : Type 0} → ReplyMsg N → Answered
 answered_by r = record { number = r.number; step = r.step; reply = r.reply }
 
--- The replies among these outcomes.
-abbrev pub answers_in : {N : Type 0} {G : Ghosts N CommitWorld} → List (Result (ReplyMsg N) (ServeFault N G)) → List Answered
-answers_in [] = []
-answers_in (Ok r ∷ outcomes) = answered_by r ∷ answers_in outcomes
-answers_in (Err fault ∷ outcomes) = answers_in outcomes
-
--- The actor knows what the outcome tells: of the evaluation; or of the last entry of a full range, and of the message that this gave back, with its
--- use. Want of memory tells nothing that could be known.
-abbrev pub KnowsOutcome : {N : Type 0} {G : Ghosts N CommitWorld} → Part Event → Result (ReplyMsg N) (ServeFault N G) → Type 0
-KnowsOutcome part (Ok r) = (k : KnownEntry Event) → Contains r.note.known k → Contains part.known k
-KnowsOutcome part (Err (faults.Full at last message)) = (k : KnownEntry Event) → Contains (last.known ++ message.note.known) k → Contains part.known k
-KnowsOutcome part (Err faults.NoMemory) = ⊥
-
--- The actor knows what the outcome tells, and did nothing else; it forgot nothing.
-pub record HasTakenIn {C N : Type 0} {G : Ghosts N CommitWorld} (old new : DeskMeaning C) (outcome : Result (ReplyMsg N) (ServeFault N G)) : Type 0 where
-  pub rest : new ≡ record old { log = record old.log { part = record old.log.part { known = new.log.part.known } } }
-  pub more : (k : KnownEntry Event) → Contains old.log.part.known k → Contains new.log.part.known k
-  pub knows : KnowsOutcome new.log.part outcome
-
--- The actor knows what these outcomes tell, and forgot nothing.
-pub record HasTakenAllIn {C N : Type 0} {G : Ghosts N CommitWorld} (old new : DeskMeaning C) (outcomes : List (Result (ReplyMsg N) (ServeFault N G))) : Type 0 where
-  pub more : (k : KnownEntry Event) → Contains old.log.part.known k → Contains new.log.part.known k
-  pub knows : All (KnowsOutcome new.log.part) outcomes
-
--- The outcomes, which are replies, are known, and wait to be heard in their order behind those that wait.
-pub record HasKeptAll {C N : Type 0} {G : Ghosts N CommitWorld} (old new : DeskMeaning C) (outcomes : List (Result (ReplyMsg N) (ServeFault N G))) : Type 0 where
-  pub rest : new ≡ record old { log = record old.log { part = record old.log.part { known = new.log.part.known } }; replies = old.replies ++ answers_in outcomes }
-  pub learnt : HasTakenAllIn old new outcomes
-  pub log : IsOwnLog new.log
-
--- The outcomes are known, and the list has stopped.
-pub record HasStoppedFor {C N : Type 0} {G : Ghosts N CommitWorld} (old new : DeskMeaning C) (outcomes : List (Result (ReplyMsg N) (ServeFault N G))) : Type 0 where
-  pub rest : new ≡ record old { log = record old.log { part = record old.log.part { known = new.log.part.known }; stopped = true } }
-  pub learnt : HasTakenAllIn old new outcomes
-
 -- The list ends so at this fault: for the range, which is full, or for want of memory.
 abbrev pub IsHaltOf : {N : Type 0} {G : Ghosts N CommitWorld} → ServeFault N G → Halt → Type 0
 IsHaltOf (faults.Full at last message) halt = halt ≡ halts.Full (actors.Range at)
@@ -120,7 +77,3 @@ pub record IsRefusalIn {N : Type 0} {G : Ghosts N CommitWorld} (outcomes : List 
   pub whole : outcomes ≡ before ++ Err fault ∷ behind
   pub first : All IsReply before
   pub is : IsHaltOf fault halt
-
--- How a list ended for this cause: all outcomes are known; or memory was wanted.
-abbrev pub EndsFor : {C N : Type 0} {G : Ghosts N CommitWorld} → DeskMeaning C → DeskMeaning C → List (Result (ReplyMsg N) (ServeFault N G)) → Halt → Halt → Type 0
-EndsFor old new outcomes cause halt = ((halt ≡ halts.NoMemory) × HasHalted old new halts.NoMemory) ⊎ ((halt ≡ cause) × HasStoppedFor old new outcomes)

@@ -2,11 +2,15 @@
 #![tactic(auto)]
 
 mod answered;
+mod beside;
 mod commits;
 mod desk;
+mod errand;
+mod evaluating;
 mod halt;
 mod own_log;
 mod rest;
+mod strays;
 mod wave;
 
 pub use answered::Answered;

@@ -17,18 +17,22 @@ use pc_clock::Clock;
 use pc_history::{Actor, Named, Note};
 use pc_proto::{Call, Event};
 use pc_range::CommitWorld;
+use pc_wire::{Verdict, Wire};
 use std::alloc::Global;
 use std::collections::BTreeMap;
 use std::marker::Model;
 
-/// The own list of one session or recoverer, with the clock that it reads once for each call.
+/// The own list of one session or recoverer, with the clock that it reads once for each call, and the wire that its messages go over.
 ///
 /// Each entry is local and caused, and keeps what its workload asks of one entry. The list ends early only at the entry that the workload
 /// states, where it has as many entries as it may have, or for want of memory; from then on it has stopped.
 #[derive(Drop)]
-pub struct OwnLog<N: Named<CommitWorld>, C: Clock> {
+pub struct OwnLog<N: Named<CommitWorld>, C: Clock, V: Wire> {
     actor: Actor<CommitWorld, N>,
     clock: C,
+    wire: V,
+    /// How often in a row a request is sent to which no reply is heard.
+    tries: u32,
     pipelining: bool,
     /// Whether the evaluations of a wave go beside each other.
     beside: bool,
@@ -39,7 +43,7 @@ pub struct OwnLog<N: Named<CommitWorld>, C: Clock> {
     commits: BTreeMap<TxnId, usize>,
 }
 
-impl<N: Named<CommitWorld>, C: Clock> Model for OwnLog<N, C> {
+impl<N: Named<CommitWorld>, C: Clock, V: Wire> Model for OwnLog<N, C, V> {
     ghost use Rattle.std.specs.Prelude.{◌≡◌};
     ghost use Rattle.std.specs.BTreeMap.{get};
     ghost use Rattle.pc_base.specs.Transaction.{txn_cmp};
@@ -55,6 +59,8 @@ impl<N: Named<CommitWorld>, C: Clock> Model for OwnLog<N, C> {
       part = l.actor.part;
       spare = l.actor.spare;
       clock = l.clock;
+      verdict = V.rule l.wire;
+      tries = l.tries;
       pipelining = l.pipelining;
       beside = l.beside;
       limit = l.limit;
@@ -67,6 +73,8 @@ impl<N: Named<CommitWorld>, C: Clock> Model for OwnLog<N, C> {
       part = l.actor.part;
       spare = l.actor.spare;
       clock = l.clock;
+      verdict = V.rule l.wire;
+      tries = l.tries;
       pipelining = l.pipelining;
       beside = l.beside;
       limit = l.limit;
@@ -75,21 +83,24 @@ impl<N: Named<CommitWorld>, C: Clock> Model for OwnLog<N, C> {
     }) × ReadsEach (C.rule l.clock) l.actor.part.own × (C.reads l.clock ≡ asks_in l.actor.part.own) × HasCommitPlaces (get txn_cmp l.commits) l.actor.part.own };
 }
 
-impl<N: Named<CommitWorld>, C: Clock> OwnLog<N, C> {
+impl<N: Named<CommitWorld>, C: Clock, V: Wire> OwnLog<N, C, V> {
     /// The list of an actor that has no entry yet. It may have at most `limit`, and stops at entry number `stop`, if one is stated.
     pub fn new(
         alloc: Global,
         actor: Actor<CommitWorld, N>,
         clock: C,
+        wire: V,
+        tries: u32,
         pipelining: bool,
         beside: bool,
         limit: u64,
         stop: Option<u64>,
-    ) -> OwnLog<N, C>
+    ) -> OwnLog<N, C, V>
         requires there { IsActorOf actor.world actor.part.id }
         requires client { IsNoRange actor.part.id }
         requires fresh { actor.part ≡ newcomer actor.part.id }
         requires unread { C.reads clock ≡ 0 }
+        requires tries { 1 ≤ tries }
         requires limit { limit < 2 ^ 32 }
         requires stop { IfSome stop (λ n. 1 ≤ n) }
         ensures log { IsOwnLog result }
@@ -98,6 +109,8 @@ impl<N: Named<CommitWorld>, C: Clock> OwnLog<N, C> {
           part = actor.part;
           spare = actor.spare;
           clock = clock;
+          verdict = V.rule wire;
+          tries = tries;
           pipelining = pipelining;
           beside = beside;
           limit = limit;
@@ -108,6 +121,8 @@ impl<N: Named<CommitWorld>, C: Clock> OwnLog<N, C> {
         OwnLog {
             actor,
             clock,
+            wire,
+            tries,
             pipelining,
             beside,
             limit,
@@ -122,6 +137,21 @@ impl<N: Named<CommitWorld>, C: Clock> OwnLog<N, C> {
         ensures { result ≡ self.now.part.id }
     {
         self.actor.id()
+    }
+
+    /// How often in a row a request is sent to which no reply is heard.
+    pub fn tries(&self) -> u32
+        ensures { result ≡ self.now.tries }
+    {
+        self.tries
+    }
+
+    /// What becomes of the message of this number.
+    pub fn verdict(&mut self, number: u64) -> Verdict
+        ensures given { result ≡ self.old.verdict number }
+        ensures same { self.new ≡ self.old }
+    {
+        self.wire.verdict(number)
     }
 
     /// Whether the evaluations of a wave go beside each other.
@@ -267,7 +297,7 @@ impl<N: Named<CommitWorld>, C: Clock> OwnLog<N, C> {
     }
 }
 
-impl<N: Named<CommitWorld>, C: Clock + Drop> OwnLog<N, C> {
+impl<N: Named<CommitWorld>, C: Clock + Drop, V: Wire + Drop> OwnLog<N, C, V> {
     /// Its actor, to be handed in.
     pub fn into_actor(self) -> Actor<CommitWorld, N>
         ensures same { (result.world ≡ self.head) × (result.part ≡ self.part) }

@@ -1,19 +1,16 @@
-ghost use Rattle.std.specs.Prelude.{◌≡◌, ℕ, ◌∷◌, [], ◌++◌, map, All, IfErr, IfNone, IfSome, OnOk};
-ghost use Rattle.std.specs.List.Sorted.{IsStrictlySortedBy};
-ghost use Rattle.std.specs.Map.{keys_of};
-ghost use Rattle.std.specs.Ordering.{nat_cmp};
-ghost use Rattle.pc_desk.specs.Desk.{IsReadyToGo, posting, waiting_as};
-ghost use Rattle.pc_desk.specs.Rest.{HasOnlyLearnt, IsEvaluatedIn, IsFirstOf, StopsAt, comes_first};
-ghost use Rattle.pc_wire.specs.Outbox.{first_from};
+ghost use Rattle.std.specs.Prelude.{◌≡◌, ℕ, ◌∷◌, ◌≤◌, [], ◌++◌, map, All, IfErr, IfNone, IfSome, OnOk};
+ghost use Rattle.pc_desk.specs.Desk.{posting, uses_by};
+ghost use Rattle.pc_desk.specs.Rest.{AreServedLeft, HasOnlyLearnt, IsFirstOf, IsReadyLeft, StopsAt, comes_before, left_as, stray_left_as};
 ghost use Rattle.pc_history.specs.Parts.{told, uses_left};
 
+use crate::errand::copy_of;
 use pc_history::{Actor, Named};
 use pc_range::{CommitWorld, Gate, Message, Ranges, ReplyMsg, ServeFault};
-use pc_wire::Outbox;
+use pc_wire::{Outbox, Verdict};
 use std::marker::Model;
 use std::sync::Wait;
 
-/// What an actor that makes no more entries leaves in its outbox.
+/// What an actor that makes no more entries leaves in its outbox and its bag.
 #[derive(Drop)]
 pub struct Rest<N: Named<CommitWorld>> {
     outbox: Outbox<Message<N>>,
@@ -23,70 +20,140 @@ pub struct Rest<N: Named<CommitWorld>> {
 
 impl<N: Named<CommitWorld>> Model for Rest<N> {
     ghost use Rattle.std.specs.Prelude.{◌++◌, List, map};
-    ghost use Rattle.pc_desk.specs.Desk.{WaitingMessage, posting, waiting_as};
+    ghost use Rattle.pc_desk.specs.Rest.{LeftMessage, left_as, stray_left_as};
+    ghost use Rattle.pc_desk.specs.Desk.{posting};
     ghost use Rattle.pc_history.specs.Parts.{uses_left};
 
-    ghost Value = { List WaitingMessage };
+    ghost Value = { List LeftMessage };
 
-    ghost view = { λ r. map (λ e. waiting_as e.0 e.1.message.sender e.1.verdict (posting e.1.message.number e.1.message.range e.1.message.request (uses_left e.1.message.note.known))) (r.outbox.waiting ++ r.later.waiting) };
+    ghost view = { λ r.
+        map (λ e. left_as e.0 e.1.message.sender e.1.verdict (posting e.1.message.number e.1.message.range e.1.message.request (uses_left e.1.message.note.known))) (r.outbox.waiting ++ r.later.waiting)
+        ++ map (λ e. stray_left_as e.0 e.1.message.sender (posting e.1.message.number e.1.message.range e.1.message.request (uses_left e.1.message.note.known))) r.outbox.bag };
 }
 
 impl<N: Named<CommitWorld>> Rest<N> {
     pub(crate) fn of(outbox: Outbox<Message<N>>, later: Outbox<Message<N>>) -> Rest<N>
-        ensures { result ≡ map (λ e. waiting_as e.0 e.1.message.sender e.1.verdict (posting e.1.message.number e.1.message.range e.1.message.request (uses_left e.1.message.note.known))) (outbox.waiting ++ later.waiting) }
+        ensures { result ≡ map (λ e. left_as e.0 e.1.message.sender e.1.verdict (posting e.1.message.number e.1.message.range e.1.message.request (uses_left e.1.message.note.known))) (outbox.waiting ++ later.waiting)
+            ++ map (λ e. stray_left_as e.0 e.1.message.sender (posting e.1.message.number e.1.message.range e.1.message.request (uses_left e.1.message.note.known))) outbox.bag }
     {
         Rest { outbox, later }
     }
 
-    /// Takes the message of the least number.
-    fn take_first(&mut self) -> Option<Message<N>>
-        ensures first { IfSome result (λ m. IsFirstOf self.old self.new m.sender (posting m.number m.range m.request (uses_left m.note.known))) }
+    /// Takes the message of the least number, with how often it is to be evaluated.
+    fn take_first(&mut self) -> Option<(u32, Message<N>)>
+        ensures first { IfSome result (λ r. IsFirstOf self.old self.new r.0 r.1.sender (posting r.1.number r.1.range r.1.request (uses_left r.1.note.known))) }
         ensures none { IfNone result (self.old ≡ []) }
     {
-        if comes_first(&self.later, &self.outbox) {
-            let (_, message) = self.later.take_first()?;
-            return Some(message);
+        let waiting = self.outbox.first_from(0);
+        let aside = self.later.first_from(0);
+        let stray = self.outbox.first_stray();
+        if comes_before(stray, waiting) && comes_before(stray, aside) {
+            return Some((1, self.outbox.take_due(u64::MAX)?));
         }
-        let (_, message) = self.outbox.take_first()?;
-        Some(message)
+        let (verdict, message) = if comes_before(aside, waiting) {
+            self.later.take_first()?
+        } else {
+            self.outbox.take_first()?
+        };
+        Some((times_by(verdict), message))
     }
 }
 
-/// Whether the message of the least number was set aside.
-fn comes_first<M: Drop>(aside: &Outbox<M>, other: &Outbox<M>) -> bool
-    ensures first { result ≡ comes_first (first_from 0 (map (λ e. e.0) aside.now.waiting)) (first_from 0 (map (λ e. e.0) other.now.waiting)) }
-    ensures in_order { IsStrictlySortedBy nat_cmp (keys_of aside.now.waiting) × IsStrictlySortedBy nat_cmp (keys_of other.now.waiting) }
+/// Whether the one number is there, and below the other, if that is there.
+fn comes_before(one: Option<u64>, other: Option<u64>) -> bool
+    ensures { result ≡ comes_before one other }
 {
-    let first = aside.first_from(0);
-    let least = other.first_from(0);
-    match first {
-        Some(first) => match least {
-            Some(least) => first < least,
+    match one {
+        Some(one) => match other {
+            Some(other) => one < other,
             None => true,
         },
         None => false,
     }
 }
 
-/// Evaluates what is left of an actor's messages, in the order of their numbers, and stops at the first refusal. The actor takes the note of
-/// each evaluation.
+/// How often what is left of a message of this verdict is evaluated in all.
+fn times_by(verdict: Verdict) -> u32
+    ensures { result ≡ uses_by verdict }
+{
+    match verdict {
+        Verdict::LoseRequest => 0,
+        Verdict::Repeat(_) => 2,
+        Verdict::Deliver | Verdict::LoseReply | Verdict::Hold(_) => 1,
+    }
+}
+
+/// Evaluates what is left of an actor's messages as their verdicts say, in the order of their numbers, and stops at the first refusal. The actor
+/// takes the note of each evaluation.
 pub fn deliver_rest<N: Named<CommitWorld>, G: Gate, R: Wait>(
     rt: &R,
     rest: Rest<N>,
     actor: &mut Actor<CommitWorld, N>,
     ranges: &Ranges<'_, N, G>,
 ) -> Result<(), ServeFault<N>>
-    requires { All (IsReadyToGo actor.old.part.id ranges.now.splits) rest }
+    requires { All (IsReadyLeft actor.old.part.id ranges.now.splits) rest }
     ensures same { HasOnlyLearnt actor.old actor.new }
-    ensures all { OnOk result (All (IsEvaluatedIn actor.new.part) rest) }
+    ensures all { OnOk result (AreServedLeft actor.old.part actor.new.part rest) }
     ensures stopped { IfErr result (StopsAt ranges.now.limit rest actor.new.part) }
 {
     let mut rest = rest;
-    while let Some(message) = rest.take_first() {
-        let reply = ranges.serve(rt, message, None)?;
-        learn(actor, reply);
+    while let Some((times, message)) = rest.take_first() {
+        evaluate(rt, times, message, actor, ranges)?;
     }
     Ok(())
+}
+
+/// Has the message's range evaluate it so often, twice at most. Where its range refuses it, the actor has back what uses it has beside that one.
+fn evaluate<N: Named<CommitWorld>, G: Gate, R: Wait>(
+    rt: &R,
+    times: u32,
+    message: Message<N>,
+    actor: &mut Actor<CommitWorld, N>,
+    ranges: &Ranges<'_, N, G>,
+) -> Result<(), ServeFault<N>>
+    requires { times ≤ uses_left message.note.known }
+    ensures same { HasOnlyLearnt actor.old actor.new }
+{
+    match times {
+        0 => Ok(()),
+        1 => evaluate_once(rt, message, actor, ranges),
+        _ => evaluate_twice(rt, message, actor, ranges),
+    }
+}
+
+/// Has the message's range evaluate it. The actor takes the note of the evaluation.
+fn evaluate_once<N: Named<CommitWorld>, G: Gate, R: Wait>(
+    rt: &R,
+    message: Message<N>,
+    actor: &mut Actor<CommitWorld, N>,
+    ranges: &Ranges<'_, N, G>,
+) -> Result<(), ServeFault<N>>
+    requires { 1 ≤ uses_left message.note.known }
+    ensures same { HasOnlyLearnt actor.old actor.new }
+{
+    let reply = ranges.serve(rt, message, None)?;
+    learn(actor, reply);
+    Ok(())
+}
+
+/// Has the message's range evaluate it twice. Where it is refused at first, the actor has its second use back.
+fn evaluate_twice<N: Named<CommitWorld>, G: Gate, R: Wait>(
+    rt: &R,
+    mut message: Message<N>,
+    actor: &mut Actor<CommitWorld, N>,
+    ranges: &Ranges<'_, N, G>,
+) -> Result<(), ServeFault<N>>
+    requires { 2 ≤ uses_left message.note.known }
+    ensures same { HasOnlyLearnt actor.old actor.new }
+{
+    let copy = copy_of(&mut message)?;
+    match evaluate_once(rt, copy, actor, ranges) {
+        Ok(()) => evaluate_once(rt, message, actor, ranges),
+        Err(fault) => {
+            actor.take(message.note);
+            Err(fault)
+        }
+    }
 }
 
 /// Takes the note of an evaluation.

@@ -1,24 +1,29 @@
-ghost use Rattle.std.specs.Prelude.{◌≡◌, All, IfNone, IfSome, OnOk};
+ghost use Rattle.std.specs.Prelude.{◌≡◌, ◌∷◌, ◌++◌, [], All, IfNone, IfSome, OnOk};
 ghost use Rattle.pc_desk.specs.Wave.{HasJoined, IsHaltOf, IsRefusalIn, IsReply};
 ghost use Rattle.pc_history.specs.Parts.{without_uses};
 
+use crate::errand::{Errand, Sequel};
 use crate::halt::Halt;
 use pc_base::{ActorId, NoMemory};
 use pc_history::{Named, Note};
 use pc_range::{CommitWorld, Message, ReplyMsg, ServeFault};
 use pc_serving::{Delivery, Outcome};
 
-/// Puts a message behind the others of its wave, with a copy of the note beside it.
+/// Puts the message behind the others of its wave, with a copy of the note beside it, and what comes of its evaluation behind that of theirs.
 pub(crate) fn join_wave<N: Named<CommitWorld>>(
     wave: &mut Vec<Delivery<N>>,
-    message: Message<N>,
+    sequels: &mut Vec<Sequel<N>>,
+    errand: Errand<N>,
     last: &mut Note<CommitWorld, N>,
 ) -> Result<(), NoMemory>
-    ensures put { OnOk result (HasJoined wave.old.items wave.new.items message last.old.known) }
+    ensures put { OnOk result (HasJoined wave.old.items wave.new.items errand.message last.old.known) }
+    ensures sequels { OnOk result (sequels.new.items ≡ sequels.old.items ++ errand.sequel ∷ []) }
     ensures note { OnOk result (last.new.known ≡ without_uses 0 last.old.known) }
 {
+    let Errand { message, sequel } = errand;
     let last = last.again(0)?;
     wave.push(Delivery { message, last })?;
+    sequels.push(sequel)?;
     Ok(())
 }
 

@@ -1,8 +1,7 @@
 ghost use Rattle.std.specs.Prelude.{◌≡◌, ◌-◌, ◌<◌, ◌||◌, [], false, length, nat_le, map, All, IfNone, IfOk, IfSome, OnOk};
 ghost use Rattle.pc_base.specs.declared.actor.ActorId.TheVariants as actors;
 ghost use Rattle.pc_desk.specs.declared.halt.Halt.TheVariants as halts;
-ghost use Rattle.pc_desk.specs.Desk.{IsReadyToGo};
-ghost use Rattle.pc_desk.specs.Ending.{all_waiting};
+ghost use Rattle.pc_desk.specs.Rest.{IsReadyLeft, IsRestOf};
 ghost use Rattle.pc_desk.specs.Keeping.{ReadsEach};
 ghost use Rattle.pc_desk.specs.OwnLog.{IsOwnLog};
 ghost use Rattle.pc_history.specs.Parts.{noted, told};
@@ -160,8 +159,8 @@ impl<'a, N: Named<CommitWorld>, C: Clock + Drop, V: Wire + Drop, G: Gate> Counte
         ensures actor { (result.0.world ≡ self.entry.recoverer.desk.log.head) × (result.0.part ≡ self.entry.recoverer.desk.log.part) }
         ensures log { IsOwnLog self.entry.recoverer.desk.log }
         ensures reads { ReadsEach (C.rule self.entry.recoverer.desk.log.clock) (entries_made self.entry) }
-        ensures rest { map (λ w. w.posted) result.1 ≡ all_waiting self.entry.recoverer.desk }
-        ensures ready { All (IsReadyToGo self.entry.recoverer.desk.log.part.id self.entry.recoverer.desk.log.head.splits) result.1 }
+        ensures rest { IsRestOf self.entry.recoverer.desk result.1 }
+        ensures ready { All (IsReadyLeft self.entry.recoverer.desk.log.part.id self.entry.recoverer.desk.log.head.splits) result.1 }
     {
         self.recoverer.finish()
     }

@@ -1,8 +1,7 @@
 ghost use Rattle.std.specs.Prelude.{◌≡◌, ◌↔◌, ℕ, ◌-◌, ◌||◌, [], Bool, false, length, map, is_some, nat_le, not, All, IfNone, IfOk, IfSome, IsTrue, OnOk, None, Some};
 ghost use Rattle.pc_desk.specs.declared.halt.Halt.TheVariants as halts;
 ghost use Rattle.pc_desk.specs.Commits.{WasTold};
-ghost use Rattle.pc_desk.specs.Desk.{IsReadyToGo};
-ghost use Rattle.pc_desk.specs.Ending.{all_waiting};
+ghost use Rattle.pc_desk.specs.Rest.{IsReadyLeft, IsRestOf};
 ghost use Rattle.pc_desk.specs.Keeping.{EachAfter};
 ghost use Rattle.pc_desk.specs.OwnLog.{IsOwnLog};
 ghost use Rattle.pc_history.specs.Parts.{noted, told};
@@ -219,8 +218,8 @@ impl<'a, N: Named<CommitWorld>, C: Clock + Drop, V: Wire + Drop, G: Gate> Script
         requires { IsScripted self }
         ensures actor { (result.0.world ≡ self.entry.session.desk.log.head) × (result.0.part ≡ self.entry.session.desk.log.part) }
         ensures log { IsOwnLog self.entry.session.desk.log }
-        ensures rest { map (λ w. w.posted) result.1 ≡ all_waiting self.entry.session.desk }
-        ensures ready { All (IsReadyToGo self.entry.session.desk.log.part.id self.entry.session.desk.log.head.splits) result.1 }
+        ensures rest { IsRestOf self.entry.session.desk result.1 }
+        ensures ready { All (IsReadyLeft self.entry.session.desk.log.part.id self.entry.session.desk.log.head.splits) result.1 }
         ensures keeps { (work : Workload) (session : SessionWork) (rule : ℕ → ℕ → Bool) → DoesWork work session self.entry → C.rule self.entry.session.desk.log.clock ≡ clock_rule session.clock rule → EachAfter (KeepsWork work session rule) [] (own_list self.entry) }
     {
         self.session.finish()

@@ -1,0 +1,105 @@
+ghost use Rattle.std.specs.Prelude.{◌≡◌, ◌≤◌, false, true, None, Some, IfOk, OnOk};
+ghost use Rattle.pc_desk.specs.Errand.{IsCopyOf, IsRepeated, due_by};
+ghost use Rattle.pc_history.specs.Parts.{uses_left, with_uses, without_uses};
+
+use pc_base::{NoMemory, TryCopy};
+use pc_history::Named;
+use pc_range::{CommitWorld, Message};
+use pc_wire::Stray;
+
+/// What comes of an evaluation.
+#[derive(Drop)]
+pub(crate) struct Sequel<N: Named<CommitWorld>> {
+    /// Whether the reply is heard.
+    pub is_heard: bool,
+    /// A copy of the message that is evaluated late.
+    pub copy: Option<Stray<Message<N>>>,
+}
+
+/// A message that its range is to evaluate, and what comes of that.
+#[derive(Drop)]
+pub(crate) struct Errand<N: Named<CommitWorld>> {
+    pub message: Message<N>,
+    pub sequel: Sequel<N>,
+}
+
+impl<N: Named<CommitWorld>> Errand<N> {
+    /// The message is evaluated, and its reply heard.
+    pub(crate) fn heard(message: Message<N>) -> Errand<N>
+        ensures { result ≡ record { message = message; sequel = record { is_heard = true; copy = None } } }
+    {
+        Errand {
+            message,
+            sequel: Sequel {
+                is_heard: true,
+                copy: None,
+            },
+        }
+    }
+
+    /// The message is evaluated, and its reply dropped.
+    pub(crate) fn unheard(message: Message<N>) -> Errand<N>
+        ensures { result ≡ record { message = message; sequel = record { is_heard = false; copy = None } } }
+    {
+        Errand {
+            message,
+            sequel: Sequel {
+                is_heard: false,
+                copy: None,
+            },
+        }
+    }
+
+    /// The message is evaluated, and its reply heard; a copy is evaluated once its sender has sent so many more.
+    pub(crate) fn repeated(message: Message<N>, sends: u32) -> Result<Errand<N>, NoMemory>
+        requires uses { 2 ≤ uses_left message.note.known }
+        ensures { IfOk result (IsRepeated message.entry sends) }
+    {
+        let mut message = message;
+        let due = due_by(message.number, sends);
+        let copy = copy_of(&mut message)?;
+        Ok(Errand {
+            message,
+            sequel: Sequel {
+                is_heard: true,
+                copy: Some(Stray { due, message: copy }),
+            },
+        })
+    }
+
+    /// The same, but that the reply is dropped.
+    pub(crate) fn dropped(self) -> Errand<N>
+        ensures { result ≡ record self { sequel = record self.sequel { is_heard = false } } }
+    {
+        Errand {
+            message: self.message,
+            sequel: Sequel {
+                is_heard: false,
+                copy: self.sequel.copy,
+            },
+        }
+    }
+}
+
+/// A copy of the message, which gets one of its uses.
+pub(crate) fn copy_of<N: Named<CommitWorld>>(message: &mut Message<N>) -> Result<Message<N>, NoMemory>
+    requires { 1 ≤ uses_left message.old.note.known }
+    ensures copy { IfOk result (IsCopyOf message.old) }
+    ensures rest { OnOk result (message.new ≡ record message.old { note = message.new.note }) }
+    ensures uses { OnOk result (message.new.note.known ≡ without_uses 1 message.old.note.known) }
+{
+    Ok(Message {
+        sender: message.sender,
+        number: message.number,
+        range: message.range,
+        request: message.request.copy()?,
+        note: message.note.again(1)?,
+    })
+}
+
+/// How many messages a sender has sent when a message of this number is due which is late by so many sends.
+pub(crate) fn due_by(number: u64, sends: u32) -> u64
+    ensures { result ≡ due_by number sends }
+{
+    number.saturating_add(u64::from(sends))
+}
