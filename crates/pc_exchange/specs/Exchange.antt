@@ -1,7 +1,8 @@
--- One message that is sent, evaluated and heard, before the next.
-use Rattle.std.specs.Prelude.{◌≡◌, ℕ, false, None, Some, [], ◌∷◌}
+-- One message that is sent, evaluated and heard, before the next; while nothing is heard of it, it is sent again.
+use Rattle.std.specs.Prelude.{◌≡◌, ℕ, ◌+◌, ◌<◌, true, false, None, Some, List, [], ◌∷◌, ◌++◌, length}
 use Rattle.pc_base.specs.declared.actor.ActorId.{ActorId}
-use Rattle.pc_desk.specs.Desk.{DeskMeaning, MaySendNow}
+use Rattle.pc_desk.specs.declared.answered.Answered.{Answered}
+use Rattle.pc_desk.specs.Desk.{DeskMeaning, HasHeardFirst, KeepsTrack, MaySendNow}
 use Rattle.pc_exchange.specs.Growing.{HasGoneBeside, HasAllBack}
 use Rattle.pc_history.specs.declared.pair.Pair.{Pair}
 use Rattle.pc_history.specs.Own.{pair}
@@ -12,6 +13,8 @@ use Rattle.pc_proto.specs.declared.reply.Reply.{Reply}
 use Rattle.pc_proto.specs.declared.request.Request.{Request}
 use Rattle.pc_proto.specs.Requests.{is_put, is_refresh}
 use Rattle.pc_range.specs.Message.{evaluation, sending}
+use Rattle.pc_wire.specs.declared.verdict.Verdict.{Verdict}
+use Rattle.pc_wire.specs.Verdicts.{is_losing}
 use Rattle.pc_world.specs.Answering.{MayAnswer}
 use Rattle.pc_world.specs.Exchange.{IsPossibleReply}
 use Rattle.pc_follows.specs.CallMessages.{IsOfRound}
@@ -36,16 +39,52 @@ abbrev pub heard_pair : ActorId → ℕ → ℕ → ℕ → ℕ → Reply → Pa
 heard_pair id step number range evaluated reply =
     pair (entry_of step id (events.Hear number evaluated)) (Some (evaluation evaluated range id number reply))
 
--- The actor sent this message under its next number, some range evaluated it, and the actor heard this reply, of the message's kind.
+-- The entries send this message under numbers from this one on, each of which its verdict loses.
+abbrev pub AreLostSends : ActorId → (ℕ → Verdict) → Request → ℕ → List (Pair Event) → Type 0
+AreLostSends id verdict request number [] = Unit {0}
+AreLostSends id verdict request number (p ∷ ps) =
+    ((sent_at range : ℕ) × (p ≡ sent_pair id sent_at number range request)) × (is_losing (verdict number) ≡ true) × AreLostSends id verdict request (number + 1) ps
+
+-- The actor sent this message some times, fewer than its tries, and heard nothing of it; then it sent it again, some range evaluated it, and the actor
+-- heard this reply, of the message's kind.
 pub record WasExchanged {C : Type 0} (old new : DeskMeaning C) (request : Request) (reply : Reply) : Type 0 where
+  pub lost : List (Pair Event)
+  pub unheard : AreLostSends old.log.part.id old.log.verdict request (next_number (known_of old.log.part.own)) lost
+  pub few : length lost < old.log.tries
   pub range : ℕ
   pub evaluated_by : ℕ
   pub sent_at : ℕ
   pub evaluated_at : ℕ
   pub heard_at : ℕ
   pub goes :
-      HasGoneBeside old new (
-      sent_pair old.log.part.id sent_at (next_number (known_of old.log.part.own)) range request
-      ∷ heard_pair old.log.part.id heard_at (next_number (known_of old.log.part.own)) evaluated_by evaluated_at reply ∷ [])
+      HasGoneBeside old new (lost ++ (
+      sent_pair old.log.part.id sent_at (next_number (known_of old.log.part.own) + length lost) range request
+      ∷ heard_pair old.log.part.id heard_at (next_number (known_of old.log.part.own) + length lost) evaluated_by evaluated_at reply ∷ []))
   pub kind : MayAnswer request reply
   pub possible : IsPossibleReply request reply
+
+-- The actor sent this message just as often as its tries, and heard nothing of it.
+pub record HasLostAll {C : Type 0} (old new : DeskMeaning C) (request : Request) : Type 0 where
+  pub lost : List (Pair Event)
+  pub unheard : AreLostSends old.log.part.id old.log.verdict request (next_number (known_of old.log.part.own)) lost
+  pub all : length lost ≡ old.log.tries
+  pub goes : HasGoneBeside old new lost
+
+-- The actor sent this message once, and heard nothing of it.
+pub record HasLostOne {C : Type 0} (old new : DeskMeaning C) (request : Request) : Type 0 where
+  pub lost : Pair Event
+  pub unheard : AreLostSends old.log.part.id old.log.verdict request (next_number (known_of old.log.part.own)) (lost ∷ [])
+  pub goes : HasGoneBeside old new (lost ∷ [])
+
+-- One message of the actor was delivered: its reply waits to be heard, or it was lost.
+pub record HasOneOut {C : Type 0} (d : DeskMeaning C) : Type 0 where
+  pub track : KeepsTrack d
+  pub posted : d.posted ≡ []
+  pub one : length d.replies + length d.lost ≡ 1
+
+-- The actor heard the one reply that waited, and did nothing else.
+pub record WasHeardLast {C : Type 0} (old new : DeskMeaning C) (reply : Reply) : Type 0 where
+  pub answered : Answered
+  pub told : answered.reply ≡ reply
+  pub heard : HasHeardFirst old new answered
+  pub back : HasAllBack new

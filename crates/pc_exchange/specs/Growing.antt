@@ -28,14 +28,15 @@ pub record HasGrownBy {C : Type 0} (old new : LogMeaning C) (part : List (Pair E
 abbrev pub IsSameActor : {C : Type 0} → DeskMeaning C → DeskMeaning C → Type 0
 IsSameActor old new = (new.log.head ≡ old.log.head) × (new.log.part.id ≡ old.log.part.id) × (new.log.stopped ≡ old.log.stopped)
 
--- No message of the actor is on its way, and none stands at two stages.
+-- No message of the actor is on its way or lost just now, and none stands at two stages.
 pub record HasAllBack {C : Type 0} (d : DeskMeaning C) : Type 0 where
   pub track : KeepsTrack d
   pub posted : d.posted ≡ []
   pub replies : d.replies ≡ []
+  pub lost : d.lost ≡ []
 
--- The actor's list went on by these entries, by which no call is asked and no answer told; no message of it is on its way, and what was set aside
--- is so still.
+-- The actor's list went on by these entries, by which no call is asked and no answer told; no message of it is on its way, what was set aside is so
+-- still, and of the bag what was due by then was evaluated.
 pub record HasGoneBeside {C : Type 0} (old new : DeskMeaning C) (part : List (Pair Event)) : Type 0 where
   pub grown : HasGrownBy old.log new.log part
   pub within : All IsInBetween (events_of part)

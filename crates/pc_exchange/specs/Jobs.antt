@@ -1,5 +1,5 @@
 -- A finishing job of a session: each lock of its transaction is settled, and then the record removed.
-use Rattle.std.specs.Prelude.{◌≡◌, ℕ, ◌≤◌, false, None, Some, List, ◌∷◌, All}
+use Rattle.std.specs.Prelude.{◌≡◌, ℕ, ◌≤◌, ◌⊎◌, true, None, Some, List, ◌∷◌, All}
 use Rattle.pc_base.specs.declared.actor.ActorId.TheVariants as actors
 use Rattle.pc_coord.specs.Coordination.{Coordination}
 use Rattle.pc_coord.specs.declared.job.Job.{Job}
@@ -12,6 +12,7 @@ use Rattle.pc_proto.specs.declared.event.Event.{Event}
 use Rattle.pc_proto.specs.declared.request.Request.{Request}
 use Rattle.pc_follows.specs.FinishingJobs.{jobs_of}
 use Rattle.pc_follows.specs.WaveOrder.{IsHeardOrPut}
+use Rattle.pc_wire.specs.Verdicts.{is_losing}
 use Rattle.pc_world.specs.Known.{Known, known_of, open_txn}
 use Rattle.pc_world.specs.Known.Transactions.{Txn}
 
@@ -36,10 +37,10 @@ pub record MayFinishNow {C : Type 0} (d : DeskMeaning C) (job : Job) : Type 0 wh
 pub record IsJobMade (session : ℕ) (start k : Known) (ts : ℕ) : Type 0 where
   pub aside : IsLaterAside session start k ts
   pub left : (job : Job) → IsFinishable start job → IsFinishable k job
-  pub beside : (c : Coordination) → c.session ≡ session → Knows false c start → MayGoOnBeside c start k ts
+  pub beside : (c : Coordination) → c.session ≡ session → Knows true c start → MayGoOnBeside c start k ts
 
--- The session did its oldest job, this one, whole and beside its coordinator: the others wait, and each message that it ever sent was heard, or is a
--- put that was set aside.
+-- The session did its oldest job, this one, whole or up to a message whose tries are used up or a commit that found no committed record, and beside its
+-- coordinator: the others wait, and each message that it ever sent was heard, or was lost, or is a put.
 pub record HasFinishedJob {C : Type 0} (old new : DeskMeaning C) (job : Job) (ts : ℕ) : Type 0 where
   pub session : ℕ
   pub whose : old.log.part.id ≡ actors.Session session
@@ -47,4 +48,4 @@ pub record HasFinishedJob {C : Type 0} (old new : DeskMeaning C) (job : Job) (ts
   pub goes : HasGoneBeside old new part
   pub made : IsJobMade session (known_of old.log.part.own) (known_of new.log.part.own) ts
   pub done : jobs_of old.log.part.own ≡ messages_of_job job ∷ jobs_of new.log.part.own
-  pub heard : All (IsHeardOrPut (known_of new.log.part.own).heard) (known_of new.log.part.own).sent
+  pub heard : All (λ m. IsHeardOrPut (known_of new.log.part.own).heard m ⊎ (is_losing (new.log.verdict m.number) ≡ true)) (known_of new.log.part.own).sent

@@ -8,6 +8,7 @@ use Rattle.pc_coord.specs.declared.pusher.Pusher.{Pusher}
 use Rattle.pc_coord.specs.Rounds.{AreAskedOnce, IsBehindPush}
 use Rattle.pc_desk.specs.Desk.{DeskMeaning}
 use Rattle.pc_exchange.specs.Aside.{IsLaterAside}
+use Rattle.pc_exchange.specs.Exchange.{HasLostAll}
 use Rattle.pc_exchange.specs.Growing.{HasGoneBeside}
 use Rattle.pc_exchange.specs.Rounding.{IsRoundUnderWay}
 use Rattle.pc_exchange.specs.Told.{KeepsToldBut}
@@ -120,3 +121,11 @@ pub record HasRecoveredInRound {C : Type 0} (d : DeskMeaning C) (own : TxnId) (h
   pub r : Recovering
   pub recovered : RecoversForRound d own holder met start r new
   pub over : r.progress ≡ progresses.Over view
+
+-- The recovery for the round is over: it was under way, and then one of its requests was lost as often as it may be sent.
+pub record HasLostInRound {C : Type 0} (d : DeskMeaning C) (own : TxnId) (holder : TxnMeta) (met : View) (start : MayRecoverInRound d own holder met) (new : DeskMeaning C) : Type 0 where
+  pub r : Recovering
+  pub before : DeskMeaning C
+  pub recovers : RecoversForRound d own holder met start r before
+  pub request : Request
+  pub lost : HasLostAll before new request

@@ -6,6 +6,7 @@ use Rattle.pc_coord.specs.declared.pusher.Pusher.{Pusher}
 use Rattle.pc_coord.specs.Rounds.{AreAskedOnce, IsBehindPush, IsRefusedRound, IsSettledRound, LeavesRoundOn}
 use Rattle.pc_desk.specs.Desk.{DeskMeaning}
 use Rattle.pc_exchange.specs.Aside.{IsLaterAside}
+use Rattle.pc_exchange.specs.Exchange.{HasLostAll}
 use Rattle.pc_exchange.specs.Growing.{HasGoneBeside}
 use Rattle.pc_exchange.specs.Rounds.{MayMakeRound}
 use Rattle.pc_exchange.specs.Told.{KeepsTold}
@@ -15,6 +16,7 @@ use Rattle.pc_proto.specs.declared.fate.Fate.{Fate}
 use Rattle.pc_proto.specs.declared.fate.Goal.{Goal}
 use Rattle.pc_proto.specs.declared.reply.Reply.{Reply}
 use Rattle.pc_proto.specs.declared.reply.Reply.TheVariants as replies
+use Rattle.pc_proto.specs.declared.request.Request.{Request}
 use Rattle.pc_proto.specs.declared.view.View.{View}
 use Rattle.pc_proto.specs.Requests.{goal_in, is_push_of, is_resolve_of}
 use Rattle.pc_proto.specs.Stamps.{view_stamps}
@@ -83,3 +85,14 @@ pub record IsRoundUnderWay {C : Type 0} (old : DeskMeaning C) (pusher : Pusher) 
   pub key : m.key ≡ start.met.key
   pub aims : m.goal ≡ goal_for start.met.h.request
   pub begun : rounds_begun (known_of new.log.part.own) ≡ rounds_begun (known_of old.log.part.own) + pushes_sent m.progress
+
+-- The round of this conflict is over: it was under way, and then one of its requests was lost as often as it may be sent.
+pub record HasLostRound {C : Type 0} (old : DeskMeaning C) (pusher : Pusher) (reading : ℕ) (conflict : Reply) (reader : Option ℕ) (new : DeskMeaning C) (ts : ℕ) : Type 0 where
+  pub before : DeskMeaning C
+  pub m : Pushing
+  pub under : IsRoundUnderWay old pusher reading conflict reader m before ts
+  pub request : Request
+  pub since : DeskMeaning C
+  pub part : List (Pair Event)
+  pub goes : HasGoneBeside before since part
+  pub lost : HasLostAll since new request

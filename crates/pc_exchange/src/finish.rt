@@ -1,8 +1,8 @@
-ghost use Rattle.std.specs.Prelude.{◌≡◌, ℕ, max, true, IfErr, IfOk, All, Some};
+ghost use Rattle.std.specs.Prelude.{◌≡◌, ℕ, max, true, false, IfErr, IfNone, IfOk, IfSome, All, Some};
 ghost use Rattle.pc_coord.specs.declared.job.Job.{Job};
 ghost use Rattle.pc_desk.specs.Desk.{DeskMeaning, HasHalted};
 ghost use Rattle.pc_exchange.specs.Ending.{BreaksOff};
-ghost use Rattle.pc_exchange.specs.Exchange.{MayExchangeNow, WasExchanged};
+ghost use Rattle.pc_exchange.specs.Exchange.{HasLostAll, MayExchangeNow, WasExchanged};
 ghost use Rattle.pc_exchange.specs.Finishing.{HasBegunJob, IsJobUnderWay, is_committed_reply};
 ghost use Rattle.pc_exchange.specs.Jobs.{HasFinishedJob, MayFinishNow};
 ghost use Rattle.pc_proto.specs.declared.machine.MachineNext.TheVariants as machines;
@@ -23,7 +23,7 @@ use pc_wire::Wire;
 use std::sync::Wait;
 
 /// Does the session's oldest job, between its calls: where its transaction was told committed otherwise than by its commit, that is sent first; then each lock is
-/// settled, and the record removed. A commit that is not told committed ends the job.
+/// settled, and the record removed. A commit that is not told committed ends the job, and so does a request whose tries are used up.
 ///
 /// Gives the greatest timestamp that was heard in it.
 pub fn finish_job<N: Named<CommitWorld>, C: Clock, V: Wire, G: Gate, R: Wait>(
@@ -50,7 +50,9 @@ pub fn finish_job<N: Named<CommitWorld>, C: Clock, V: Wire, G: Gate, R: Wait>(
         };
         match next {
             MachineNext::Send(request) => {
-                let last = settle_on(desk, rt, &mut machine, request)?;
+                let Some(last) = settle_on(desk, rt, &mut machine, request)? else {
+                    return Ok(heard);
+                };
                 heard = heard.max(last);
             }
             MachineNext::Finished => return Ok(heard),
@@ -70,7 +72,8 @@ fn begin_job<N: Named<CommitWorld>, C: Clock, V: Wire, G: Gate, R: Wait>(
     job: &Job,
 ) -> Result<(Timestamp, bool), Halt>
     requires { MayFinishNow desk.old job.now }
-    ensures ok { IfOk result (λ r. (r.1 ≡ true) × HasBegunJob desk.old desk.new job.now r.0) }
+    ensures ok { IfOk result (λ r. r.1 ≡ true → HasBegunJob desk.old desk.new job.now r.0) }
+    ensures over { IfOk result (λ r. r.1 ≡ false → HasFinishedJob desk.old desk.new job.now r.0) }
     ensures clock { desk.new.log.clock ≡ desk.old.log.clock }
     ensures err { IfErr result (HasHalted desk.old desk.new) }
     ensures ended { IfErr result (BreaksOff (All IsInBetween) desk.old desk.new) }
@@ -78,22 +81,25 @@ fn begin_job<N: Named<CommitWorld>, C: Clock, V: Wire, G: Gate, R: Wait>(
     match job.staged {
         None => Ok((Timestamp::ZERO, true)),
         Some(ts) => {
-            let reply = commit_first(desk, rt, job, ts)?;
+            let Some(reply) = commit_first(desk, rt, job, ts)? else {
+                return Ok((Timestamp::ZERO, false));
+            };
             Ok((reply.last_stamp(), is_committed(&reply)))
         }
     }
 }
 
-/// Sends the commit of the job's transaction at this timestamp. Gives its reply.
+/// Sends the commit of the job's transaction at this timestamp. Gives its reply; None once its tries are used up.
 fn commit_first<N: Named<CommitWorld>, C: Clock, V: Wire, G: Gate, R: Wait>(
     desk: &mut Desk<'_, N, C, V, G>,
     rt: &R,
     job: &Job,
     ts: Timestamp,
-) -> Result<Reply, Halt>
+) -> Result<Option<Reply>, Halt>
     requires may { MayFinishNow desk.old job.now }
     requires first { job.now.staged ≡ Some ts }
-    ensures ok { IfOk result (λ reply. WasExchanged desk.old desk.new (requests.Commit job.now.meta ts job.now.locks) reply) }
+    ensures heard { IfOk result (λ reply. IfSome reply (WasExchanged desk.old desk.new (requests.Commit job.now.meta ts job.now.locks))) }
+    ensures lost { IfOk result (λ reply. IfNone reply (HasLostAll desk.old desk.new (requests.Commit job.now.meta ts job.now.locks))) }
     ensures clock { desk.new.log.clock ≡ desk.old.log.clock }
     ensures err { IfErr result (HasHalted desk.old desk.new) }
     ensures ended { IfErr result (BreaksOff (All IsInBetween) desk.old desk.new) }
@@ -123,22 +129,25 @@ fn is_committed(reply: &Reply) -> bool
     matches!(reply, Reply::Status(View::Committed { .. }))
 }
 
-/// Exchanges what the job's machine has due. Gives the greatest timestamp in the reply.
+/// Exchanges what the job's machine has due. Gives the greatest timestamp in the reply; None once its tries are used up.
 fn settle_on<N: Named<CommitWorld>, C: Clock, V: Wire, G: Gate, R: Wait>(
     desk: &mut Desk<'_, N, C, V, G>,
     rt: &R,
     machine: &mut ResolveMachine,
     request: Request,
-) -> Result<Timestamp, Halt>
+) -> Result<Option<Timestamp>, Halt>
     requires { MayExchangeNow desk.old request }
-    ensures ok { (old : DeskMeaning C) (job : Job) (ts : ℕ) → IsJobUnderWay old job machine.old desk.old ts → finishing_next machine.old ≡ machines.Send request → IfOk result (λ last. IsJobUnderWay old job machine.new desk.new (max ts last)) }
+    ensures ok { (old : DeskMeaning C) (job : Job) (ts : ℕ) → IsJobUnderWay old job machine.old desk.old ts → finishing_next machine.old ≡ machines.Send request → IfOk result (λ last. IfSome last (λ stamp. IsJobUnderWay old job machine.new desk.new (max ts stamp))) }
+    ensures lost { IfOk result (λ last. IfNone last (HasLostAll desk.old desk.new request)) }
     ensures clock { desk.new.log.clock ≡ desk.old.log.clock }
     ensures err { IfErr result (HasHalted desk.old desk.new) }
     ensures ended { IfErr result (BreaksOff (All IsInBetween) desk.old desk.new) }
 {
-    let reply = exchange(desk, rt, request)?;
+    let Some(reply) = exchange(desk, rt, request)? else {
+        return Ok(None);
+    };
     match machine.heard(&reply) {
-        Ok(()) => Ok(reply.last_stamp()),
+        Ok(()) => Ok(Some(reply.last_stamp())),
         Err(NoMemory) => Err(desk.want_memory()),
     }
 }

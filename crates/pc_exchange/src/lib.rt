@@ -8,5 +8,5 @@ mod recovery;
 mod round;
 
 pub use finish::finish_job;
-pub use message::exchange;
+pub use message::{exchange, hear_one};
 pub use round::make_round;

@@ -1,9 +1,10 @@
-ghost use Rattle.std.specs.Prelude.{◌≡◌, IfErr, IfOk, All};
+ghost use Rattle.std.specs.Prelude.{◌≡◌, IfErr, IfNone, IfOk, IfSome, OnErr, OnOk, All};
 ghost use Rattle.pc_desk.specs.Desk.{HasHalted};
 ghost use Rattle.pc_exchange.specs.Ending.{BreaksOff};
-ghost use Rattle.pc_exchange.specs.Exchange.{MayExchangeNow, WasExchanged};
+ghost use Rattle.pc_exchange.specs.Exchange.{HasLostAll, HasLostOne, HasOneOut, IsExchanging, MayExchangeNow, WasExchanged, WasHeardLast};
 ghost use Rattle.pc_turns.specs.Order.{IsInBetween};
 
+use pc_base::{NoMemory, TryCopy};
 use pc_clock::Clock;
 use pc_desk::{Desk, Halt};
 use pc_history::Named;
@@ -12,23 +13,66 @@ use pc_range::{CommitWorld, Gate};
 use pc_wire::Wire;
 use std::sync::Wait;
 
-/// Sends one message that is no put, has it evaluated, and hears its reply, which it gives. No other message of the actor is on its way.
+/// Sends one message that is no put, has it evaluated, and hears its reply, which it gives. While nothing is heard of it, it is sent again; None once
+/// its tries are used up. No other message of the actor is on its way.
 pub fn exchange<N: Named<CommitWorld>, C: Clock, V: Wire, G: Gate, R: Wait>(
     desk: &mut Desk<'_, N, C, V, G>,
     rt: &R,
     request: Request,
-) -> Result<Reply, Halt>
+) -> Result<Option<Reply>, Halt>
     requires { MayExchangeNow desk.old request }
-    ensures ok { IfOk result (λ reply. WasExchanged desk.old desk.new request reply) }
+    ensures heard { IfOk result (λ reply. IfSome reply (WasExchanged desk.old desk.new request)) }
+    ensures lost { IfOk result (λ reply. IfNone reply (HasLostAll desk.old desk.new request)) }
+    ensures clock { desk.new.log.clock ≡ desk.old.log.clock }
+    ensures err { IfErr result (HasHalted desk.old desk.new) }
+    ensures ended { IfErr result (BreaksOff (All IsInBetween) desk.old desk.new) }
+{
+    for _ in 0..desk.tries() {
+        let copy = match request.copy() {
+            Ok(copy) => copy,
+            Err(NoMemory) => return Err(desk.want_memory()),
+        };
+        let reply = exchange_once(desk, rt, copy)?;
+        if reply.is_some() {
+            return Ok(reply);
+        }
+    }
+    Ok(None)
+}
+
+/// Sends the message once, has it evaluated, and hears its reply; None where nothing is heard of it. Then what is due in the bag is evaluated.
+fn exchange_once<N: Named<CommitWorld>, C: Clock, V: Wire, G: Gate, R: Wait>(
+    desk: &mut Desk<'_, N, C, V, G>,
+    rt: &R,
+    request: Request,
+) -> Result<Option<Reply>, Halt>
+    requires { MayExchangeNow desk.old request }
+    ensures heard { IfOk result (λ reply. IfSome reply (WasExchanged desk.old desk.new request)) }
+    ensures lost { IfOk result (λ reply. IfNone reply (HasLostOne desk.old desk.new request)) }
     ensures clock { desk.new.log.clock ≡ desk.old.log.clock }
     ensures err { IfErr result (HasHalted desk.old desk.new) }
     ensures ended { IfErr result (BreaksOff (All IsInBetween) desk.old desk.new) }
 {
     desk.send(request)?;
     desk.deliver(rt)?;
-    let heard = desk.hear()?;
-    match heard {
-        Some(answered) => Ok(answered.reply),
-        None => unreachable!(),
+    let reply = hear_one(desk)?;
+    desk.deliver_due(rt)?;
+    Ok(reply)
+}
+
+/// Hears the reply to the one message that was delivered; None where it was lost.
+pub fn hear_one<N: Named<CommitWorld>, C: Clock, V: Wire, G: Gate>(
+    desk: &mut Desk<'_, N, C, V, G>,
+) -> Result<Option<Reply>, Halt>
+    requires { HasOneOut desk.old }
+    ensures heard { IfOk result (λ reply. IfSome reply (WasHeardLast desk.old desk.new)) }
+    ensures clock { desk.new.log.clock ≡ desk.old.log.clock }
+    ensures err { IfErr result (HasHalted desk.old desk.new) }
+    ensures ended { IfErr result (BreaksOff (All IsInBetween) desk.old desk.new) }
+{
+    if desk.take_lost().is_some() {
+        return Ok(None);
     }
+    let heard = desk.hear()?;
+    Ok(heard.map(|answered| answered.reply))
 }
