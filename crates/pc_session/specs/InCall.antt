@@ -1,12 +1,12 @@
 -- A session in one of its calls, and what it does there.
-use Rattle.std.specs.Prelude.{◌≡◌, ℕ, ◌⊎◌, ◌&&◌, not, Bool, true, false, Option, None, Some, List, [], ◌∷◌, ◌++◌, All, IsTrue, ⊤}
+use Rattle.std.specs.Prelude.{◌≡◌, ℕ, ◌⊎◌, ◌&&◌, ◌||◌, not, Bool, true, false, Option, None, Some, List, [], ◌∷◌, ◌++◌, All, IsTrue, ⊤}
 use Rattle.pc_call.specs.Outbox.{has_waited}
 use Rattle.pc_coord.specs.Coordination.{SendsNoMore, awaits_number, Coordination}
 use Rattle.pc_coord.specs.declared.due.Due.{Due}
 use Rattle.pc_coord.specs.declared.due.Due.TheVariants as dues
 use Rattle.pc_coord.specs.Suiting.{SuitsNext}
 use Rattle.pc_desk.specs.Aside.{HasDropped}
-use Rattle.pc_desk.specs.Desk.{DeskMeaning, KeepsTrack, is_on_way}
+use Rattle.pc_desk.specs.Desk.{DeskMeaning, KeepsTrack, has_lost, is_on_way}
 use Rattle.pc_desk.specs.Waiting.{EndsUnheard}
 use Rattle.pc_exchange.specs.Growing.{HasGrownBy}
 use Rattle.pc_history.specs.declared.pair.Pair.{Pair}
@@ -28,6 +28,7 @@ use Rattle.pc_follows.specs.Refreshes.{IsOfWholeRefresh}
 use Rattle.pc_follows.specs.ScanPieces.{SentAllPieces}
 use Rattle.pc_follows.specs.Proving.{IsAwaitedPut}
 use Rattle.pc_follows.specs.WaveOrder.{EndsPutWaves, EndsWaves, IsNoAsk, hears_put}
+use Rattle.pc_wire.specs.Verdicts.{is_losing}
 use Rattle.pc_world.specs.Known.{Known, call_of, known_of, open_txn}
 use Rattle.pc_world.specs.Known.Statements.{Statement}
 use Rattle.pc_world.specs.Known.Traffic.{Heard, Sent, request_sent}
@@ -76,10 +77,11 @@ LeavesStrays (Some calls.Rollback) due = ⊤
 LeavesStrays call (dues.Tell answer) = ends_epoch answer ≡ true
 LeavesStrays call due = ⊥
 
--- The message was heard in the call, or is on its way; or it is the call's own put, which was set aside, and the call is to be told that it is written.
+-- The message was heard in the call, or is on its way, or its verdict loses it; or it is the call's own put, which was set aside, and the call is to be told
+-- that it is written.
 abbrev pub IsHeardOrAway : {C : Type 0} → SessionMeaning C → Sent → Type 0
 IsHeardOrAway s m =
-    IsTrue (is_heard (session_knows s).heard_now m) ⊎ (is_on_way m.number s.desk ≡ true)
+    IsTrue (is_heard (session_knows s).heard_now m) ⊎ (is_on_way m.number s.desk ≡ true) ⊎ (is_losing (s.desk.log.verdict m.number) ≡ true)
     ⊎ ((waits_aside m.number s.desk ≡ true) × (s.coordinator.due ≡ dues.Tell answers.Written) × MayStayUnheard s.coordinator.pipelining (session_knows s) m)
 
 -- What was set aside in the open call, which are puts of the open epoch: each put that the coordinator has wait in the outbox, unless the call rolls its
@@ -95,14 +97,14 @@ pub record HasAsideInCall {C : Type 0} (s : SessionMeaning C) : Type 0 where
 abbrev pub IsWaitedFor : Coordination → ℕ → Type 0
 IsWaitedFor c number = (awaits_number number c.due ≡ true) ⊎ (has_waited number c.later ≡ true)
 
--- The session is in a call that was asked at this reading: its coordinator waits for just the messages that are on their way, and for such as were set
--- aside; those on their way are for the call, and its conflicts have their rounds in turn, none while a wave goes out; and what was set aside joins no wave
+-- The session is in a call that was asked at this reading: its coordinator waits for just the messages that are on their way, or lost without its knowing, and
+-- for such as were set aside; those on their way are for the call, and its conflicts have their rounds in turn, none while a wave goes out; and what was set aside joins no wave
 -- right behind a reply that was heard. A begin or a learn is asked outside of a transaction;
 -- and what is waited for stands behind the replies that were heard to what goes before it.
 pub record HasOpenCall {C : Type 0} (s : SessionMeaning C) (reading : ℕ) : Type 0 where
   pub track : KeepsTrack s.desk
   pub one : AreOfOneSession s.desk s.coordinator
-  pub way : (number : ℕ) → is_on_way number s.desk ≡ (awaits_number number s.coordinator.due && not (waits_aside number s.desk))
+  pub way : (number : ℕ) → (is_on_way number s.desk || has_lost number s.desk) ≡ (awaits_number number s.coordinator.due && not (waits_aside number s.desk))
   pub aside : HasAsideInCall s
   pub sent : All (IsHeardOrAway s) (session_knows s).sent_now
   pub call : Call
@@ -172,13 +174,20 @@ pub record HasTold {C : Type 0} (old new : SessionMeaning C) (answer : Answer) :
   pub suits : (s : Statement) → (session_knows old).statement ≡ Some s → SuitsNext new.coordinator.pipelining answer s.call new.coordinator.txn
   pub rest : IsAtRest new
 
--- No wave is half heard, nor one of puts, and no reply waits to be heard.
+-- No wave is half heard, nor one of puts, no reply waits to be heard, and of no message that was lost the coordinator is still to be told.
 pub record IsBetweenWaves {C : Type 0} (d : DeskMeaning C) : Type 0 where
   pub ends : EndsWaves d.log.part.own
   pub puts : EndsPutWaves d.log.part.own
   pub none_waits : d.replies ≡ []
+  pub none_lost : d.lost ≡ []
 
 -- The call goes on, between two waves of it; or it was told this answer.
 abbrev pub GoesOnOrTold : {C : Type 0} → SessionMeaning C → SessionMeaning C → ℕ → Option Answer → Type 0
 GoesOnOrTold old new reading None = HasOpenCall new reading × HasGoneInside old new × IsBetweenWaves new.desk
 GoesOnOrTold old new reading (Some answer) = HasTold old new answer
+
+-- The session is in such a call, and its coordinator is next to be told that the message of this number was lost: it waits for it, and for none that was sent
+-- before.
+pub record HasCallWithLost {C : Type 0} (s : SessionMeaning C) (reading number : ℕ) : Type 0 where
+  pub calls : HasOpenCall (record s { desk = record s.desk { lost = number ∷ s.desk.lost } }) reading
+  pub waited : awaits_number number s.coordinator.due ≡ true

@@ -1,5 +1,5 @@
 -- A session between its calls.
-use Rattle.std.specs.Prelude.{◌≡◌, ℕ, ◌≤◌, ◌==◌, Bool, false, is_some, None, List, [], map, All, true}
+use Rattle.std.specs.Prelude.{◌≡◌, ℕ, ◌≤◌, ◌==◌, Bool, false, is_some, None, List, [], map, All, true, ◌⊎◌}
 use Rattle.std.specs.List.{list_any}
 use Rattle.pc_base.specs.declared.actor.ActorId.TheVariants as actors
 use Rattle.pc_call.specs.Outbox.{has_waited}
@@ -12,6 +12,7 @@ use Rattle.pc_history.specs.declared.pair.Pair.{Pair}
 use Rattle.pc_proto.specs.declared.event.Event.{Event}
 use Rattle.pc_follows.specs.FinishingJobs.{jobs_of}
 use Rattle.pc_follows.specs.WaveOrder.{IsHeardOrPut}
+use Rattle.pc_wire.specs.Verdicts.{is_losing}
 use Rattle.pc_world.specs.Known.{Known, known_of}
 use Rattle.pc_session.specs.Behind.{WaitsBehindHeard}
 
@@ -30,12 +31,13 @@ abbrev pub waits_aside : {C : Type 0} → ℕ → DeskMeaning C → Bool
 waits_aside number d = list_any (λ m. m.number == number) d.later
 
 -- The desk and the coordinator are of one session: writes are pipelined for both, or for neither; and the coordinator knows what the own list says,
--- over a wire that loses nothing.
+-- over a wire that may lose messages; a request is sent as often in a row as the desk's work has it.
 pub record AreOfOneSession {C : Type 0} (d : DeskMeaning C) (c : Coordination) : Type 0 where
   pub whose : d.log.part.id ≡ actors.Session c.session
   pub splits : c.splits ≡ d.log.head.splits
   pub piped : d.log.pipelining ≡ c.pipelining
-  pub knows : Knows false c (known_of d.log.part.own)
+  pub tries : d.log.tries ≡ c.tries
+  pub knows : Knows true c (known_of d.log.part.own)
 
 -- These jobs wait after the own list, and each may be done; its transactions are numbered up to how many were begun.
 pub record HasLeft (own : List (Pair Event)) (jobs : List Job) : Type 0 where
@@ -43,7 +45,7 @@ pub record HasLeft (own : List (Pair Event)) (jobs : List Job) : Type 0 where
   pub numbers : All (λ t. t.id.number ≤ (known_of own).begun) (known_of own).txns
   pub each : All (IsFinishable (known_of own)) jobs
 
--- The session is between its calls: no call is open, all that it sent was heard but for puts, and of those just the ones wait that its coordinator
+-- The session is between its calls: no call is open, all that it sent was heard or lost but for puts, and of those just the ones wait that its coordinator
 -- has wait in the outbox; its last transaction's job was taken over, and its jobs may be done. It has a transaction open exactly where its
 -- coordinator has one. What waits stands behind what was heard to queries of its writes.
 pub record IsAtRest {C : Type 0} (s : SessionMeaning C) : Type 0 where
@@ -51,7 +53,8 @@ pub record IsAtRest {C : Type 0} (s : SessionMeaning C) : Type 0 where
   pub one : AreOfOneSession s.desk s.coordinator
   pub posted : s.desk.posted ≡ []
   pub replies : s.desk.replies ≡ []
-  pub heard : All (IsHeardOrPut (session_knows s).heard) (session_knows s).sent
+  pub lost : s.desk.lost ≡ []
+  pub heard : All (λ m. IsHeardOrPut (session_knows s).heard m ⊎ (is_losing (s.desk.log.verdict m.number) ≡ true)) (session_knows s).sent
   pub aside : (number : ℕ) → waits_aside number s.desk ≡ has_waited number s.coordinator.later
   pub closed : (session_knows s).statement ≡ None
   pub handed : s.coordinator.job ≡ None

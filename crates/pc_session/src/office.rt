@@ -10,8 +10,10 @@ ghost use Rattle.pc_coord.specs.declared.next.Next.TheVariants as nexts;
 ghost use Rattle.pc_coord.specs.Knows.{Knows, MayCome, MayFinishJob};
 ghost use Rattle.pc_desk.specs.Commits.{TellsCommitAt};
 ghost use Rattle.pc_desk.specs.declared.halt.Halt.TheVariants as halts;
-ghost use Rattle.pc_desk.specs.Desk.{HasHalted, IsReadyToGo};
-ghost use Rattle.pc_desk.specs.Ending.{EndsOnly, all_waiting};
+ghost use Rattle.pc_desk.specs.Desk.{HasHalted};
+ghost use Rattle.pc_desk.specs.Ending.{EndsOnly};
+ghost use Rattle.pc_desk.specs.Late.{HasDeliveredDue};
+ghost use Rattle.pc_desk.specs.Rest.{IsReadyLeft, IsRestOf};
 ghost use Rattle.pc_desk.specs.Keeping.{ReadsEach};
 ghost use Rattle.pc_desk.specs.OwnLog.{IsOwnLog};
 ghost use Rattle.pc_exchange.specs.Ending.{BreaksOff};
@@ -296,6 +298,42 @@ impl<'a, N: Named<CommitWorld>, C: Clock, V: Wire, G: Gate> Office<'a, N, C, V, 
         Ok(())
     }
 
+    /// Takes what came of the first message of the wave that is left: it was lost, or its reply is heard. False where none is left.
+    fn take_next(&mut self, reading: u64) -> Result<bool, Halt>
+        requires calls { HasOpenCall self.old reading }
+        requires whole { IsWholeOut self.old }
+        requires none_waits { self.old.desk.posted ≡ [] }
+        ensures calls { OnOk result (HasOpenCall self.new reading) }
+        ensures whole { OnOk result (IsWholeOut self.new) }
+        ensures goes { OnOk result (HasGoneInside self.old self.new) }
+        ensures posted { OnOk result (self.new.desk.posted ≡ self.old.desk.posted) }
+        ensures none { IfOk result (λ more. more ≡ false → (self.new.desk.replies ≡ []) × (self.new.desk.lost ≡ [])) }
+        ensures fewer { IfOk result (λ more. more ≡ true → length self.old.desk.replies + length self.old.desk.lost ≡ length self.new.desk.replies + length self.new.desk.lost + 1) }
+        ensures err { IfErr result (HasHalted self.old.desk self.new.desk) }
+        ensures ended { IfErr result (BreaksOff (All IsInBetween) self.old.desk self.new.desk) }
+        ensures clock { self.new.desk.log.clock ≡ self.old.desk.log.clock }
+    {
+        match self.desk.take_lost() {
+            Some(number) => self.lose(reading, number),
+            None => self.hear(reading),
+        }
+    }
+
+    /// The coordinator is told that the message of this number was lost, for which it waits.
+    fn lose(&mut self, reading: u64, number: u64) -> Result<bool, Halt>
+        requires knows { HasCallWithLost self.old reading number }
+        ensures calls { OnOk result (HasOpenCall self.new reading) }
+        ensures desk { OnOk result (self.new.desk ≡ self.old.desk) }
+        ensures made { IfOk result (λ more. more ≡ true) }
+        ensures err { IfErr result (HasHalted self.old.desk self.new.desk) }
+        ensures clock { self.new.desk.log.clock ≡ self.old.desk.log.clock }
+    {
+        match self.coordinator.lost(number) {
+            Ok(()) => Ok(true),
+            Err(NoMemory) => Err(self.want_memory()),
+        }
+    }
+
     /// Hears the reply that has waited longest. False where none waits.
     fn hear(&mut self, reading: u64) -> Result<bool, Halt>
         requires calls { HasOpenCall self.old reading }
@@ -504,7 +542,7 @@ impl<'a, N: Named<CommitWorld> + Send + Sync, C: Clock, V: Wire, G: Gate + Sync>
         }
     }
 
-    /// A wave: the messages that wait are evaluated, and then their replies heard.
+    /// A wave: the messages that wait are evaluated, and then their replies heard, but for those that are lost. Then what is due in the bag is evaluated.
     fn wave<R: Wait + Threads + Sync>(
         &mut self,
         rt: &R,
@@ -520,11 +558,39 @@ impl<'a, N: Named<CommitWorld> + Send + Sync, C: Clock, V: Wire, G: Gate + Sync>
     {
         self.join_awaited(reading)?;
         self.deliver(rt, reading)?;
-        loop {
-            if !self.hear(reading)? {
-                return Ok(None);
-            }
-        }
+        self.take_all(reading)?;
+        self.deliver_due(rt, reading)?;
+        Ok(None)
+    }
+
+    /// Takes what came of each message of the wave, in the order of their numbers.
+    fn take_all(&mut self, reading: u64) -> Result<(), Halt>
+        requires calls { HasOpenCall self.old reading }
+        requires whole { IsWholeOut self.old }
+        requires none_waits { self.old.desk.posted ≡ [] }
+        ensures calls { OnOk result (HasOpenCall self.new reading) }
+        ensures between { OnOk result (IsBetweenWaves self.new.desk) }
+        ensures goes { OnOk result (HasGoneInside self.old self.new) }
+        ensures err { IfErr result (HasHalted self.old.desk self.new.desk) }
+        ensures ended { IfErr result (BreaksOff (All IsInBetween) self.old.desk self.new.desk) }
+        ensures clock { self.new.desk.log.clock ≡ self.old.desk.log.clock }
+    {
+        while self.take_next(reading)? {}
+        Ok(())
+    }
+
+    /// Has what is due in the bag evaluated, behind a wave.
+    fn deliver_due<R: Wait>(&mut self, rt: &R, reading: u64) -> Result<(), Halt>
+        requires calls { HasOpenCall self.old reading }
+        requires between { IsBetweenWaves self.old.desk }
+        ensures calls { OnOk result (HasOpenCall self.new reading) }
+        ensures between { OnOk result (IsBetweenWaves self.new.desk) }
+        ensures due { OnOk result (HasDeliveredDue self.old.desk self.new.desk × (self.new.coordinator ≡ self.old.coordinator)) }
+        ensures err { IfErr result (HasHalted self.old.desk self.new.desk) }
+        ensures ended { IfErr result (EndsOnly (λ made. ⊥) self.old.desk self.new.desk) }
+        ensures clock { self.new.desk.log.clock ≡ self.old.desk.log.clock }
+    {
+        self.desk.deliver_due(rt)
     }
 
     /// Has the messages that wait evaluated.
@@ -550,8 +616,8 @@ impl<'a, N: Named<CommitWorld>, C: Clock + Drop, V: Wire + Drop, G> Office<'a, N
         ensures actor { (result.0.world ≡ self.entry.desk.log.head) × (result.0.part ≡ self.entry.desk.log.part) }
         ensures log { IsOwnLog self.entry.desk.log }
         ensures reads { ReadsEach (C.rule self.entry.desk.log.clock) self.entry.desk.log.part.own }
-        ensures rest { map (λ w. w.posted) result.1 ≡ all_waiting self.entry.desk }
-        ensures ready { All (IsReadyToGo self.entry.desk.log.part.id self.entry.desk.log.head.splits) result.1 }
+        ensures rest { IsRestOf self.entry.desk result.1 }
+        ensures ready { All (IsReadyLeft self.entry.desk.log.part.id self.entry.desk.log.head.splits) result.1 }
     {
         self.desk.finish()
     }

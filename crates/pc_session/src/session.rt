@@ -2,8 +2,8 @@ ghost use Rattle.std.specs.Prelude.{◌≡◌, ℕ, ◌-◌, ◌≤◌, ◌<◌,
 ghost use Rattle.pc_base.specs.declared.actor.ActorId.TheVariants as actors;
 ghost use Rattle.pc_base.specs.Rising.{AreRising};
 ghost use Rattle.pc_desk.specs.Commits.{WasTold};
-ghost use Rattle.pc_desk.specs.Desk.{HasHalted, IsReadyToGo, new_desk};
-ghost use Rattle.pc_desk.specs.Ending.{all_waiting};
+ghost use Rattle.pc_desk.specs.Desk.{HasHalted, new_desk};
+ghost use Rattle.pc_desk.specs.Rest.{IsReadyLeft, IsRestOf};
 ghost use Rattle.pc_desk.specs.Keeping.{ReadsEach};
 ghost use Rattle.pc_desk.specs.OwnLog.{IsOwnLog};
 ghost use Rattle.pc_exchange.specs.Ending.{BreaksOff};
@@ -15,7 +15,6 @@ ghost use Rattle.pc_session.specs.Learning.{AreOfBrokenLearn, HasLearnt};
 ghost use Rattle.pc_session.specs.Session.{IsAtRest, RestsOrStopped, session_knows};
 ghost use Rattle.pc_session.specs.Steps.{HasStepped};
 ghost use Rattle.pc_turns.specs.Order.{IsInBetween};
-ghost use Rattle.pc_wire.specs.declared.verdict.Verdict.TheVariants as verdicts;
 ghost use Rattle.pc_world.specs.Local.{IsActorOf};
 
 use crate::office::Office;
@@ -53,8 +52,8 @@ impl<'a, N: Named<CommitWorld>, C: Clock, V: Wire, G> Model for Session<'a, N, C
 
 impl<'a, N: Named<CommitWorld>, C: Clock, V: Wire, G: Gate> Session<'a, N, C, V, G> {
     /// The session of this number, from 1, before its first call. Its list may have at most `limit` entries, and stops at entry number
-    /// `stop`, if one is stated. A request is sent at most `tries` times in all. Where `beside`, the messages
-    /// of a wave are evaluated beside each other, on threads; else in the order of their numbers.
+    /// `stop`, if one is stated. A request to which no reply is heard is sent at most `tries` times in a row. Where `beside`, the messages of a wave
+    /// are evaluated beside each other, on threads; else in the order of their numbers.
     pub fn new(
         alloc: Global,
         number: u32,
@@ -77,14 +76,13 @@ impl<'a, N: Named<CommitWorld>, C: Clock, V: Wire, G: Gate> Session<'a, N, C, V,
         requires splits { ranges.now.splits ≡ actor.world.splits }
         requires rising { AreRising actor.world.splits }
         requires few { length actor.world.splits ≤ 31 }
-        requires quiet { (number : ℕ) → V.rule wire number ≡ verdicts.Deliver }
-        ensures made { result.desk ≡ new_desk actor.world actor.part actor.spare clock pipelining beside limit stop ranges.now.limit }
+        ensures made { result.desk ≡ new_desk actor.world actor.part actor.spare clock (V.rule wire) tries pipelining beside limit stop ranges.now.limit }
         ensures session { result.coordinator.session ≡ number }
         ensures jobs { result.jobs ≡ [] }
         ensures rests { IsAtRest result }
     {
         let desk = Desk::new(
-            alloc, actor, ranges, clock, wire, pipelining, beside, limit, stop,
+            alloc, actor, ranges, clock, wire, tries, pipelining, beside, limit, stop,
         );
         let coordinator = Coordinator::new(alloc, number, tries, pipelining, ranges.splits());
         Session {
@@ -210,13 +208,13 @@ impl<'a, N: Named<CommitWorld> + Send + Sync, C: Clock, V: Wire, G: Gate + Sync>
 }
 
 impl<'a, N: Named<CommitWorld>, C: Clock + Drop, V: Wire + Drop, G> Session<'a, N, C, V, G> {
-    /// Its actor, to be handed in, and what is still in its outbox: nothing, unless it has stopped.
+    /// Its actor, to be handed in, and what is still in its outbox and its bag.
     pub fn finish(self) -> (Actor<CommitWorld, N>, Rest<N>)
         ensures actor { (result.0.world ≡ self.entry.desk.log.head) × (result.0.part ≡ self.entry.desk.log.part) }
         ensures log { IsOwnLog self.entry.desk.log }
         ensures reads { ReadsEach (C.rule self.entry.desk.log.clock) self.entry.desk.log.part.own }
-        ensures rest { map (λ w. w.posted) result.1 ≡ all_waiting self.entry.desk }
-        ensures ready { All (IsReadyToGo self.entry.desk.log.part.id self.entry.desk.log.head.splits) result.1 }
+        ensures rest { IsRestOf self.entry.desk result.1 }
+        ensures ready { All (IsReadyLeft self.entry.desk.log.part.id self.entry.desk.log.head.splits) result.1 }
         ensures rests { RestsOrStopped self.entry }
     {
         self.office.finish()
