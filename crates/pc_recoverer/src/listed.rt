@@ -18,7 +18,7 @@ use pc_wire::Wire;
 use std::sync::Wait;
 
 /// What a round does for a transaction that a range has listed: pushes it, recovers it where the push met its record staging, and settles it
-/// where it is final.
+/// where it is final. Once the tries of a request are used up, nothing more is done for it.
 pub(crate) fn deal_with<N: Named<CommitWorld>, C: Clock, V: Wire, G: Gate, R: Wait>(
     desk: &mut Desk<'_, N, C, V, G>,
     rt: &R,
@@ -42,11 +42,15 @@ pub(crate) fn deal_with<N: Named<CommitWorld>, C: Clock, V: Wire, G: Gate, R: Wa
         now: maker.reading,
         goal: Goal::Abort,
     };
-    let reply = exchange(desk, rt, push)?;
+    let Some(reply) = exchange(desk, rt, push)? else {
+        return Ok(());
+    };
     match reply {
         Reply::Status(view) => settle(desk, rt, meta, view),
         Reply::Unsure(met) => {
-            let view = recover(desk, rt, maker, meta, met)?;
+            let Some(view) = recover(desk, rt, maker, meta, met)? else {
+                return Ok(());
+            };
             settle(desk, rt, meta, view)
         }
         _ => Ok(()),

@@ -1,77 +1,95 @@
-ghost use Rattle.std.specs.Prelude.{◌≡◌, ℕ, IfErr, IfOk, List};
+ghost use Rattle.std.specs.Prelude.{◌≡◌, ℕ, IfErr, IfNone, IfOk, IfSome, List};
 ghost use Rattle.pc_desk.specs.Desk.{DeskMeaning, HasHalted, HasSentNext, MaySendNow, MaySendTo};
-ghost use Rattle.pc_exchange.specs.Exchange.{WasExchanged};
+ghost use Rattle.pc_exchange.specs.Exchange.{HasLostAll, HasLostOne, WasExchanged};
 ghost use Rattle.pc_exchange.specs.Growing.{HasAllBack};
 ghost use Rattle.pc_proto.specs.declared.meta.TxnMeta.{TxnMeta};
 ghost use Rattle.pc_proto.specs.declared.reply.Reply.TheVariants as replies;
 ghost use Rattle.pc_proto.specs.declared.request.Request.{Request};
 ghost use Rattle.pc_proto.specs.declared.request.Request.TheVariants as requests;
 ghost use Rattle.pc_recoverer.specs.Broken.{AreFrontOf, AreFrontOfOne, AreFrontOfOneTo, BreaksOffIn, IsOneMessageTo};
-ghost use Rattle.pc_recoverer.specs.InRound.{HasOneAway, IsRecovererInRound, WasExchangedWith};
+ghost use Rattle.pc_recoverer.specs.InRound.{HasOneAway, IsRecovererInRound, WasExchangedWith, WasLostWith};
 
+use pc_base::{NoMemory, TryCopy};
 use pc_clock::Clock;
 use pc_desk::{Desk, Halt};
+use pc_exchange::hear_one;
 use pc_history::Named;
 use pc_proto::{Metas, Reply, Request};
 use pc_range::{CommitWorld, Gate};
 use pc_wire::Wire;
 use std::sync::Wait;
 
-/// Sends one message, has it evaluated, and hears its reply, which it gives. No other message of the recoverer is on its way.
+/// Sends one message, has it evaluated, and hears its reply, which it gives. While nothing is heard of it, it is sent again; None once its tries are
+/// used up. No other message of the recoverer is on its way.
 pub(crate) fn exchange<N: Named<CommitWorld>, C: Clock, V: Wire, G: Gate, R: Wait>(
     desk: &mut Desk<'_, N, C, V, G>,
     rt: &R,
     request: Request,
-) -> Result<Reply, Halt>
+) -> Result<Option<Reply>, Halt>
     requires back { HasAllBack desk.old }
     requires client { IsRecovererInRound desk.old }
     requires may { MaySendNow desk.old.log request }
-    ensures ok { IfOk result (λ reply. WasExchanged desk.old desk.new request reply) }
+    ensures heard { IfOk result (λ reply. IfSome reply (WasExchanged desk.old desk.new request)) }
+    ensures lost { IfOk result (λ reply. IfNone reply (HasLostAll desk.old desk.new request)) }
     ensures clock { desk.new.log.clock ≡ desk.old.log.clock }
     ensures err { IfErr result (HasHalted desk.old desk.new) }
     ensures ended { IfErr result (BreaksOffIn (AreFrontOfOne request) desk.old desk.new) }
 {
-    desk.send(request)?;
-    hear_reply(desk, rt)
+    for _ in 0..desk.tries() {
+        let copy = match request.copy() {
+            Ok(copy) => copy,
+            Err(NoMemory) => return Err(desk.want_memory()),
+        };
+        desk.send(copy)?;
+        let reply = hear_reply(desk, rt)?;
+        if reply.is_some() {
+            return Ok(reply);
+        }
+    }
+    Ok(None)
 }
 
-/// Has the range list its records.
+/// Has the range list its records. None once the tries of that are used up.
 pub(crate) fn list_records<N: Named<CommitWorld>, C: Clock, V: Wire, G: Gate, R: Wait>(
     desk: &mut Desk<'_, N, C, V, G>,
     rt: &R,
     range: u32,
-) -> Result<Metas, Halt>
+) -> Result<Option<Metas>, Halt>
     requires back { HasAllBack desk.old }
     requires client { IsRecovererInRound desk.old }
     requires may { MaySendTo desk.old.log range requests.Records }
-    ensures ok { IfOk result (λ metas. WasExchangedWith range desk.old desk.new requests.Records (replies.Listed metas)) }
+    ensures heard { IfOk result (λ metas. IfSome metas (λ listed. WasExchangedWith range desk.old desk.new requests.Records (replies.Listed listed))) }
+    ensures lost { IfOk result (λ metas. IfNone metas (WasLostWith range desk.old desk.new requests.Records)) }
     ensures clock { desk.new.log.clock ≡ desk.old.log.clock }
     ensures err { IfErr result (HasHalted desk.old desk.new) }
     ensures ended { (metas : List TxnMeta) → IfErr result (BreaksOffIn (AreFrontOf (IsOneMessageTo range requests.Records (replies.Listed metas))) desk.old desk.new) }
 {
-    desk.send_to(range, Request::Records)?;
-    let reply = hear_reply(desk, rt)?;
-    match reply {
-        Reply::Listed(metas) => Ok(metas),
-        _ => unreachable!(),
+    for _ in 0..desk.tries() {
+        desk.send_to(range, Request::Records)?;
+        match hear_reply(desk, rt)? {
+            Some(Reply::Listed(metas)) => return Ok(Some(metas)),
+            Some(_) => unreachable!(),
+            None => {}
+        }
     }
+    Ok(None)
 }
 
-/// Has the message that was sent last evaluated, and hears its reply, which it gives.
+/// Has the message that was sent last evaluated, and hears its reply, which it gives; None where nothing is heard of it. Then what is due in the bag is
+/// evaluated.
 fn hear_reply<N: Named<CommitWorld>, C: Clock, V: Wire, G: Gate, R: Wait>(
     desk: &mut Desk<'_, N, C, V, G>,
     rt: &R,
-) -> Result<Reply, Halt>
+) -> Result<Option<Reply>, Halt>
     requires { HasOneAway desk.old }
-    ensures ok { (before : DeskMeaning C) (request : Request) (number : ℕ) (sent : HasSentNext before desk.old number request) → HasAllBack before → IfOk result (λ reply. WasExchangedWith sent.range before desk.new request reply) }
+    ensures heard { (before : DeskMeaning C) (request : Request) (number : ℕ) (sent : HasSentNext before desk.old number request) → HasAllBack before → IfOk result (λ reply. IfSome reply (λ told. WasExchangedWith sent.range before desk.new request told)) }
+    ensures lost { (before : DeskMeaning C) (request : Request) (number : ℕ) (sent : HasSentNext before desk.old number request) → HasAllBack before → IfOk result (λ reply. IfNone reply (HasLostOne before desk.new request)) }
     ensures clock { desk.new.log.clock ≡ desk.old.log.clock }
     ensures err { IfErr result (HasHalted desk.old desk.new) }
     ensures ended { (before : DeskMeaning C) (request : Request) (number : ℕ) (sent : HasSentNext before desk.old number request) → IfErr result (BreaksOffIn (AreFrontOfOneTo sent.range request) before desk.new) }
 {
     desk.deliver(rt)?;
-    let heard = desk.hear()?;
-    match heard {
-        Some(answered) => Ok(answered.reply),
-        None => unreachable!(),
-    }
+    let reply = hear_one(desk)?;
+    desk.deliver_due(rt)?;
+    Ok(reply)
 }

@@ -1,5 +1,6 @@
-ghost use Rattle.std.specs.Prelude.{◌≡◌, IfErr, IfOk, OnOk};
+ghost use Rattle.std.specs.Prelude.{◌≡◌, true, false, IfErr, IfNone, IfOk, IfSome};
 ghost use Rattle.pc_desk.specs.Desk.{DeskMeaning, HasHalted, MaySendNow};
+ghost use Rattle.pc_exchange.specs.Exchange.{HasLostAll};
 ghost use Rattle.pc_exchange.specs.Growing.{HasAllBack};
 ghost use Rattle.pc_proto.specs.declared.machine.MachineNext.TheVariants as machines;
 ghost use Rattle.pc_proto.specs.declared.meta.TxnMeta.{TxnMeta};
@@ -8,7 +9,7 @@ ghost use Rattle.pc_proto.specs.declared.view.View.{View};
 ghost use Rattle.pc_recover.specs.Recovering.{recovering_next};
 ghost use Rattle.pc_recoverer.specs.declared.maker.RoundMaker.{RoundMaker};
 ghost use Rattle.pc_recoverer.specs.Broken.{AreFrontOf, AreFrontOfOne, BreaksOffIn};
-ghost use Rattle.pc_recoverer.specs.InRound.{HasRecovered, IsRecovererInRound, MayRecoverNow};
+ghost use Rattle.pc_recoverer.specs.InRound.{HasLeftOff, HasRecovered, IsRecovererInRound, MayRecoverNow};
 ghost use Rattle.pc_recoverer.specs.Round.{FollowsPush};
 ghost use Rattle.pc_recoverer.specs.UnderWay.{IsBeingRecovered};
 
@@ -24,16 +25,18 @@ use pc_recover::RecoverMachine;
 use pc_wire::Wire;
 use std::sync::Wait;
 
-/// Recovers the transaction, whose record a push met staging so. Gives the view that the recovery was answered with.
+/// Recovers the transaction, whose record a push met staging so. Gives the view that the recovery was answered with; None once the tries of one of its
+/// requests are used up.
 pub(crate) fn recover<N: Named<CommitWorld>, C: Clock, V: Wire, G: Gate, R: Wait>(
     desk: &mut Desk<'_, N, C, V, G>,
     rt: &R,
     maker: RoundMaker,
     meta: &TxnMeta,
     met: View,
-) -> Result<View, Halt>
+) -> Result<Option<View>, Halt>
     requires { MayRecoverNow maker desk.old meta.now met }
-    ensures ok { IfOk result (λ view. HasRecovered maker meta.now met desk.old desk.new view) }
+    ensures ok { IfOk result (λ view. IfSome view (HasRecovered maker meta.now met desk.old desk.new)) }
+    ensures lost { IfOk result (λ view. IfNone view (HasLeftOff (FollowsPush maker meta.now (replies.Unsure met)) desk.old desk.new)) }
     ensures clock { desk.new.log.clock ≡ desk.old.log.clock }
     ensures err { IfErr result (HasHalted desk.old desk.new) }
     ensures ended { IfErr result (BreaksOffIn (AreFrontOf (FollowsPush maker meta.now (replies.Unsure met))) desk.old desk.new) }
@@ -49,33 +52,40 @@ pub(crate) fn recover<N: Named<CommitWorld>, C: Clock, V: Wire, G: Gate, R: Wait
             Err(NoMemory) => return Err(desk.want_memory()),
         };
         match next {
-            MachineNext::Send(request) => recover_on(desk, rt, &mut machine, request)?,
-            MachineNext::Settled(view) => return Ok(view),
-            MachineNext::Changed(view) => return Ok(view),
+            MachineNext::Send(request) => {
+                if !recover_on(desk, rt, &mut machine, request)? {
+                    return Ok(None);
+                }
+            }
+            MachineNext::Settled(view) => return Ok(Some(view)),
+            MachineNext::Changed(view) => return Ok(Some(view)),
             MachineNext::Refused(_) | MachineNext::Finished => unreachable!(),
         }
     }
     Err(desk.want_memory())
 }
 
-/// Exchanges what the recovery has due.
+/// Exchanges what the recovery has due. False once the tries of it are used up.
 fn recover_on<N: Named<CommitWorld>, C: Clock, V: Wire, G: Gate, R: Wait>(
     desk: &mut Desk<'_, N, C, V, G>,
     rt: &R,
     machine: &mut RecoverMachine,
     request: Request,
-) -> Result<(), Halt>
+) -> Result<bool, Halt>
     requires back { HasAllBack desk.old }
     requires client { IsRecovererInRound desk.old }
     requires may { MaySendNow desk.old.log request }
-    ensures ok { (maker : RoundMaker) (old : DeskMeaning C) (meta : TxnMeta) (met : View) → IsBeingRecovered maker old meta met machine.old desk.old → recovering_next machine.old ≡ machines.Send request → OnOk result (IsBeingRecovered maker old meta met machine.new desk.new) }
+    ensures ok { (maker : RoundMaker) (old : DeskMeaning C) (meta : TxnMeta) (met : View) → IsBeingRecovered maker old meta met machine.old desk.old → recovering_next machine.old ≡ machines.Send request → IfOk result (λ heard. heard ≡ true → IsBeingRecovered maker old meta met machine.new desk.new) }
+    ensures lost { IfOk result (λ heard. heard ≡ false → HasLostAll desk.old desk.new request) }
     ensures clock { desk.new.log.clock ≡ desk.old.log.clock }
     ensures err { IfErr result (HasHalted desk.old desk.new) }
     ensures ended { IfErr result (BreaksOffIn (AreFrontOfOne request) desk.old desk.new) }
 {
-    let reply = exchange(desk, rt, request)?;
+    let Some(reply) = exchange(desk, rt, request)? else {
+        return Ok(false);
+    };
     match machine.heard(&reply) {
-        Ok(()) => Ok(()),
+        Ok(()) => Ok(true),
         Err(NoMemory) => Err(desk.want_memory()),
     }
 }

@@ -2,14 +2,13 @@ ghost use Rattle.std.specs.Prelude.{◌≡◌, ℕ, ◌-◌, ◌≤◌, ◌<◌,
 ghost use Rattle.pc_base.specs.declared.actor.ActorId.TheVariants as actors;
 ghost use Rattle.pc_base.specs.Rising.{AreRising};
 ghost use Rattle.pc_desk.specs.declared.halt.Halt.TheVariants as halts;
-ghost use Rattle.pc_desk.specs.Desk.{HasHalted, IsReadyToGo, new_desk};
-ghost use Rattle.pc_desk.specs.Ending.{all_waiting};
+ghost use Rattle.pc_desk.specs.Desk.{HasHalted, new_desk};
+ghost use Rattle.pc_desk.specs.Rest.{IsReadyLeft, IsRestOf};
 ghost use Rattle.pc_desk.specs.Keeping.{ReadsEach};
 ghost use Rattle.pc_desk.specs.OwnLog.{IsOwnLog};
 ghost use Rattle.pc_history.specs.Parts.{newcomer, noted, told};
 ghost use Rattle.pc_recoverer.specs.Broken.{AreOfEndedRound, BreaksOffIn};
 ghost use Rattle.pc_recoverer.specs.Recoverer.{HasMadeWholeRound, IsBetweenOrStopped, IsBetweenRounds};
-ghost use Rattle.pc_wire.specs.declared.verdict.Verdict.TheVariants as verdicts;
 ghost use Rattle.pc_world.specs.Local.{IsActorOf};
 
 use crate::round::make_whole_round;
@@ -48,7 +47,8 @@ impl<'a, N: Named<CommitWorld>, C: Clock, V: Wire, G> Model for Recoverer<'a, N,
 
 impl<'a, N: Named<CommitWorld>, C: Clock, V: Wire, G: Gate> Recoverer<'a, N, C, V, G> {
     /// The recoverer of this number, from 1, before its first round, which pushes at this level. Its list may have at most `limit` entries,
-    /// and stops at entry number `stop`, if one is stated. It sends no request twice, and writes nothing that could be pipelined.
+    /// and stops at entry number `stop`, if one is stated. A request to which no reply is heard is sent at most `tries` times in a row. It writes
+    /// nothing that could be pipelined.
     pub fn new(
         alloc: Global,
         number: u32,
@@ -56,6 +56,7 @@ impl<'a, N: Named<CommitWorld>, C: Clock, V: Wire, G: Gate> Recoverer<'a, N, C, 
         ranges: &'a Ranges<'a, N, G>,
         clock: C,
         wire: V,
+        tries: u32,
         level: Priority,
         limit: u64,
         stop: Option<u64>,
@@ -68,15 +69,17 @@ impl<'a, N: Named<CommitWorld>, C: Clock, V: Wire, G: Gate> Recoverer<'a, N, C, 
         requires splits { ranges.now.splits ≡ actor.world.splits }
         requires rising { AreRising actor.world.splits }
         requires few { length actor.world.splits ≤ 31 }
-        requires quiet { (number : ℕ) → V.rule wire number ≡ verdicts.Deliver }
-        ensures made { result.desk ≡ new_desk actor.world actor.part actor.spare clock false false limit stop ranges.now.limit }
+        requires tries { 1 ≤ tries }
+        ensures made { result.desk ≡ new_desk actor.world actor.part actor.spare clock (V.rule wire) tries false false limit stop ranges.now.limit }
         ensures number { result.number ≡ number }
         ensures level { result.level ≡ level }
         ensures between { IsBetweenRounds result.desk }
     {
         let count = ranges.splits().len() as u32 + 1;
         Recoverer {
-            desk: Desk::new(alloc, actor, ranges, clock, wire, false, false, limit, stop),
+            desk: Desk::new(
+                alloc, actor, ranges, clock, wire, tries, false, false, limit, stop,
+            ),
             number,
             level,
             ranges: count,
@@ -134,13 +137,13 @@ impl<'a, N: Named<CommitWorld>, C: Clock, V: Wire, G: Gate> Recoverer<'a, N, C, 
 }
 
 impl<'a, N: Named<CommitWorld>, C: Clock + Drop, V: Wire + Drop, G> Recoverer<'a, N, C, V, G> {
-    /// Its actor, to be handed in, and what is still in its outbox: nothing, unless it has stopped.
+    /// Its actor, to be handed in, and what is still in its outbox and its bag.
     pub fn finish(self) -> (Actor<CommitWorld, N>, Rest<N>)
         ensures actor { (result.0.world ≡ self.entry.desk.log.head) × (result.0.part ≡ self.entry.desk.log.part) }
         ensures log { IsOwnLog self.entry.desk.log }
         ensures reads { ReadsEach (C.rule self.entry.desk.log.clock) self.entry.desk.log.part.own }
-        ensures rest { map (λ w. w.posted) result.1 ≡ all_waiting self.entry.desk }
-        ensures ready { All (IsReadyToGo self.entry.desk.log.part.id self.entry.desk.log.head.splits) result.1 }
+        ensures rest { IsRestOf self.entry.desk result.1 }
+        ensures ready { All (IsReadyLeft self.entry.desk.log.part.id self.entry.desk.log.head.splits) result.1 }
         ensures between { IsBetweenOrStopped self.entry }
     {
         self.desk.finish()

@@ -1,5 +1,6 @@
-ghost use Rattle.std.specs.Prelude.{◌≡◌, ℕ, IfErr, List, OnOk};
+ghost use Rattle.std.specs.Prelude.{◌≡◌, ℕ, true, false, IfErr, IfOk, List, OnOk};
 ghost use Rattle.pc_desk.specs.Desk.{DeskMeaning, HasHalted, MaySendNow};
+ghost use Rattle.pc_exchange.specs.Exchange.{HasLostAll};
 ghost use Rattle.pc_exchange.specs.Growing.{HasAllBack};
 ghost use Rattle.pc_proto.specs.declared.fate.Fate.{Fate};
 ghost use Rattle.pc_proto.specs.declared.machine.MachineNext.TheVariants as machines;
@@ -22,7 +23,8 @@ use pc_resolve::ResolveMachine;
 use pc_wire::Wire;
 use std::sync::Wait;
 
-/// Settles each lock that a final view of the transaction shows, and then removes its record. A view that is not final asks for nothing.
+/// Settles each lock that a final view of the transaction shows, and then removes its record, until the tries of a request are used up. A view that is
+/// not final asks for nothing.
 pub(crate) fn settle<N: Named<CommitWorld>, C: Clock, V: Wire, G: Gate, R: Wait>(
     desk: &mut Desk<'_, N, C, V, G>,
     rt: &R,
@@ -46,7 +48,7 @@ pub(crate) fn settle<N: Named<CommitWorld>, C: Clock, V: Wire, G: Gate, R: Wait>
     }
 }
 
-/// Settles these locks of the transaction with its fate, one after another, and then removes its record.
+/// Settles these locks of the transaction with its fate, one after another, and then removes its record, until the tries of a request are used up.
 fn settle_locks<N: Named<CommitWorld>, C: Clock, V: Wire, G: Gate, R: Wait>(
     desk: &mut Desk<'_, N, C, V, G>,
     rt: &R,
@@ -71,7 +73,11 @@ fn settle_locks<N: Named<CommitWorld>, C: Clock, V: Wire, G: Gate, R: Wait>(
             Err(NoMemory) => return Err(desk.want_memory()),
         };
         match next {
-            MachineNext::Send(request) => settle_on(desk, rt, &mut machine, request)?,
+            MachineNext::Send(request) => {
+                if !settle_on(desk, rt, &mut machine, request)? {
+                    return Ok(());
+                }
+            }
             MachineNext::Finished => return Ok(()),
             MachineNext::Settled(_) | MachineNext::Changed(_) | MachineNext::Refused(_) => {
                 unreachable!()
@@ -81,24 +87,27 @@ fn settle_locks<N: Named<CommitWorld>, C: Clock, V: Wire, G: Gate, R: Wait>(
     Err(desk.want_memory())
 }
 
-/// Exchanges what the machine has due.
+/// Exchanges what the machine has due. False once the tries of it are used up.
 fn settle_on<N: Named<CommitWorld>, C: Clock, V: Wire, G: Gate, R: Wait>(
     desk: &mut Desk<'_, N, C, V, G>,
     rt: &R,
     machine: &mut ResolveMachine,
     request: Request,
-) -> Result<(), Halt>
+) -> Result<bool, Halt>
     requires back { HasAllBack desk.old }
     requires client { IsRecovererInRound desk.old }
     requires may { MaySendNow desk.old.log request }
-    ensures ok { (old : DeskMeaning C) (meta : TxnMeta) (fate : Fate) (locks : List (List ℕ)) → IsBeingSettled old meta fate locks machine.old desk.old → finishing_next machine.old ≡ machines.Send request → OnOk result (IsBeingSettled old meta fate locks machine.new desk.new) }
+    ensures ok { (old : DeskMeaning C) (meta : TxnMeta) (fate : Fate) (locks : List (List ℕ)) → IsBeingSettled old meta fate locks machine.old desk.old → finishing_next machine.old ≡ machines.Send request → IfOk result (λ heard. heard ≡ true → IsBeingSettled old meta fate locks machine.new desk.new) }
+    ensures lost { IfOk result (λ heard. heard ≡ false → HasLostAll desk.old desk.new request) }
     ensures clock { desk.new.log.clock ≡ desk.old.log.clock }
     ensures err { IfErr result (HasHalted desk.old desk.new) }
     ensures ended { IfErr result (BreaksOffIn (AreFrontOfOne request) desk.old desk.new) }
 {
-    let reply = exchange(desk, rt, request)?;
+    let Some(reply) = exchange(desk, rt, request)? else {
+        return Ok(false);
+    };
     match machine.heard(&reply) {
-        Ok(()) => Ok(()),
+        Ok(()) => Ok(true),
         Err(NoMemory) => Err(desk.want_memory()),
     }
 }

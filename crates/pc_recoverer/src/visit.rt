@@ -35,7 +35,8 @@ pub(crate) fn visit_each<N: Named<CommitWorld>, C: Clock, V: Wire, G: Gate, R: W
     Ok(())
 }
 
-/// What a round does at one range: has it list its records, and deals with each transaction that it lists.
+/// What a round does at one range: has it list its records, and deals with each transaction that it lists. Nothing where the tries of the listing are
+/// used up.
 fn visit<N: Named<CommitWorld>, C: Clock, V: Wire, G: Gate, R: Wait>(
     desk: &mut Desk<'_, N, C, V, G>,
     rt: &R,
@@ -49,7 +50,9 @@ fn visit<N: Named<CommitWorld>, C: Clock, V: Wire, G: Gate, R: Wait>(
     ensures err { IfErr result (HasHalted desk.old desk.new) }
     ensures ended { IfErr result (BreaksOffIn (AreFrontOf (IsPartOf maker range)) desk.old desk.new) }
 {
-    let metas = list_records(desk, rt, range)?;
+    let Some(metas) = list_records(desk, rt, range)? else {
+        return Ok(());
+    };
     deal_with_each(desk, rt, maker, metas.as_slice())
 }
 
