@@ -108,19 +108,20 @@ pub record IsLeftPut (since : List Heard) (t : Txn) (later : List LaterPut) (mes
 abbrev pub IsHeardOrLeft : List Heard → List Heard → Txn → List LaterPut → List Message → Sent → Type 0
 IsHeardOrLeft before since t later messages m = IsTrue (is_heard before m) ⊎ (goes_beside m.request ≡ true) ⊎ IsLeftPut since t later messages m
 
--- The message that proves a write: its put that waits is waited for, else it goes out again; it met so many intents in the call before.
-abbrev pub proof_by : Option LaterPut → Request → ℕ → Message
-proof_by (Some put) again conflicts = message_on_way put.number put.request
-proof_by None again conflicts = message_again again conflicts
+-- The message that proves a write: its put that waits is waited for, else it goes out again; in the call it met so many intents before, and was lost so
+-- often in a row.
+abbrev pub proof_by : Option LaterPut → Request → ℕ → ℕ → Message
+proof_by (Some put) again conflicts lost = message_on_way put.number put.request
+proof_by None again conflicts lost = message_again again conflicts lost
 
-abbrev pub proof_in : OpenTxn → List LaterPut → List ℕ → ℕ → WriteInFlight → Message
-proof_in x later anchor conflicts w = proof_by (waiting_put w.seq later) (own_put x anchor w) conflicts
+abbrev pub proof_in : OpenTxn → List LaterPut → List ℕ → ℕ → ℕ → WriteInFlight → Message
+proof_in x later anchor conflicts lost w = proof_by (waiting_put w.seq later) (own_put x anchor w) conflicts lost
 
 -- The messages that prove those of these writes for which the call waits, or all of them, by sequence.
 abbrev pub proofs_in : Call → Bool → OpenTxn → List LaterPut → List ℕ → List WriteInFlight → List Message
 proofs_in call all x later anchor [] = []
 proofs_in call all x later anchor (w ∷ writes) =
-    if waits_on call all w.key then proof_in x later anchor 0 w ∷ proofs_in call all x later anchor writes else proofs_in call all x later anchor writes
+    if waits_on call all w.key then proof_in x later anchor 0 0 w ∷ proofs_in call all x later anchor writes else proofs_in call all x later anchor writes
 
 -- A put of this number waits.
 abbrev pub has_waited : ℕ → List LaterPut → Bool

@@ -269,6 +269,10 @@ pub record MayBePutAgain (loses : Bool) (k : Known) (t : Txn) (seq n : ℕ) : Ty
 abbrev pub conflicts_before : ℕ → List Message → ℕ
 conflicts_before seq puts = option_map_or (λ m. m.conflicts) (find (λ m. has_put seq m.request) puts) 0
 
+-- How often in a row the put of this sequence was lost, by these messages.
+abbrev pub losses_before : ℕ → List Message → ℕ
+losses_before seq puts = option_map_or (λ m. m.lost) (find (λ m. has_put seq m.request) puts) 0
+
 -- But for puts of writes that are proved, no request met eight intents in the call.
 abbrev pub NoneMetEighth : TxnId → ℕ → List WriteInFlight → List Heard → Type 0
 NoneMetEighth id epoch flight heard_now = (request : Request) → (IsOfProved id epoch flight request → ⊥) → AtLeast (IsConflictOf request) MOST_CONFLICTS heard_now → ⊥

@@ -19,7 +19,7 @@ use Rattle.pc_call.specs.declared.refreshes.Refreshed.TheVariants as refreshes
 use Rattle.pc_call.specs.GivenUp.{GivesUpBy}
 use Rattle.pc_call.specs.Outbox.{AreToSendOrOnWay, IsApartFrom, IsHeardOrLeft, OutboxStands, TakesSome, proof_in}
 use Rattle.pc_call.specs.Refreshing.{IsRestart}
-use Rattle.pc_call.specs.Serving.{InCall, MayBePutAgain, conflicts_before, holder_met}
+use Rattle.pc_call.specs.Serving.{InCall, MayBePutAgain, conflicts_before, holder_met, losses_before}
 use Rattle.pc_call.specs.Suiting.{SuitsFlightIn}
 use Rattle.pc_proto.specs.declared.answer.Answer.TheVariants as answers
 use Rattle.pc_proto.specs.declared.call.Call.TheVariants as calls
@@ -49,7 +49,7 @@ use Rattle.pc_world.specs.Tell.Data.{sent_before}
 -- The messages that prove these writes in flight, by sequence; each met as many intents in the call before as these puts did.
 abbrev pub put_messages : OpenTxn → List LaterPut → List ℕ → List Message → List WriteInFlight → List Message
 put_messages x later anchor puts [] = []
-put_messages x later anchor puts (w ∷ writes) = proof_in x later anchor (conflicts_before w.seq puts) w ∷ put_messages x later anchor puts writes
+put_messages x later anchor puts (w ∷ writes) = proof_in x later anchor (conflicts_before w.seq puts) (losses_before w.seq puts) w ∷ put_messages x later anchor puts writes
 
 -- ---- what it is told
 

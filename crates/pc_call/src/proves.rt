@@ -164,10 +164,11 @@ fn add_waited(
     if !waits_for(call, all, &write.key) {
         return Ok(());
     }
-    add_proof(wave, txn, later, anchor, write, 0)
+    add_proof(wave, txn, later, anchor, write, 0, 0)
 }
 
-/// Adds the message that proves this write: its put that waits in the outbox, else one that goes out again. The write met so many intents before in the call.
+/// Adds the message that proves this write: its put that waits in the outbox, else one that goes out again. In the call the write met so many intents before,
+/// and was lost so often in a row.
 pub(crate) fn add_proof(
     wave: &mut Wave,
     txn: &OpenTxn,
@@ -175,13 +176,14 @@ pub(crate) fn add_proof(
     anchor: &Key,
     write: &WriteInFlight,
     conflicts: u32,
+    lost: u32,
 ) -> Result<(), NoMemory>
-    ensures made { OnOk result (wave.new ≡ wave.old ++ proof_in txn.now later.old anchor.now conflicts write.now ∷ []) }
+    ensures made { OnOk result (wave.new ≡ wave.old ++ proof_in txn.now later.old anchor.now conflicts lost write.now ∷ []) }
     ensures left { OnOk result (later.new ≡ without_put write.now.seq later.old) }
 {
     match later.take(write.seq) {
         Some(put) => wave.join(put.number, put.request),
-        None => wave.add_again(txn.put_again(anchor, write)?, conflicts),
+        None => wave.add_again(txn.put_again(anchor, write)?, conflicts, lost),
     }
 }
 

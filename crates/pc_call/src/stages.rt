@@ -8,7 +8,7 @@ ghost use Rattle.pc_call.specs.Behind.{left_behind};
 ghost use Rattle.pc_call.specs.Finished.{MayTellOver};
 ghost use Rattle.pc_call.specs.Learned.{known_heard};
 ghost use Rattle.pc_call.specs.Outbox.{AreToSendOrOnWay, MayWait, has_put, without_puts};
-ghost use Rattle.pc_call.specs.Serving.{InCall, conflicts_before, holder_met};
+ghost use Rattle.pc_call.specs.Serving.{InCall, conflicts_before, holder_met, losses_before};
 ghost use Rattle.pc_call.specs.Stages.{CallStagesOn, CommitsBy, DecidesNow, HasMessagesOn, HasOutbox, IsFirstOut, IsStageTold, IsStagedOn, IsUndecidedAt, KeepsOutbox, KeepsOutboxStaged, MayStageOn, TakesStaged, counting_refusal, eighth_holder, is_at_eighth, put_messages, refusals_in, stage_told_by, stage_told_if, stage_ts, stage_ts_of, with_refusal_in};
 ghost use Rattle.pc_proto.specs.declared.answer.Answer.TheVariants as answers;
 ghost use Rattle.pc_proto.specs.declared.fate.Fate.TheVariants as fates;
@@ -222,7 +222,7 @@ fn holder_met(message: &Message) -> Option<TxnId>
     }
 }
 
-/// The messages that prove all writes in flight, which met so many intents before in the call as these puts.
+/// The messages that prove all writes in flight, which in the call met as many intents before as these puts, and were lost as often in a row.
 fn put_wave(
     alloc: Global,
     txn: &OpenTxn,
@@ -236,7 +236,8 @@ fn put_wave(
     let mut wave = Wave::new(alloc);
     for write in txn.in_flight.writes() {
         let conflicts = conflicts_before(puts, write.seq);
-        add_proof(&mut wave, txn, later, anchor, write, conflicts)?;
+        let lost = losses_before(puts, write.seq);
+        add_proof(&mut wave, txn, later, anchor, write, conflicts, lost)?;
     }
     Ok(wave)
 }
@@ -247,6 +248,16 @@ fn conflicts_before(puts: &[Message], seq: u32) -> u32
 {
     match put_of(puts, seq) {
         Some(put) => put.conflicts,
+        None => 0,
+    }
+}
+
+/// How often in a row the put of this sequence was lost, by these messages.
+fn losses_before(puts: &[Message], seq: u32) -> u32
+    ensures { result ≡ losses_before seq puts.now }
+{
+    match put_of(puts, seq) {
+        Some(put) => put.lost,
         None => 0,
     }
 }

@@ -5,7 +5,7 @@ use Rattle.pc_proto.specs.declared.request.Request.{Request}
 use Rattle.pc_follows.specs.AgainInOneWave.{sent_for_call}
 use Rattle.pc_wave.specs.Course.{Course}
 use Rattle.pc_wave.specs.declared.message.Message.{Message}
-use Rattle.pc_wave.specs.Messages.{message_on_way}
+use Rattle.pc_wave.specs.Messages.{message_again, message_on_way}
 use Rattle.pc_wave.specs.Standing.{AreCounted, CountsTries, IsOnItsWay, MayGoOut, goes_beside}
 use Rattle.pc_world.specs.Counting.{AtLeast}
 use Rattle.pc_world.specs.Known.{Known}
@@ -21,12 +21,14 @@ pub record MayJoin (c : Course) (k : Known) (messages : List Message) (request :
   pub differ : All (λ m. IsSameRequest m.request request → ⊥) messages
   pub back : All (λ m. IsSameRequest request m.request → ⊥) messages
 
--- So may a request of which so many conflicts were heard in the call, and that was sent for it at least as often.
-pub record MayJoinAgain (c : Course) (k : Known) (messages : List Message) (request : Request) (conflicts : ℕ) : Type 0 where
+-- So may a request of which so many conflicts were heard in the call, that was sent for it at least as often, and of which as many sendings in a row were
+-- not heard.
+pub record MayJoinAgain (c : Course) (k : Known) (messages : List Message) (request : Request) (conflicts lost : ℕ) : Type 0 where
   pub out : MayGoOut c k request
   pub counted : AreCounted k request conflicts
   pub few : conflicts < MOST_CONFLICTS
   pub sent : AtLeast (λ m. IsSameRequest request m.request) conflicts (sent_for_call k)
+  pub tries : CountsTries c.loses c k (message_again request conflicts lost)
   pub no_round : goes_beside request ≡ false
   pub differ : All (λ m. IsSameRequest m.request request → ⊥) messages
   pub back : All (λ m. IsSameRequest request m.request → ⊥) messages

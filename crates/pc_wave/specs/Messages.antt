@@ -22,9 +22,9 @@ module _ {X : Type 0} (test : X → Bool) (change : X → X) where
 abbrev pub message_to_send : Request → Message
 message_to_send request = record { request = request; conflicts = 0; lost = 0; progress = progresses.ToSend }
 
--- A message that is to be sent again in another wave of its call, after so many conflicts.
-abbrev pub message_again : Request → ℕ → Message
-message_again request conflicts = record { request = request; conflicts = conflicts; lost = 0; progress = progresses.ToSend }
+-- A message that is to be sent again in another wave of its call, after so many conflicts, and after so many sendings in a row that were lost.
+abbrev pub message_again : Request → ℕ → ℕ → Message
+message_again request conflicts lost = record { request = request; conflicts = conflicts; lost = lost; progress = progresses.ToSend }
 
 -- A message that is on its way under this number.
 abbrev pub message_on_way : ℕ → Request → Message

@@ -43,14 +43,14 @@ impl Message {
         }
     }
 
-    /// It is to be sent again in another wave of its call, where it met so many intents before.
-    pub fn again(request: Request, conflicts: u32) -> Message
-        ensures { result ≡ message_again request conflicts }
+    /// It is to be sent again in another wave of its call, where it met so many intents before, and was lost so often in a row.
+    pub fn again(request: Request, conflicts: u32, lost: u32) -> Message
+        ensures { result ≡ message_again request conflicts lost }
     {
         Message {
             request,
             conflicts,
-            lost: 0,
+            lost,
             progress: Progress::ToSend,
         }
     }

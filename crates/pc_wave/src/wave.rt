@@ -57,13 +57,13 @@ impl Wave {
         Ok(())
     }
 
-    /// One more request is to be sent again, behind the others, which met so many intents in other waves of the call.
-    pub fn add_again(&mut self, request: Request, conflicts: u32) -> Result<(), NoMemory>
-        ensures made { OnOk result (self.new ≡ self.old ++ message_again request conflicts ∷ []) }
-        ensures stands { (c : Course) (k : Known) → WaveStands c k self.old → MayJoinAgain c k self.old request conflicts → OnOk result (WaveStands c k self.new) }
+    /// One more request is to be sent again, behind the others, which met so many intents in other waves of the call, and was lost so often in a row.
+    pub fn add_again(&mut self, request: Request, conflicts: u32, lost: u32) -> Result<(), NoMemory>
+        ensures made { OnOk result (self.new ≡ self.old ++ message_again request conflicts lost ∷ []) }
+        ensures stands { (c : Course) (k : Known) → WaveStands c k self.old → MayJoinAgain c k self.old request conflicts lost → OnOk result (WaveStands c k self.new) }
         ensures refused { OnErr result (self.new ≡ self.old) }
     {
-        self.messages.push(Message::again(request, conflicts))?;
+        self.messages.push(Message::again(request, conflicts, lost))?;
         Ok(())
     }
 
