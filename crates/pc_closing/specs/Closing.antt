@@ -14,6 +14,7 @@ use Rattle.pc_history.specs.Own.{own}
 use Rattle.pc_proto.specs.declared.event.Event.{Event}
 use Rattle.pc_turns.specs.Clients.{IsStoredBy}
 use Rattle.pc_turns.specs.Shares.{AreHandedIn, client_at}
+use Rattle.pc_wire.specs.declared.verdict.Verdict.{Verdict}
 use Rattle.pc_world.specs.Known.{known_of}
 use Rattle.pc_world.specs.Known.Traffic.{Sent}
 use Rattle.pc_world.specs.Local.{Head}
@@ -23,18 +24,18 @@ use Rattle.pc_world.specs.Run.{IsRun, protocol}
 abbrev pub lists_of : List Leaver → List (List (Pair Event))
 lists_of leavers = map (λ l. l.0.part.own) leavers
 
--- The actor's own list is what the history has of it, each message of it is evaluated once unless it is held up, and the ranges that it
--- knows to be full are; what it knows to be refused a full range holds up, and is never evaluated.
-pub record IsKeptIn (limit : ℕ) (head : Head) (history : List (Entry Event)) (id : ActorId) (part : Part Event) : Type 0 where
+-- The actor's own list is what the history has of it, each message of it is evaluated as often as its verdict says unless it is held up, and the ranges that
+-- it knows to be full are; what it knows to be refused a full range holds up, and is not evaluated any more.
+pub record IsKeptIn (limit : ℕ) (head : Head) (verdicts : ActorId → ℕ → Verdict) (history : List (Entry Event)) (id : ActorId) (part : Part Event) : Type 0 where
   pub list : own (protocol head) id history ≡ part.own
-  pub served : AreServed (holds_up limit head history id) id history (known_of part.own)
+  pub served : AreServed (verdicts id) (holds_up limit head history verdicts id) id history (known_of part.own)
   pub full : (range : ℕ) → KnowsFull range limit part.known → range_is_full limit head history range ≡ true
-  pub held : (m : Sent) → WasGivenBack limit part m → holds_up limit head history id m ≡ true
+  pub held : (m : Sent) → WasGivenBack limit part m → holds_up limit head history verdicts id m ≡ true
 
 -- The history is a run; it is what the ranges and these clients stored, each of which is kept in it.
-pub record IsClosedOver (limit : ℕ) (head : Head) (leavers : List Leaver) (history : List (Entry Event)) : Type 0 where
+pub record IsClosedOver (limit : ℕ) (head : Head) (verdicts : ActorId → ℕ → Verdict) (leavers : List Leaver) (history : List (Entry Event)) : Type 0 where
   pub run : IsRun head history
   pub parts : List (Part Event)
   pub stored : IsStoredBy head history parts
   pub handed : AreHandedIn head (lists_of leavers) parts
-  pub each : (index : ℕ) (l : Leaver) → slice_get leavers index ≡ Some l → IsKeptIn limit head history (client_at head index) l.0.part
+  pub each : (index : ℕ) (l : Leaver) → slice_get leavers index ≡ Some l → IsKeptIn limit head verdicts history (client_at head index) l.0.part

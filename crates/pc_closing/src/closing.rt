@@ -1,10 +1,12 @@
-ghost use Rattle.std.specs.Prelude.{◌≡◌, ◌++◌, ◌∷◌, [], All, IfOk, OnOk};
+ghost use Rattle.std.specs.Prelude.{◌≡◌, ℕ, ◌++◌, ◌∷◌, [], All, IfOk, OnOk};
+ghost use Rattle.pc_base.specs.declared.actor.ActorId.{ActorId};
 ghost use Rattle.pc_closing.specs.Closing.{IsClosedOver};
 ghost use Rattle.pc_closing.specs.Leaving.{AreLeavers, HasSettledAll, MayLeave};
 ghost use Rattle.pc_closing.specs.Opening.{opener_of};
 ghost use Rattle.pc_desk.specs.Rest.{IsReadyLeft};
 ghost use Rattle.pc_history.specs.declared.view.Part.{Part};
 ghost use Rattle.pc_history.specs.Parts.{told};
+ghost use Rattle.pc_wire.specs.declared.verdict.Verdict.{Verdict};
 ghost use Rattle.pc_proto.specs.declared.event.Event.{Event as Made};
 
 use pc_base::{Entry, NoMemory};
@@ -14,10 +16,10 @@ use pc_proto::Event;
 use pc_range::{CommitWorld, Gate, Message, Ranges, ServeFault};
 use std::sync::Wait;
 
-/// A session or a recoverer that has finished: its actor, and what is still in its outbox.
+/// A session or a recoverer that has finished: its actor, and what is still in its outbox and its bag.
 pub type Leaver<N> = (Actor<CommitWorld, N>, Rest<N>);
 
-/// Evaluates what all have left in their outboxes, one after another, the sessions first, and closes the history.
+/// Evaluates what all have left in their outboxes and bags, one after another, the sessions first, and closes the history.
 pub fn close<N: Named<CommitWorld>, G: Gate, R: Wait>(
     rt: &R,
     opener: Opener<CommitWorld, N>,
@@ -26,8 +28,7 @@ pub fn close<N: Named<CommitWorld>, G: Gate, R: Wait>(
 ) -> Result<Vec<Entry<Event>>, NoMemory>
     requires opener { opener ≡ opener_of opener.world }
     requires ranges { ranges.splits ≡ opener.world.splits }
-    requires leavers { AreLeavers ranges.limit opener.world leavers.items }
-    ensures { IfOk result (λ entries. IsClosedOver ranges.entry.limit opener.world leavers.items entries.items) }
+    ensures { (verdicts : ActorId → ℕ → Verdict) → AreLeavers ranges.limit opener.world verdicts leavers.items → IfOk result (λ entries. IsClosedOver ranges.entry.limit opener.world verdicts leavers.items entries.items) }
 {
     let mut opener = opener;
     for leaver in leavers {
@@ -37,7 +38,7 @@ pub fn close<N: Named<CommitWorld>, G: Gate, R: Wait>(
     opener.close()
 }
 
-/// Evaluates what one has left in its outbox, and hands its actor in.
+/// Evaluates what one has left in its outbox and its bag, and hands its actor in.
 fn leave<N: Named<CommitWorld>, G: Gate, R: Wait>(
     rt: &R,
     opener: &mut Opener<CommitWorld, N>,
@@ -45,8 +46,7 @@ fn leave<N: Named<CommitWorld>, G: Gate, R: Wait>(
     leaver: Leaver<N>,
 ) -> Result<(), NoMemory>
     requires ready { All (IsReadyLeft leaver.0.part.id ranges.now.splits) leaver.1 }
-    requires may { MayLeave ranges.now.limit leaver.0.part leaver.1 }
-    ensures left { OnOk result ((part : Part Made) × HasSettledAll ranges.now.limit leaver.0.part part × (opener.new ≡ record opener.old { parts = opener.old.parts ++ part ∷ []; whole = opener.new.whole })) }
+    ensures left { (verdict : ℕ → Verdict) → MayLeave ranges.now.limit verdict leaver.0.part leaver.1 → OnOk result ((part : Part Made) × HasSettledAll ranges.now.limit verdict leaver.0.part part × (opener.new ≡ record opener.old { parts = opener.old.parts ++ part ∷ []; whole = opener.new.whole })) }
 {
     let (mut actor, rest) = leaver;
     deliver(rt, ranges, &mut actor, rest)?;
@@ -62,8 +62,7 @@ fn deliver<N: Named<CommitWorld>, G: Gate, R: Wait>(
     rest: Rest<N>,
 ) -> Result<(), NoMemory>
     requires ready { All (IsReadyLeft actor.old.part.id ranges.now.splits) rest }
-    requires may { MayLeave ranges.now.limit actor.old.part rest }
-    ensures { OnOk result (HasSettledAll ranges.now.limit actor.old.part actor.new.part) }
+    ensures { (verdict : ℕ → Verdict) → MayLeave ranges.now.limit verdict actor.old.part rest → OnOk result (HasSettledAll ranges.now.limit verdict actor.old.part actor.new.part) }
 {
     match deliver_rest(rt, rest, actor, ranges) {
         Ok(()) => Ok(()),

@@ -11,7 +11,7 @@ use Rattle.pc_desk.specs.declared.answered.Answered.{Answered}
 use Rattle.pc_desk.specs.declared.halt.Halt.{Halt}
 use Rattle.pc_desk.specs.declared.halt.Halt.TheVariants as halts
 use Rattle.pc_desk.specs.Keeping.{KeepsNext}
-use Rattle.pc_desk.specs.OwnLog.{HasEntered, IsOwnLog, LogMeaning}
+use Rattle.pc_desk.specs.OwnLog.{HasEntered, IsOwnLog, LogMeaning, terms_of}
 use Rattle.pc_desk.specs.Waiting.{WaitInWave}
 use Rattle.pc_history.specs.declared.view.Known.{Known as KnownEntry}
 use Rattle.pc_history.specs.declared.view.Part.{Part}
@@ -280,13 +280,13 @@ is_on_way number d = list_any (λ m. m.number == number) d.posted || list_any (�
 pub record MaySendNow {C : Type 0} (l : LogMeaning C) (request : Request) : Type 0 where
   pub allowed : IsAllowed l.head.splits l.part.id (known_of l.part.own) request
   pub one : IsForOne l.head.splits request
-  pub keeps : (number range : ℕ) → KeepsNext l.part.id l.head.splits l.pipelining l.part.own (events.Send number range request) None
+  pub keeps : (number range : ℕ) → KeepsNext l.part.id l.head.splits (terms_of l) l.part.own (events.Send number range request) None
 
 -- The actor may send this to this range now: it goes there, and the entry keeps what is asked of it.
 pub record MaySendTo {C : Type 0} (l : LogMeaning C) (range : ℕ) (request : Request) : Type 0 where
   pub allowed : IsAllowed l.head.splits l.part.id (known_of l.part.own) request
   pub goes : GoesTo l.head.splits request range
-  pub keeps : (number : ℕ) → KeepsNext l.part.id l.head.splits l.pipelining l.part.own (events.Send number range request) None
+  pub keeps : (number : ℕ) → KeepsNext l.part.id l.head.splits (terms_of l) l.part.own (events.Send number range request) None
 
 -- The actor sent this under its next number, to its range; its note, with as many uses as its verdict lets it be evaluated, waits in the outbox.
 pub record HasSentNext {C : Type 0} (old new : DeskMeaning C) (number : ℕ) (request : Request) : Type 0 where
@@ -356,7 +356,7 @@ pub record HasDelivered {C : Type 0} (old new : DeskMeaning C) : Type 0 where
 pub record MayHearNow {C : Type 0} (d : DeskMeaning C) : Type 0 where
   pub each :
       (a : Answered) (rest : List Answered) (range : ℕ) → d.replies ≡ a ∷ rest
-      → KeepsNext d.log.part.id d.log.head.splits d.log.pipelining d.log.part.own (events.Hear a.number a.step) (Some (evaluation a.step range d.log.part.id a.number a.reply))
+      → KeepsNext d.log.part.id d.log.head.splits (terms_of d.log) d.log.part.own (events.Hear a.number a.step) (Some (evaluation a.step range d.log.part.id a.number a.reply))
 
 -- The reply that had waited longest was heard.
 pub record HasHeardFirst {C : Type 0} (old new : DeskMeaning C) (a : Answered) : Type 0 where

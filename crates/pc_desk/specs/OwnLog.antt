@@ -5,7 +5,7 @@ use Rattle.pc_base.specs.declared.actor.ActorId.TheVariants as actors
 use Rattle.pc_desk.specs.declared.halt.Halt.{Halt}
 use Rattle.pc_desk.specs.declared.halt.Halt.TheVariants as halts
 use Rattle.pc_desk.specs.Asks.{is_ask}
-use Rattle.pc_desk.specs.Keeping.{KeepsEach, KeepsNext}
+use Rattle.pc_desk.specs.Keeping.{KeepsEach, KeepsNext, Terms}
 use Rattle.pc_desk.specs.Waves.{KeepsWavesEach}
 use Rattle.pc_history.specs.declared.view.Known.{Known as KnownEntry}
 use Rattle.pc_history.specs.declared.view.Part.{Part}
@@ -32,6 +32,10 @@ pub record LogMeaning (C : Type 0) : Type 0 where
   pub stop : Option ℕ
   pub stopped : Bool
 
+-- By what the list's messages go.
+abbrev pub terms_of : {C : Type 0} → LogMeaning C → Terms
+terms_of l = record { verdict = l.verdict; tries = l.tries; pipelining = l.pipelining }
+
 -- The actor is a session or a recoverer.
 abbrev pub IsNoRange : ActorId → Type 0
 IsNoRange (actors.Session number) = ⊤
@@ -52,7 +56,7 @@ pub record IsOwnLog {C : Type 0} (l : LogMeaning C) : Type 0 where
   pub tries : 1 ≤ l.tries
   pub short : l.limit < 2 ^ 32
   pub within : length l.part.own ≤ l.limit
-  pub keeps : KeepsEach l.part.id l.head.splits l.pipelining l.part.own
+  pub keeps : KeepsEach l.part.id l.head.splits (terms_of l) l.part.own
   pub waves : KeepsWavesEach l.beside l.part.own
   pub before_stop : l.stopped ≡ false → IfSome l.stop (λ n. length l.part.own < n)
   pub at_stop : IfSome l.stop (λ n. length l.part.own ≤ n)
@@ -66,7 +70,7 @@ pub record MayEnter {C : Type 0} (l : LogMeaning C) (event : Event) : Type 0 whe
   pub caused : IsCausedFor (protocol l.head) l.part event
   pub free : spends event ≡ false
   pub no_ask : is_ask event ≡ false
-  pub keeps : KeepsNext l.part.id l.head.splits l.pipelining l.part.own event (named_by (protocol l.head) l.part event)
+  pub keeps : KeepsNext l.part.id l.head.splits (terms_of l) l.part.own event (named_by (protocol l.head) l.part event)
 
 -- The list after this event, at this step.
 abbrev pub with_event : {C : Type 0} → ℕ → Event → LogMeaning C → LogMeaning C

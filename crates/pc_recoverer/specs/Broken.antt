@@ -1,6 +1,6 @@
 -- What a recoverer has made where its list ends in the middle of a round: a front of a whole round; or, where it stops at the end of one, a whole
 -- round. Own profile.
-use Rattle.std.specs.Prelude.{◌≡◌, ℕ, false, ◌⊎◌, List, [], ◌∷◌, ◌++◌, ⊤}
+use Rattle.std.specs.Prelude.{◌≡◌, ℕ, false, ◌⊎◌, Some, List, [], ◌∷◌, ◌++◌, ⊤}
 use Rattle.pc_base.specs.declared.transaction.Priority.{Priority}
 use Rattle.pc_desk.specs.declared.halt.Halt.{Halt}
 use Rattle.pc_desk.specs.declared.halt.Halt.TheVariants as halts
@@ -12,7 +12,7 @@ use Rattle.pc_history.specs.declared.pair.Pair.{Pair}
 use Rattle.pc_proto.specs.declared.event.Event.{Event}
 use Rattle.pc_proto.specs.declared.reply.Reply.{Reply}
 use Rattle.pc_proto.specs.declared.request.Request.{Request}
-use Rattle.pc_recoverer.specs.Exchanges.{AreExchangesIn, RoundMessage}
+use Rattle.pc_recoverer.specs.Exchanges.{AreExchangesIn, RoundMessage, Sending}
 use Rattle.pc_recoverer.specs.Round.{IsWholeRound}
 
 -- The entries are a front of messages that are so: others behind them would make such messages whole.
@@ -20,11 +20,12 @@ pub record AreFrontOf (Are : List RoundMessage → Type 0) (part : List (Pair Ev
   pub traffic : List RoundMessage
   pub are : Are traffic
   pub rest : List (Pair Event)
-  pub exchanged : AreExchangesIn traffic (part ++ rest)
+  pub sending : Sending
+  pub exchanged : AreExchangesIn sending traffic (part ++ rest)
 
--- One message, which goes to this range, says this and is answered so.
+-- One message, which goes to this range, says this and is answered so after some losses.
 abbrev pub IsOneMessageTo : ℕ → Request → Reply → List RoundMessage → Type 0
-IsOneMessageTo range request reply xs = xs ≡ record { range = range; request = request; reply = reply } ∷ []
+IsOneMessageTo range request reply xs = (lost : ℕ) × (xs ≡ record { range = range; request = request; lost = lost; reply = Some reply } ∷ [])
 
 -- One message, which says this and is answered so.
 abbrev pub IsOneMessage : Request → Reply → List RoundMessage → Type 0
@@ -40,20 +41,20 @@ AreFrontOfOneTo range request part = (reply : Reply) → AreFrontOf (IsOneMessag
 
 -- The entries are a round of this recoverer that is broken off: others behind them, of which there is at least a last one, would make the round
 -- whole.
-pub record AreOfBrokenRound (splits : List (List ℕ)) (number : ℕ) (level : Priority) (part : List (Pair Event)) : Type 0 where
+pub record AreOfBrokenRound (sending : Sending) (splits : List (List ℕ)) (number : ℕ) (level : Priority) (part : List (Pair Event)) : Type 0 where
   pub rest : List (Pair Event)
   pub last : Pair Event
-  pub whole : IsWholeRound splits number level (part ++ (rest ++ last ∷ []))
+  pub whole : IsWholeRound sending splits number level (part ++ (rest ++ last ∷ []))
 
 -- The entries are a front of a round of this recoverer, or all of it: others behind them, if there are any, would make the round whole.
-pub record AreFrontOfRound (splits : List (List ℕ)) (number : ℕ) (level : Priority) (part : List (Pair Event)) : Type 0 where
+pub record AreFrontOfRound (sending : Sending) (splits : List (List ℕ)) (number : ℕ) (level : Priority) (part : List (Pair Event)) : Type 0 where
   pub rest : List (Pair Event)
-  pub whole : IsWholeRound splits number level (part ++ rest)
+  pub whole : IsWholeRound sending splits number level (part ++ rest)
 
 -- The entries are a round of this recoverer in which its list ended so: one that is broken off; where it stopped, that may be at the round's end.
-abbrev pub AreOfEndedRound : List (List ℕ) → ℕ → Priority → Halt → List (Pair Event) → Type 0
-AreOfEndedRound splits number level halts.Stopped part = AreFrontOfRound splits number level part
-AreOfEndedRound splits number level halt part = AreOfBrokenRound splits number level part
+abbrev pub AreOfEndedRound : Sending → List (List ℕ) → ℕ → Priority → Halt → List (Pair Event) → Type 0
+AreOfEndedRound sending splits number level halts.Stopped part = AreFrontOfRound sending splits number level part
+AreOfEndedRound sending splits number level halt part = AreOfBrokenRound sending splits number level part
 
 -- The entries are so but for the last of them, which hears a reply; the one before it sent the message.
 pub record HearLast (Are : List (Pair Event) → Type 0) (part : List (Pair Event)) : Type 0 where

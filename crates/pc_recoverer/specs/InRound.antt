@@ -4,11 +4,13 @@ use Rattle.pc_base.specs.declared.actor.ActorId.{ActorId}
 use Rattle.pc_base.specs.declared.actor.ActorId.TheVariants as actors
 use Rattle.pc_base.specs.declared.transaction.TxnId.{TxnId}
 use Rattle.pc_desk.specs.Desk.{DeskMeaning, HasSentNext}
-use Rattle.pc_exchange.specs.Exchange.{WasExchanged}
+use Rattle.pc_desk.specs.OwnLog.{LogMeaning}
+use Rattle.pc_exchange.specs.Exchange.{HasLostAll, WasExchanged}
 use Rattle.pc_exchange.specs.Growing.{HasAllBack, HasGoneBeside}
 use Rattle.pc_history.specs.declared.pair.Pair.{Pair}
 use Rattle.pc_proto.specs.declared.call.Call.TheVariants as calls
 use Rattle.pc_proto.specs.declared.event.Event.{Event}
+use Rattle.pc_proto.specs.declared.event.Event.TheVariants as events
 use Rattle.pc_proto.specs.declared.meta.TxnMeta.{TxnMeta}
 use Rattle.pc_proto.specs.declared.reply.Reply.{Reply}
 use Rattle.pc_proto.specs.declared.reply.Reply.TheVariants as replies
@@ -19,7 +21,7 @@ use Rattle.pc_proto.specs.Replies.{view_in}
 use Rattle.pc_proto.specs.Requests.{is_about}
 use Rattle.pc_proto.specs.Stamps.{view_stamps}
 use Rattle.pc_recoverer.specs.declared.maker.RoundMaker.{RoundMaker}
-use Rattle.pc_recoverer.specs.Exchanges.{AreExchangesIn, RoundMessage, requests_of}
+use Rattle.pc_recoverer.specs.Exchanges.{AreDoneInTurn, AreExchangesIn, AreGivenUp, RoundMessage, Sending}
 use Rattle.pc_recoverer.specs.Recovered.{IsDecision}
 use Rattle.pc_recoverer.specs.Round.{ArePartsFor, ArePartsOf, IsPartFor, IsPartOf}
 use Rattle.pc_recoverer.specs.Settled.{settling_of}
@@ -54,6 +56,11 @@ pub record WasExchangedWith {C : Type 0} (range : ℕ) (old new : DeskMeaning C)
   pub exchanged : WasExchanged old new request reply
   pub there : exchanged.range ≡ range
 
+-- The recoverer sent this message to this range as often as its tries, and heard nothing of it.
+pub record WasLostWith {C : Type 0} (range : ℕ) (old new : DeskMeaning C) (request : Request) : Type 0 where
+  pub lost : HasLostAll old new request
+  pub there : All (λ p. (number : ℕ) × (p.entry.event ≡ events.Send number range request)) lost.lost
+
 -- The recoverer is in this round, no message of it is on its way, and it began no transaction.
 pub record IsMakingRound {C : Type 0} (maker : RoundMaker) (d : DeskMeaning C) : Type 0 where
   pub back : HasAllBack d
@@ -61,11 +68,15 @@ pub record IsMakingRound {C : Type 0} (maker : RoundMaker) (d : DeskMeaning C) :
   pub opened : (known_of d.log.part.own).statement ≡ Some (record { call = calls.Round; reading = maker.reading })
   pub unbegun : (known_of d.log.part.own).txns ≡ []
 
+-- What becomes of the messages of this list, and how often in a row it sends one that is lost.
+abbrev pub sending_of : {C : Type 0} → LogMeaning C → Sending
+sending_of l = record { verdict = l.verdict; tries = l.tries }
+
 -- The recoverer exchanged these messages, and did nothing else: it is in its round still.
 pub record HasMadeTraffic {C : Type 0} (old new : DeskMeaning C) (traffic : List RoundMessage) : Type 0 where
   pub part : List (Pair Event)
   pub goes : HasGoneBeside old new part
-  pub each : AreExchangesIn traffic part
+  pub each : AreExchangesIn (sending_of old.log) traffic part
   pub later : IsLater (known_of old.log.part.own) (known_of new.log.part.own)
   pub stays : (maker : RoundMaker) → IsMakingRound maker old → IsMakingRound maker new
 
@@ -82,11 +93,11 @@ pub record MaySettleNow {C : Type 0} (d : DeskMeaning C) (meta : TxnMeta) (view 
   pub anchored : anchor_heard meta.id (known_of d.log.part.own).heard ≡ Some meta.anchor
   pub stamps : All (λ ts. ts ≤ (known_of d.log.part.own).top + 1) (view_stamps view)
 
--- What the view asks for was done.
+-- What the view asks for was done, as far as it was not given up.
 pub record HasSettled {C : Type 0} (meta : TxnMeta) (view : View) (old new : DeskMeaning C) : Type 0 where
   pub traffic : List RoundMessage
   pub exchanged : HasMadeTraffic old new traffic
-  pub settles : requests_of traffic ≡ settling_of meta view
+  pub settles : AreDoneInTurn (settling_of meta view) traffic
 
 -- In its round the recoverer met this record staging.
 pub record MayRecoverNow {C : Type 0} (maker : RoundMaker) (d : DeskMeaning C) (meta : TxnMeta) (view : View) : Type 0 where
@@ -109,6 +120,13 @@ pub record HasRecovered {C : Type 0} (maker : RoundMaker) (meta : TxnMeta) (met 
   pub is : met ≡ views.Staging epoch ts writes
   pub decided : IsDecision maker meta epoch ts writes traffic (replies.Status view)
   pub settles : MaySettleNow new meta view
+
+-- The recoverer made messages that are so, the last of which was given up.
+pub record HasLeftOff {C : Type 0} (Are : List RoundMessage → Type 0) (old new : DeskMeaning C) : Type 0 where
+  pub traffic : List RoundMessage
+  pub exchanged : HasMadeTraffic old new traffic
+  pub are : Are traffic
+  pub given_up : AreGivenUp traffic
 
 -- In its round the recoverer heard a range list the transaction.
 pub record MayPushNow {C : Type 0} (maker : RoundMaker) (d : DeskMeaning C) (meta : TxnMeta) : Type 0 where

@@ -1,6 +1,6 @@
 -- How a recoverer recovers a transaction whose record its push met staging: each listed write is asked for in order, up to the first that is
 -- missing; then the record is decided by what was found. RFC 20180324, "Transaction recovery"; ParallelCommits TLA+.
-use Rattle.std.specs.Prelude.{◌≡◌, ℕ, List, [], ◌∷◌, ◌++◌, map, All}
+use Rattle.std.specs.Prelude.{◌≡◌, ℕ, Some, List, [], ◌∷◌, ◌++◌, map, All}
 use Rattle.pc_base.specs.declared.transaction.Who.{Who}
 use Rattle.pc_base.specs.declared.transaction.Who.TheVariants as whos
 use Rattle.pc_proto.specs.declared.fate.Finding.{Finding}
@@ -11,7 +11,7 @@ use Rattle.pc_proto.specs.declared.reply.Reply.TheVariants as replies
 use Rattle.pc_proto.specs.declared.request.Request.{Request}
 use Rattle.pc_proto.specs.declared.request.Request.TheVariants as requests
 use Rattle.pc_recoverer.specs.declared.maker.RoundMaker.{RoundMaker}
-use Rattle.pc_recoverer.specs.Exchanges.{RoundMessage, requests_of}
+use Rattle.pc_recoverer.specs.Exchanges.{AreGivenUp, RoundMessage, requests_of}
 use Rattle.pc_recoverer.specs.Settled.{SettlesBy}
 
 -- The recoverer's own name.
@@ -26,7 +26,7 @@ module _ (maker : RoundMaker) (meta : TxnMeta) (epoch ts : ℕ) where
   -- Each of these writes was asked for, in their order, and found.
   pub record WereAllFound (writes : List (List ℕ × ℕ)) (xs : List RoundMessage) : Type 0 where
     pub asked : requests_of xs ≡ map (query_for maker meta epoch ts) writes
-    pub found : All (λ x. x.reply ≡ replies.Found) xs
+    pub found : All (λ x. x.reply ≡ Some replies.Found) xs
 
   -- The writes were asked for, in their order, and found, up to one of this key, which is missing; those behind it were not asked for.
   pub record WasOneMissing (writes : List (List ℕ × ℕ)) (key : List ℕ) (xs : List RoundMessage) : Type 0 where
@@ -40,7 +40,7 @@ module _ (maker : RoundMaker) (meta : TxnMeta) (epoch ts : ℕ) where
     pub whole : xs ≡ before ++ last ∷ []
     pub all_found : WereAllFound found before
     pub asked : last.request ≡ query_for maker meta epoch ts missing
-    pub told : last.reply ≡ replies.Missing
+    pub told : last.reply ≡ Some replies.Missing
 
   -- The queries found just this.
   abbrev pub HasQueried : List (List ℕ × ℕ) → Finding → List RoundMessage → Type 0
@@ -55,7 +55,15 @@ module _ (maker : RoundMaker) (meta : TxnMeta) (epoch ts : ℕ) where
     pub finding : Finding
     pub queried : HasQueried writes finding queries
     pub asked : decision.request ≡ requests.Recover meta.id epoch ts meta.anchor finding
-    pub is_told : decision.reply ≡ told
+    pub is_told : decision.reply ≡ Some told
+
+  -- These messages begin to decide the record, and are given up: with a query of a write, those before which were found, or with the decision.
+  pub record IsLeftUndecided (writes : List (List ℕ × ℕ)) (xs : List RoundMessage) : Type 0 where
+    pub given_up : AreGivenUp xs
+    pub finding : Finding
+    pub behind : List Request
+    pub begun : requests_of xs ++ behind ≡ map (query_for maker meta epoch ts) writes ++ requests.Recover meta.id epoch ts meta.anchor finding ∷ []
+    pub found : All (λ x. x.reply ≡ Some replies.Found) given_up.heard
 
   -- These messages decide the record, and do what the view asks for that is left of it.
   pub record IsRecovered (writes : List (List ℕ × ℕ)) (xs : List RoundMessage) : Type 0 where

@@ -6,6 +6,7 @@ use Rattle.pc_desk.specs.Desk.{DeskMeaning}
 use Rattle.pc_exchange.specs.Growing.{HasAllBack, HasGrownBy}
 use Rattle.pc_history.specs.declared.pair.Pair.{Pair}
 use Rattle.pc_proto.specs.declared.event.Event.{Event}
+use Rattle.pc_recoverer.specs.InRound.{sending_of}
 use Rattle.pc_recoverer.specs.Round.{IsWholeRound}
 use Rattle.pc_world.specs.Known.{known_of}
 
@@ -26,10 +27,10 @@ pub record IsBetweenOrStopped {C : Type 0} (r : RecovererMeaning C) : Type 0 whe
   pub whose : r.desk.log.part.id ≡ actors.Recoverer r.number
   pub between : r.desk.log.stopped ≡ false → IsBetweenRounds r.desk
 
--- The recoverer of this number and level made one whole round, and did nothing else: all that it sent was heard. It is between its rounds again.
+-- The recoverer of this number and level made one whole round, and did nothing else: all that it sent was heard or lost. It is between its rounds again.
 pub record HasMadeWholeRound {C : Type 0} (number : ℕ) (level : Priority) (old new : DeskMeaning C) : Type 0 where
   pub part : List (Pair Event)
   pub grown : HasGrownBy old.log new.log part
-  pub whole : IsWholeRound old.log.head.splits number level part
+  pub whole : IsWholeRound (sending_of old.log) old.log.head.splits number level part
   pub limit : new.range_limit ≡ old.range_limit
   pub between : IsBetweenRounds new

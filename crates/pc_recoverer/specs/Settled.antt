@@ -9,7 +9,7 @@ use Rattle.pc_proto.specs.declared.request.Request.{Request}
 use Rattle.pc_proto.specs.declared.request.Request.TheVariants as requests
 use Rattle.pc_proto.specs.declared.view.View.{View}
 use Rattle.pc_proto.specs.declared.view.View.TheVariants as views
-use Rattle.pc_recoverer.specs.Exchanges.{RoundMessage, requests_of}
+use Rattle.pc_recoverer.specs.Exchanges.{AreDoneInTurn, RoundMessage}
 
 -- Each of these locks is settled with this fate, in their order, and then the record removed.
 abbrev pub settling_with : TxnMeta → Fate → List (List ℕ) → List Request
@@ -21,7 +21,7 @@ settling_of meta (views.Committed epoch ts locks) = settling_with meta (fates.Co
 settling_of meta (views.Aborted epoch why locks) = settling_with meta fates.Aborted locks
 settling_of meta _ = []
 
--- These messages do what a status asks for; after another reply there are none.
+-- These messages do what a status asks for, as far as they are not given up; after another reply there are none.
 abbrev pub SettlesBy : TxnMeta → Reply → List RoundMessage → Type 0
-SettlesBy meta (replies.Status view) xs = requests_of xs ≡ settling_of meta view
+SettlesBy meta (replies.Status view) xs = AreDoneInTurn (settling_of meta view) xs
 SettlesBy meta _ xs = xs ≡ []

@@ -13,7 +13,7 @@ use Rattle.pc_recover.specs.declared.progress.Progress.TheVariants as progresses
 use Rattle.pc_recover.specs.Recovering.{Recovering}
 use Rattle.pc_recover.specs.RecoverKnows.{RecoverKnows}
 use Rattle.pc_recoverer.specs.declared.maker.RoundMaker.{RoundMaker}
-use Rattle.pc_recoverer.specs.Exchanges.{RoundMessage, requests_of}
+use Rattle.pc_recoverer.specs.Exchanges.{AreDoneInTurn, IsHeardMessage, RoundMessage, requests_of}
 use Rattle.pc_recoverer.specs.InRound.{HasMadeTraffic, IsMakingRound, MayRecoverNow, WasShown}
 use Rattle.pc_recoverer.specs.Recovered.{IsDecision, WasOneMissing, WereAllFound, name_of}
 use Rattle.pc_recoverer.specs.Settled.{settling_with}
@@ -34,13 +34,14 @@ pub record IsBeingSettled {C : Type 0} (old : DeskMeaning C) (meta : TxnMeta) (f
   pub traffic : List RoundMessage
   pub made : HasMadeTraffic old new traffic
   pub knows : ResolveKnows (known_of old.log.part.own) (known_of new.log.part.own) m
+  pub heard : All IsHeardMessage traffic
   pub left : requests_of traffic ++ messages_due m ≡ settling_with meta fate locks
 
--- Each lock was settled with the fate, and the record removed.
+-- Each lock was settled with the fate, and the record removed, as far as that was not given up.
 pub record HasFinishedListed {C : Type 0} (old new : DeskMeaning C) (meta : TxnMeta) (fate : Fate) (locks : List (List ℕ)) : Type 0 where
   pub traffic : List RoundMessage
   pub made : HasMadeTraffic old new traffic
-  pub settles : requests_of traffic ≡ settling_with meta fate locks
+  pub settles : AreDoneInTurn (settling_with meta fate locks) traffic
 
 -- The record was decided: it is shown so.
 pub record WasDecidedBy (maker : RoundMaker) (meta : TxnMeta) (epoch ts : ℕ) (writes : List (List ℕ × ℕ)) (view : View) (traffic : List RoundMessage) (k : Known) : Type 0 where

@@ -8,6 +8,7 @@ ghost use Rattle.pc_desk.specs.Keeping.{ReadsEach};
 ghost use Rattle.pc_desk.specs.OwnLog.{IsOwnLog};
 ghost use Rattle.pc_history.specs.Parts.{newcomer, noted, told};
 ghost use Rattle.pc_recoverer.specs.Broken.{AreOfEndedRound, BreaksOffIn};
+ghost use Rattle.pc_recoverer.specs.InRound.{sending_of};
 ghost use Rattle.pc_recoverer.specs.Recoverer.{HasMadeWholeRound, IsBetweenOrStopped, IsBetweenRounds};
 ghost use Rattle.pc_world.specs.Local.{IsActorOf};
 
@@ -36,7 +37,8 @@ pub struct Recoverer<'a, N: Named<CommitWorld>, C: Clock, V: Wire, G> {
 
 impl<'a, N: Named<CommitWorld>, C: Clock, V: Wire, G> Model for Recoverer<'a, N, C, V, G> {
     ghost use Rattle.std.specs.Prelude.{◌≡◌, ◌+◌, length};
-    ghost use Rattle.pc_recoverer.specs.Recoverer.{IsBetweenOrStopped, RecovererMeaning};
+    ghost use Rattle.pc_recoverer.specs.InRound.{sending_of};
+ghost use Rattle.pc_recoverer.specs.Recoverer.{IsBetweenOrStopped, RecovererMeaning};
 
     ghost Value = { RecovererMeaning C };
 
@@ -126,7 +128,7 @@ impl<'a, N: Named<CommitWorld>, C: Clock, V: Wire, G: Gate> Recoverer<'a, N, C, 
         ensures between { IsBetweenOrStopped self.new }
         ensures stopped { self.old.desk.log.stopped ≡ true → (result ≡ Err halts.Stopped) × (self.new ≡ self.old) }
         ensures err { IfErr result (HasHalted self.old.desk self.new.desk) }
-        ensures ended { IfErr result (λ halt. BreaksOffIn (AreOfEndedRound self.old.desk.log.head.splits self.old.number self.old.level halt) self.old.desk self.new.desk halt) }
+        ensures ended { IfErr result (λ halt. BreaksOffIn (AreOfEndedRound (sending_of self.old.desk.log) self.old.desk.log.head.splits self.old.number self.old.level halt) self.old.desk self.new.desk halt) }
         ensures rule { C.rule self.new.desk.log.clock ≡ C.rule self.old.desk.log.clock }
     {
         if self.desk.has_stopped() {

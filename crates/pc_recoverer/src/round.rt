@@ -2,6 +2,7 @@ ghost use Rattle.std.specs.Prelude.{◌≡◌, ◌+◌, length, IfErr, OnOk};
 ghost use Rattle.pc_base.specs.declared.actor.ActorId.TheVariants as actors;
 ghost use Rattle.pc_desk.specs.Desk.{HasHalted};
 ghost use Rattle.pc_recoverer.specs.Broken.{AreOfEndedRound, BreaksOffIn};
+ghost use Rattle.pc_recoverer.specs.InRound.{sending_of};
 ghost use Rattle.pc_recoverer.specs.Recoverer.{HasMadeWholeRound, IsBetweenRounds};
 
 use crate::maker::RoundMaker;
@@ -29,7 +30,7 @@ pub(crate) fn make_whole_round<N: Named<CommitWorld>, C: Clock, V: Wire, G: Gate
     ensures ok { OnOk result (HasMadeWholeRound number level desk.old desk.new) }
     ensures rule { C.rule desk.new.log.clock ≡ C.rule desk.old.log.clock }
     ensures err { IfErr result (HasHalted desk.old desk.new) }
-    ensures ended { IfErr result (λ halt. BreaksOffIn (AreOfEndedRound desk.old.log.head.splits number level halt) desk.old desk.new halt) }
+    ensures ended { IfErr result (λ halt. BreaksOffIn (AreOfEndedRound (sending_of desk.old.log) desk.old.log.head.splits number level halt) desk.old desk.new halt) }
 {
     let reading = desk.ask(Call::Round)?;
     let maker = RoundMaker {

@@ -6,7 +6,7 @@ ghost use Rattle.pc_proto.specs.declared.fate.Fate.{Fate};
 ghost use Rattle.pc_proto.specs.declared.machine.MachineNext.TheVariants as machines;
 ghost use Rattle.pc_proto.specs.declared.meta.TxnMeta.{TxnMeta};
 ghost use Rattle.pc_recoverer.specs.Broken.{AreFrontOf, AreFrontOfOne, BreaksOffIn};
-ghost use Rattle.pc_recoverer.specs.Exchanges.{requests_of};
+ghost use Rattle.pc_recoverer.specs.Exchanges.{AreDoneInTurn};
 ghost use Rattle.pc_recoverer.specs.InRound.{HasSettled, IsRecovererInRound, MaySettleNow};
 ghost use Rattle.pc_recoverer.specs.Settled.{settling_of, settling_with};
 ghost use Rattle.pc_recoverer.specs.UnderWay.{HasFinishedListed, IsBeingSettled, MayFinishInRound};
@@ -35,7 +35,7 @@ pub(crate) fn settle<N: Named<CommitWorld>, C: Clock, V: Wire, G: Gate, R: Wait>
     ensures ok { OnOk result (HasSettled meta.now view desk.old desk.new) }
     ensures clock { desk.new.log.clock ≡ desk.old.log.clock }
     ensures err { IfErr result (HasHalted desk.old desk.new) }
-    ensures ended { IfErr result (BreaksOffIn (AreFrontOf (λ xs. requests_of xs ≡ settling_of meta.now view)) desk.old desk.new) }
+    ensures ended { IfErr result (BreaksOffIn (AreFrontOf (AreDoneInTurn (settling_of meta.now view))) desk.old desk.new) }
 {
     match view {
         View::Committed { epoch, ts, locks } => {
@@ -60,7 +60,7 @@ fn settle_locks<N: Named<CommitWorld>, C: Clock, V: Wire, G: Gate, R: Wait>(
     ensures ok { OnOk result (HasFinishedListed desk.old desk.new meta.now fate locks) }
     ensures clock { desk.new.log.clock ≡ desk.old.log.clock }
     ensures err { IfErr result (HasHalted desk.old desk.new) }
-    ensures ended { IfErr result (BreaksOffIn (AreFrontOf (λ xs. requests_of xs ≡ settling_with meta.now fate locks)) desk.old desk.new) }
+    ensures ended { IfErr result (BreaksOffIn (AreFrontOf (AreDoneInTurn (settling_with meta.now fate locks))) desk.old desk.new) }
 {
     let anchor = match meta.anchor.copy() {
         Ok(anchor) => anchor,

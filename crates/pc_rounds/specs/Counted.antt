@@ -1,7 +1,7 @@
 -- A recoverer that makes so many rounds and no more: how it stands between its turns, and what each turn makes. Own profile.
 use Rattle.std.specs.Prelude.{◌≡◌, ℕ, ◌+◌, ◌<◌, ◌≤◌, ◌⊎◌, Bool, false, true, List, ◌++◌, length, All, Contains, ⊤}
 use Rattle.pc_base.specs.declared.actor.ActorId.TheVariants as actors
-use Rattle.pc_desk.specs.Desk.{GivesOnce}
+use Rattle.pc_desk.specs.Desk.{GivesByVerdicts}
 use Rattle.pc_desk.specs.Ending.{EndsEarly}
 use Rattle.pc_history.specs.declared.pair.Pair.{Pair}
 use Rattle.pc_history.specs.declared.view.Known.{Known as KnownEntry}
@@ -10,6 +10,7 @@ use Rattle.pc_proto.specs.declared.call.Call.TheVariants as calls
 use Rattle.pc_proto.specs.declared.event.Event.{Event}
 use Rattle.pc_proto.specs.declared.event.Event.TheVariants as events
 use Rattle.pc_recoverer.specs.Recoverer.{IsBetweenRounds, RecovererMeaning}
+use Rattle.pc_recoverer.specs.InRound.{sending_of}
 use Rattle.pc_rounds.specs.Made.{AreWholeRounds, StopsBefore}
 use Rattle.pc_scripted.specs.Ended.{SaysHeldUp, list_has_ended}
 use Rattle.pc_turns.specs.Clients.{RisesFrom}
@@ -31,14 +32,14 @@ entries_made r = r.recoverer.desk.log.part.own
 pub record GoesOnInRounds {C : Type 0} (r : CountedMeaning C) : Type 0 where
   pub between : IsBetweenRounds r.recoverer.desk
   pub counted : r.made ≡ rounds_asked (entries_made r)
-  pub are : AreWholeRounds r.recoverer.desk.log.head.splits r.recoverer.number r.recoverer.level r.made (entries_made r)
+  pub are : AreWholeRounds (sending_of r.recoverer.desk.log) r.recoverer.desk.log.head.splits r.recoverer.number r.recoverer.level r.made (entries_made r)
 
 -- The list has ended: before all rounds were made, or where it stopped just as the last of them was.
 pub record HasEndedInRounds {C : Type 0} (r : CountedMeaning C) : Type 0 where
   pub end : EndsEarly r.recoverer.desk
   pub stops :
-      AreWholeRounds r.recoverer.desk.log.head.splits r.recoverer.number r.recoverer.level r.rounds (entries_made r)
-      ⊎ StopsBefore r.recoverer.desk.log.head.splits r.recoverer.number r.recoverer.level r.rounds (entries_made r)
+      AreWholeRounds (sending_of r.recoverer.desk.log) r.recoverer.desk.log.head.splits r.recoverer.number r.recoverer.level r.rounds (entries_made r)
+      ⊎ StopsBefore (sending_of r.recoverer.desk.log) r.recoverer.desk.log.head.splits r.recoverer.number r.recoverer.level r.rounds (entries_made r)
 
 -- A call that is asked is a round.
 abbrev pub AsksOnlyRounds : Event → Type 0
@@ -51,7 +52,7 @@ pub record GoesInRounds {C : Type 0} (r : CountedMeaning C) : Type 0 where
   pub whose : All (λ p. p.entry.actor ≡ actors.Recoverer r.recoverer.number) (entries_made r)
   pub asks : All (λ p. AsksOnlyRounds p.entry.event) (entries_made r)
   pub within : length (entries_made r) ≤ r.recoverer.desk.log.limit
-  pub given : GivesOnce r.recoverer.desk.log.part
+  pub given : GivesByVerdicts r.recoverer.desk.log.verdict r.recoverer.desk.log.part
   pub few : r.made ≤ r.rounds
   pub goes : r.recoverer.desk.log.stopped ≡ false → GoesOnInRounds r
   pub ends : r.recoverer.desk.log.stopped ≡ true → HasEndedInRounds r
@@ -64,6 +65,8 @@ pub record IsSameCounted {C : Type 0} (old new : CountedMeaning C) : Type 0 wher
   pub head : new.recoverer.desk.log.head ≡ old.recoverer.desk.log.head
   pub limit : new.recoverer.desk.log.limit ≡ old.recoverer.desk.log.limit
   pub stop : new.recoverer.desk.log.stop ≡ old.recoverer.desk.log.stop
+  pub verdict : new.recoverer.desk.log.verdict ≡ old.recoverer.desk.log.verdict
+  pub tries : new.recoverer.desk.log.tries ≡ old.recoverer.desk.log.tries
   pub range_limit : new.recoverer.desk.range_limit ≡ old.recoverer.desk.range_limit
 
 -- The recoverer made these entries, whose steps rise, above those of all that it stored or knew. It forgot nothing, and goes in its rounds

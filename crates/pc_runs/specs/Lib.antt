@@ -8,3 +8,4 @@ pub mod Rounds
 pub mod Recoverers
 pub mod Runners
 pub mod Together
+pub mod Wires

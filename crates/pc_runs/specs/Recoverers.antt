@@ -10,6 +10,7 @@ use Rattle.pc_script.specs.Clocks.{clock_rule}
 use Rattle.pc_scripted.specs.Ended.{SaysHeldUp}
 use Rattle.pc_work.specs.declared.recoverer.RecovererWork.{RecovererWork}
 use Rattle.pc_work.specs.declared.workload.Workload.{Workload}
+use Rattle.pc_work.specs.Wire.{wire_rule}
 use Rattle.pc_world.specs.Known.Traffic.{Sent}
 
 -- The recoverer makes the rounds that the workload states at this index, at the level stated there, within its limits and up to its stop.
@@ -23,6 +24,8 @@ pub record IsRecovererIn {C : Type 0} (work : Workload) (index : ℕ) (r : Count
   pub head : r.recoverer.desk.log.head ≡ head_in_work work
   pub limit : r.recoverer.desk.log.limit ≡ work.limit
   pub stop : r.recoverer.desk.log.stop ≡ recoverer.stop
+  pub wire : (number : ℕ) → r.recoverer.desk.log.verdict number ≡ wire_rule recoverer.wire number
+  pub tries : r.recoverer.desk.log.tries ≡ work.tries
   pub range_limit : r.recoverer.desk.range_limit ≡ work.limit
 
 -- Each recoverer of the workload is there, and no other.

@@ -4,6 +4,7 @@ use Rattle.pc_base.specs.declared.actor.ActorId.{ActorId}
 use Rattle.pc_base.specs.declared.actor.ActorId.TheVariants as actors
 use Rattle.pc_closing.specs.Leaving.{Leaver}
 use Rattle.pc_desk.specs.Keeping.{EachAfter, KeepsEach}
+use Rattle.pc_desk.specs.OwnLog.{terms_of}
 use Rattle.pc_desk.specs.Waves.{KeepsWavesEach}
 use Rattle.pc_script.specs.Clocks.{clock_rule}
 use Rattle.pc_script.specs.Steps.{KeepsWork}
@@ -12,6 +13,7 @@ use Rattle.pc_scripted.specs.Scripted.{IsScripted, ScriptedMeaning, own_number, 
 use Rattle.pc_scripted.specs.Taking.{IsRunOut}
 use Rattle.pc_work.specs.declared.session.SessionWork.{SessionWork}
 use Rattle.pc_work.specs.declared.workload.Workload.{Workload}
+use Rattle.pc_work.specs.Wire.{wire_rule}
 use Rattle.pc_world.specs.Known.Traffic.{Sent}
 use Rattle.pc_world.specs.Local.{Head}
 
@@ -19,8 +21,8 @@ use Rattle.pc_world.specs.Local.{Head}
 abbrev pub head_in_work : Workload → Head
 head_in_work work = record { splits = work.splits; sessions = length work.sessions; recoverers = length work.recoverers }
 
--- The session goes by the script of this index of the workload, within its limits and up to its stop; its writes are pipelined where the workload
--- says so, and the evaluations of a wave go beside each other where no turns are stated.
+-- The session goes by the script of this index of the workload, within its limits and up to its stop; its messages go over the wire that is stated for it, its writes are
+-- pipelined where the workload says so, and the evaluations of a wave go beside each other where no turns are stated.
 pub record IsRunnerIn {C : Type 0} (work : Workload) (index : ℕ) (s : ScriptedMeaning C) : Type 0 where
   pub scripted : IsScripted s
   pub number : own_number s ≡ index + 1
@@ -33,6 +35,8 @@ pub record IsRunnerIn {C : Type 0} (work : Workload) (index : ℕ) (s : Scripted
   pub beside : s.session.desk.log.beside ≡ is_none work.turns
   pub limit : s.session.desk.log.limit ≡ work.limit
   pub stop : s.session.desk.log.stop ≡ session.stop
+  pub wire : (number : ℕ) → s.session.desk.log.verdict number ≡ wire_rule session.wire number
+  pub tries : s.session.desk.log.tries ≡ work.tries
   pub range_limit : s.session.desk.range_limit ≡ work.limit
 
 -- Each session of the workload has its runner, and no other is there.
@@ -58,7 +62,7 @@ AreRunOut {C} sessions = (index : ℕ) (s : ScriptedMeaning C) → slice_get ses
 pub record HasLeftAs {C : Type 0} (work : Workload) (rules : ActorId → ℕ → ℕ → Bool) (index : ℕ) (s : ScriptedMeaning C) (l : Leaver) : Type 0 where
   pub part : l.0.part ≡ s.session.desk.log.part
   pub steps : (session : SessionWork) → slice_get work.sessions index ≡ Some session → EachAfter (KeepsWork work session (rules (actors.Session (index + 1)))) [] (own_list s)
-  pub keeps : KeepsEach (actors.Session (index + 1)) work.splits work.pipelining (own_list s)
+  pub keeps : KeepsEach (actors.Session (index + 1)) work.splits (terms_of s.session.desk.log) (own_list s)
   pub waves : KeepsWavesEach (is_none work.turns) (own_list s)
   pub within : length (own_list s) ≤ work.limit
   pub no_later : IfSome s.session.desk.log.stop (λ stop. length (own_list s) ≤ stop)

@@ -23,7 +23,7 @@ ghost use Rattle.pc_proto.specs.declared.call.Call.TheVariants as calls;
 ghost use Rattle.pc_proto.specs.declared.event.Event.TheVariants as events;
 ghost use Rattle.pc_session.specs.Calls.{HasCalled, MayBeCalled};
 ghost use Rattle.pc_session.specs.Ending.{AreOfBrokenCall, AreOfOpenCall};
-ghost use Rattle.pc_session.specs.InCall.{ends_epoch, is_rollback, GoesOnOrTold, HasAsked, HasDroppedAtMost, HasGoneInside, HasJoinedIfAwaited, HasOpenCall, IsBetweenWaves, IsWholeOut};
+ghost use Rattle.pc_session.specs.InCall.{ends_epoch, is_rollback, GoesOnOrTold, HasAsked, HasCallWithLost, HasDroppedAtMost, HasGoneInside, HasJoinedIfAwaited, HasOpenCall, IsBetweenWaves, IsWholeOut};
 ghost use Rattle.pc_session.specs.Learning.{AreOfBrokenLearn, HasAskedToLearn, HasLearnt, HasMet, IsLearning};
 ghost use Rattle.pc_session.specs.Session.{IsAtRest, waits_aside, session_knows};
 ghost use Rattle.pc_session.specs.Steps.{HasStepped};
@@ -193,7 +193,7 @@ impl<'a, N: Named<CommitWorld>, C: Clock, V: Wire, G: Gate> Office<'a, N, C, V, 
     fn due(&mut self, reading: u64) -> Result<Next, Halt>
         requires { HasOpenCall self.old reading }
         ensures due { IfOk result (λ next. next ≡ next_of self.new.coordinator) }
-        ensures may { IfOk result (MayCome false self.new.coordinator (session_knows self.new)) }
+        ensures may { IfOk result (MayCome true self.new.coordinator (session_knows self.new)) }
         ensures calls { OnOk result (HasOpenCall self.new reading) }
         ensures same { OnOk result (self.new ≡ self.old) }
         ensures err { IfErr result (HasHalted self.old.desk self.new.desk) }
@@ -211,7 +211,7 @@ impl<'a, N: Named<CommitWorld>, C: Clock, V: Wire, G: Gate> Office<'a, N, C, V, 
         requires calls { HasOpenCall self.old reading }
         requires between { IsBetweenWaves self.old.desk }
         requires due { next_of self.old.coordinator ≡ nexts.Send request }
-        requires may { MayCome false self.old.coordinator (session_knows self.old) (nexts.Send request) }
+        requires may { MayCome true self.old.coordinator (session_knows self.old) (nexts.Send request) }
         ensures ok { IfOk result (GoesOnOrTold self.old self.new reading) }
         ensures err { IfErr result (HasHalted self.old.desk self.new.desk) }
         ensures ended { IfErr result (BreaksOff (All IsInBetween) self.old.desk self.new.desk) }
@@ -229,7 +229,7 @@ impl<'a, N: Named<CommitWorld>, C: Clock, V: Wire, G: Gate> Office<'a, N, C, V, 
         requires calls { HasOpenCall self.old reading }
         requires between { IsBetweenWaves self.old.desk }
         requires due { next_of self.old.coordinator ≡ nexts.Later request }
-        requires may { MayCome false self.old.coordinator (session_knows self.old) (nexts.Later request) }
+        requires may { MayCome true self.old.coordinator (session_knows self.old) (nexts.Later request) }
         ensures ok { IfOk result (GoesOnOrTold self.old self.new reading) }
         ensures err { IfErr result (HasHalted self.old.desk self.new.desk) }
         ensures ended { IfErr result (BreaksOff (All IsInBetween) self.old.desk self.new.desk) }
@@ -373,7 +373,7 @@ impl<'a, N: Named<CommitWorld>, C: Clock, V: Wire, G: Gate> Office<'a, N, C, V, 
     ) -> Result<Option<Answer>, Halt>
         requires calls { HasOpenCall self.old reading }
         requires due { next_of self.old.coordinator ≡ nexts.Conflict number conflict reader }
-        requires may { MayCome false self.old.coordinator (session_knows self.old) (nexts.Conflict number conflict reader) }
+        requires may { MayCome true self.old.coordinator (session_knows self.old) (nexts.Conflict number conflict reader) }
         ensures ok { IfOk result (GoesOnOrTold self.old self.new reading) }
         ensures err { IfErr result (HasHalted self.old.desk self.new.desk) }
         ensures ended { IfErr result (BreaksOff (All IsInBetween) self.old.desk self.new.desk) }
@@ -396,7 +396,7 @@ impl<'a, N: Named<CommitWorld>, C: Clock, V: Wire, G: Gate> Office<'a, N, C, V, 
         requires calls { HasOpenCall self.old reading }
         requires between { IsBetweenWaves self.old.desk }
         requires due { next_of self.old.coordinator ≡ nexts.Tell answer }
-        requires may { MayCome false self.old.coordinator (session_knows self.old) (nexts.Tell answer) }
+        requires may { MayCome true self.old.coordinator (session_knows self.old) (nexts.Tell answer) }
         ensures ok { IfOk result (GoesOnOrTold self.old self.new reading) }
         ensures told { IfOk result (λ told. told ≡ Some answer) }
         ensures err { IfErr result (HasHalted self.old.desk self.new.desk) }
@@ -412,11 +412,11 @@ impl<'a, N: Named<CommitWorld>, C: Clock, V: Wire, G: Gate> Office<'a, N, C, V, 
         requires calls { HasOpenCall self.old reading }
         requires between { IsBetweenWaves self.old.desk }
         requires due { next_of self.old.coordinator ≡ nexts.Tell answer.now }
-        requires may { MayCome false self.old.coordinator (session_knows self.old) (nexts.Tell answer.now) }
+        requires may { MayCome true self.old.coordinator (session_knows self.old) (nexts.Tell answer.now) }
         ensures calls { OnOk result (HasOpenCall self.new reading) }
         ensures puts { OnOk result (EndsPutWaves self.new.desk.log.part.own) }
         ensures aside { (number : ℕ) → OnOk result (waits_aside number self.new.desk ≡ has_waited number self.new.coordinator.later) }
-        ensures may { OnOk result (MayCome false self.new.coordinator (session_knows self.new) (nexts.Tell answer.now)) }
+        ensures may { OnOk result (MayCome true self.new.coordinator (session_knows self.new) (nexts.Tell answer.now)) }
         ensures dropped { OnOk result (HasDroppedAtMost self.old self.new) }
         ensures err { IfErr result (HasHalted self.old.desk self.new.desk) }
         ensures ended { IfErr result (EndsOnly (λ made. ⊥) self.old.desk self.new.desk) }
@@ -434,7 +434,7 @@ impl<'a, N: Named<CommitWorld>, C: Clock, V: Wire, G: Gate> Office<'a, N, C, V, 
         requires puts { EndsPutWaves self.old.desk.log.part.own }
         requires aside { (number : ℕ) → waits_aside number self.old.desk ≡ has_waited number self.old.coordinator.later }
         requires due { next_of self.old.coordinator ≡ nexts.Tell answer }
-        requires may { MayCome false self.old.coordinator (session_knows self.old) (nexts.Tell answer) }
+        requires may { MayCome true self.old.coordinator (session_knows self.old) (nexts.Tell answer) }
         ensures ok { IfOk result (GoesOnOrTold self.old self.new reading) }
         ensures told { IfOk result (λ told. told ≡ Some answer) }
         ensures err { IfErr result (HasHalted self.old.desk self.new.desk) }
@@ -458,8 +458,8 @@ impl<'a, N: Named<CommitWorld>, C: Clock, V: Wire, G: Gate> Office<'a, N, C, V, 
         ensures desk { self.new.desk ≡ self.old.desk }
         ensures made { self.new.coordinator ≡ without_job self.old.coordinator }
         ensures jobs { OnOk result (self.new.jobs ≡ self.old.jobs ++ option_to_list self.old.coordinator.job) }
-        ensures knows { (k : Known) → Knows false self.old.coordinator k → self.old.coordinator.due ≡ dues.Nothing → Knows false self.new.coordinator k }
-        ensures may { (k : Known) → Knows false self.old.coordinator k → self.old.coordinator.due ≡ dues.Nothing → IfSome self.old.coordinator.job (MayFinishJob k) }
+        ensures knows { (k : Known) → Knows true self.old.coordinator k → self.old.coordinator.due ≡ dues.Nothing → Knows true self.new.coordinator k }
+        ensures may { (k : Known) → Knows true self.old.coordinator k → self.old.coordinator.due ≡ dues.Nothing → IfSome self.old.coordinator.job (MayFinishJob k) }
     {
         if let Some(job) = self.coordinator.job() {
             self.jobs.push_back(job)?;
