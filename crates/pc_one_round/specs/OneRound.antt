@@ -5,7 +5,7 @@ use Rattle.pc_base.specs.declared.actor.ActorId.TheVariants as actors
 use Rattle.pc_base.specs.declared.entry.Entry.{Entry}
 use Rattle.pc_base.specs.declared.transaction.TxnId.{TxnId}
 use Rattle.pc_base.specs.Transaction.{same_txn}
-use Rattle.pc_desk.specs.Keeping.{KeepsEach}
+use Rattle.pc_desk.specs.Keeping.{KeepsEach, Terms}
 use Rattle.pc_history.specs.declared.pair.Pair.{Pair}
 use Rattle.pc_history.specs.Own.{own}
 use Rattle.pc_proto.specs.declared.call.Call.TheVariants as calls
@@ -23,6 +23,7 @@ use Rattle.pc_world.specs.Run.{IsRun, protocol}
 use Rattle.pc_world.specs.StageFate.{SentStage, stage_request}
 use Rattle.pc_world.specs.Tell.Data.{sent_before}
 use Rattle.pc_world.specs.Tell.End.{shows_staging}
+use Rattle.pc_wire.specs.Verdicts.{is_losing}
 
 -- The request stages the transaction.
 abbrev pub stages_txn : TxnId → Request → Bool
@@ -56,10 +57,10 @@ abbrev pub SendsNothing : Event → Type 0
 SendsNothing (events.Send number range request) = ⊥
 SendsNothing _ = ⊤
 
--- Over a run, a session that keeps what its workload asks, with its writes pipelined, sends nothing behind the first reply of such a commit: all that the commit sends
+-- Over a run, a session that keeps what its workload asks, with its writes pipelined and no message lost, sends nothing behind the first reply of such a commit: all that the commit sends
 -- goes out in one wave.
 abbrev pub CommitsInOneRound : Type 0
 CommitsInOneRound =
-    (head : Head) (history : List (Entry Event)) (session : ℕ) (before later : List (Pair Event)) (next : Pair Event) (t : Txn) (ts : ℕ)
-    → IsRun head history → KeepsEach (actors.Session session) head.splits true (own (protocol head) (actors.Session session) history)
+    (head : Head) (history : List (Entry Event)) (session : ℕ) (terms : Terms) (before later : List (Pair Event)) (next : Pair Event) (t : Txn) (ts : ℕ)
+    → terms.pipelining ≡ true → ((number : ℕ) → is_losing (terms.verdict number) ≡ false) → IsRun head history → KeepsEach (actors.Session session) head.splits terms (own (protocol head) (actors.Session session) history)
     → own (protocol head) (actors.Session session) history ≡ before ++ next ∷ later → IsCommitAsStaged (known_of before) t ts → SendsNothing next.entry.event
