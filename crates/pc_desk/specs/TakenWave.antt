@@ -22,11 +22,14 @@ use Rattle.pc_range.specs.declared.message.ServeFault.TheVariants as faults
 use Rattle.pc_serving.specs.declared.delivery.Delivery.{Delivery}
 use Rattle.pc_wire.specs.declared.outbox.Stray.{Stray}
 
--- What is done with the messages that wait, one after another: one that is evaluated now is set out; none of the others is.
-data SetsOut {C N : Type 0} {G : Ghosts N CommitWorld} : DeskMeaning C → DeskMeaning C → List (Errand N G) → Type 0 where
-  done : {d : DeskMeaning C} → SetsOut d d []
-  passed : {old now new : DeskMeaning C} {errands : List (Errand N G)} → HasPassedFirst old now → SetsOut now new errands → SetsOut old new errands
-  set_out : {old now new : DeskMeaning C} {errand : Errand N G} {errands : List (Errand N G)} → HasSetOutFirst old now errand → SetsOut now new errands → SetsOut old new (errand ∷ errands)
+-- The messages that wait are taken one after another: one that is evaluated now is set out, and none of the others is.
+pub data SetsOut {C N : Type 0} {G : Ghosts N CommitWorld} : DeskMeaning C → DeskMeaning C → List (Errand N G) → Type 0 where
+  Done : (d : DeskMeaning C) → SetsOut d d []
+  Passed : (old now new : DeskMeaning C) (errands : List (Errand N G)) → HasPassedFirst old now → SetsOut now new errands → SetsOut old new errands
+  SetOut : (old now new : DeskMeaning C) (errand : Errand N G) (errands : List (Errand N G))
+      → HasSetOutFirst old now errand
+      → SetsOut now new errands
+      → SetsOut old new (errand ∷ errands)
 
 -- The first of the messages that waited were taken, in the order of their numbers, and those that are evaluated now are the wave's, beside what comes of
 -- each evaluation; each goes out behind all that the actor made.

@@ -6,7 +6,7 @@ ghost use Rattle.std.specs.Ordering.{nat_cmp};
 ghost use Rattle.pc_base.specs.Rising.{AreRising};
 ghost use Rattle.pc_desk.specs.declared.halt.Halt.TheVariants as halts;
 ghost use Rattle.pc_desk.specs.Commits.{IsCommitPlace};
-ghost use Rattle.pc_desk.specs.Desk.{DeskMeaning, EndsWithSend, HasDone, HasHalted, HasHeardFirst, HasPosted, HasSentNext, HasSentTo, KeepsTrack, MayHearNow, MaySendNow, MaySendTo, new_desk, posted_as, uses_by};
+ghost use Rattle.pc_desk.specs.Desk.{DeskMeaning, EndsWithSend, HasDone, HasHalted, HasHeardFirst, HasPosted, HasSentNext, HasSentTo, KeepsTrack, MayHearNow, MaySendNow, MaySendTo, new_desk, posted_as};
 ghost use Rattle.pc_desk.specs.Ending.{EndsOnly};
 ghost use Rattle.pc_desk.specs.Aside.{HasJoinedWave, HasSetAside, with_one};
 ghost use Rattle.pc_desk.specs.Keeping.{ReadsEach};
@@ -25,6 +25,7 @@ ghost use Rattle.pc_world.specs.Local.{IsActorOf, MayAsk};
 ghost use Rattle.pc_world.specs.Stamps.{AllBelowGreatest};
 
 use crate::answered::Answered;
+use crate::errand::uses_of;
 use crate::halt::Halt;
 use crate::own_log::OwnLog;
 use crate::rest::Rest;
@@ -33,7 +34,7 @@ use pc_clock::Clock;
 use pc_history::{Actor, Named, Note};
 use pc_proto::{Answer, Call, Event, Request};
 use pc_range::{CommitWorld, Gate, Message, Ranges};
-use pc_wire::{Outbox, Verdict, Wire};
+use pc_wire::{Outbox, Wire};
 use pc_world::range_for;
 use std::alloc::Global;
 use std::collections::VecDeque;
@@ -445,16 +446,5 @@ fn move_message<N: Named<CommitWorld>>(
     match from.take(number) {
         Some((verdict, message)) => to.add(number, verdict, message),
         None => Ok(()),
-    }
-}
-
-/// How often a message of this verdict may be evaluated.
-fn uses_of(verdict: Verdict) -> u32
-    ensures { result ≡ uses_by verdict }
-{
-    match verdict {
-        Verdict::LoseRequest => 0,
-        Verdict::Repeat(_) => 2,
-        Verdict::Deliver | Verdict::LoseReply | Verdict::Hold(_) => 1,
     }
 }

@@ -1,11 +1,12 @@
 ghost use Rattle.std.specs.Prelude.{◌≡◌, ◌≤◌, false, true, None, Some, IfOk, OnOk};
+ghost use Rattle.pc_desk.specs.Desk.{uses_by};
 ghost use Rattle.pc_desk.specs.Errand.{IsCopyOf, IsRepeated, due_by};
 ghost use Rattle.pc_history.specs.Parts.{uses_left, with_uses, without_uses};
 
 use pc_base::{NoMemory, TryCopy};
 use pc_history::Named;
 use pc_range::{CommitWorld, Message};
-use pc_wire::Stray;
+use pc_wire::{Stray, Verdict};
 
 /// What comes of an evaluation.
 #[derive(Drop)]
@@ -102,4 +103,15 @@ pub(crate) fn due_by(number: u64, sends: u32) -> u64
     ensures { result ≡ due_by number sends }
 {
     number.saturating_add(u64::from(sends))
+}
+
+/// How often a message of this verdict may be evaluated.
+pub(crate) fn uses_of(verdict: Verdict) -> u32
+    ensures { result ≡ uses_by verdict }
+{
+    match verdict {
+        Verdict::LoseRequest => 0,
+        Verdict::Repeat(_) => 2,
+        Verdict::Deliver | Verdict::LoseReply | Verdict::Hold(_) => 1,
+    }
 }

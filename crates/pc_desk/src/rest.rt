@@ -1,12 +1,12 @@
 ghost use Rattle.std.specs.Prelude.{◌≡◌, ℕ, ◌∷◌, ◌≤◌, [], ◌++◌, map, All, IfErr, IfNone, IfSome, OnOk};
-ghost use Rattle.pc_desk.specs.Desk.{posting, uses_by};
+ghost use Rattle.pc_desk.specs.Desk.{posting};
 ghost use Rattle.pc_desk.specs.Rest.{AreServedLeft, HasOnlyLearnt, IsFirstOf, IsReadyLeft, StopsAt, comes_before, left_as, stray_left_as};
 ghost use Rattle.pc_history.specs.Parts.{told, uses_left};
 
-use crate::errand::copy_of;
+use crate::errand::{copy_of, uses_of};
 use pc_history::{Actor, Named};
 use pc_range::{CommitWorld, Gate, Message, Ranges, ReplyMsg, ServeFault};
-use pc_wire::{Outbox, Verdict};
+use pc_wire::Outbox;
 use std::marker::Model;
 use std::sync::Wait;
 
@@ -55,7 +55,7 @@ impl<N: Named<CommitWorld>> Rest<N> {
         } else {
             self.outbox.take_first()?
         };
-        Some((times_by(verdict), message))
+        Some((uses_of(verdict), message))
     }
 }
 
@@ -69,17 +69,6 @@ fn comes_before(one: Option<u64>, other: Option<u64>) -> bool
             None => true,
         },
         None => false,
-    }
-}
-
-/// How often what is left of a message of this verdict is evaluated in all.
-fn times_by(verdict: Verdict) -> u32
-    ensures { result ≡ uses_by verdict }
-{
-    match verdict {
-        Verdict::LoseRequest => 0,
-        Verdict::Repeat(_) => 2,
-        Verdict::Deliver | Verdict::LoseReply | Verdict::Hold(_) => 1,
     }
 }
 

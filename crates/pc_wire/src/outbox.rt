@@ -1,4 +1,4 @@
-ghost use Rattle.std.specs.Prelude.{◌≡◌, ◌+◌, [], find, head, length, map, None, IfNone, IfSome, OnErr, OnOk};
+ghost use Rattle.std.specs.Prelude.{◌≡◌, ◌+◌, [], find, length, map, slice_get, None, IfNone, IfSome, OnErr, OnOk};
 ghost use Rattle.std.specs.BTreeMap.{insert_entry, is_at};
 ghost use Rattle.std.specs.List.Sorted.{IsStrictlySortedBy};
 ghost use Rattle.std.specs.Map.{keys_of, lookup, remove_entry};
@@ -114,7 +114,7 @@ impl<M: Drop> Outbox<M> {
 
     /// The least number of a stray.
     pub fn first_stray(&self) -> Option<u64>
-        ensures first { result ≡ head (map (λ e. e.0) self.now.bag) }
+        ensures first { result ≡ slice_get (map (λ e. e.0) self.now.bag) 0 }
         ensures in_order { IsStrictlySortedBy nat_cmp (keys_of self.now.bag) }
     {
         let (number, _) = self.bag.first_key_value()?;
