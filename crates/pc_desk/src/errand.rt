@@ -83,7 +83,9 @@ impl<N: Named<CommitWorld>> Errand<N> {
 }
 
 /// A copy of the message, which gets one of its uses.
-pub(crate) fn copy_of<N: Named<CommitWorld>>(message: &mut Message<N>) -> Result<Message<N>, NoMemory>
+pub(crate) fn copy_of<N: Named<CommitWorld>>(
+    message: &mut Message<N>,
+) -> Result<Message<N>, NoMemory>
     requires { 1 ≤ uses_left message.old.note.known }
     ensures copy { IfOk result (IsCopyOf message.old) }
     ensures rest { OnOk result (message.new ≡ record message.old { note = message.new.note }) }

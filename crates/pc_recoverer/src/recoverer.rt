@@ -38,7 +38,7 @@ pub struct Recoverer<'a, N: Named<CommitWorld>, C: Clock, V: Wire, G> {
 impl<'a, N: Named<CommitWorld>, C: Clock, V: Wire, G> Model for Recoverer<'a, N, C, V, G> {
     ghost use Rattle.std.specs.Prelude.{◌≡◌, ◌+◌, length};
     ghost use Rattle.pc_recoverer.specs.InRound.{sending_of};
-ghost use Rattle.pc_recoverer.specs.Recoverer.{IsBetweenOrStopped, RecovererMeaning};
+    ghost use Rattle.pc_recoverer.specs.Recoverer.{IsBetweenOrStopped, RecovererMeaning};
 
     ghost Value = { RecovererMeaning C };
 

@@ -63,7 +63,8 @@ impl Wave {
         ensures stands { (c : Course) (k : Known) → WaveStands c k self.old → MayJoinAgain c k self.old request conflicts lost → OnOk result (WaveStands c k self.new) }
         ensures refused { OnErr result (self.new ≡ self.old) }
     {
-        self.messages.push(Message::again(request, conflicts, lost))?;
+        self.messages
+            .push(Message::again(request, conflicts, lost))?;
         Ok(())
     }
 

@@ -42,10 +42,10 @@ unfoldable pub wire_of : Data → Option WireWork
 wire_of value =
     if has_only (codes "list" ∷ []) value then (get (codes "list") value >>= list_by verdict_of >>= λ list. Some (wires.Listed list))
     else (if has_only period_names value then (do
-  period ← sends_in (codes "period") value
-  found ← get (codes "verdict") value
-  verdict ← verdict_of found
-  Some (wires.Periodic period verdict))
+      period ← sends_in (codes "period") value
+      found ← get (codes "verdict") value
+      verdict ← verdict_of found
+      Some (wires.Periodic period verdict))
     else None)
 
 -- The wire of an actor; where none is stated, each message is delivered.
