@@ -2,7 +2,7 @@ use Rattle.std.proofs.Common.{◌∷◌, refl, sym, subst, ◌∙◌}
 use Rattle.std.proofs.lemmas.List.{nil_from_length}
 use Rattle.pc_desk.proofs.WaveSteps.{KeptSoFar, kept_all, kept_none, kept_one, next_is_reply}
 use Rattle.pc_desk.specs.Wave.{IsReply}
-use Rattle.pc_desk.proofs.desk.Desk.keep_all.Goals as goal
+use Rattle.pc_desk.proofs.beside.Desk.keep_all.Goals as goal
 
 pub loop-outcome-init : goal.loop-outcome-init
 loop-outcome-init g c =

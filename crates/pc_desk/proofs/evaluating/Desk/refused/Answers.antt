@@ -1,7 +1,7 @@
 use Rattle.std.proofs.Common.{subst}
 use Rattle.pc_desk.proofs.Ending.{ended_refused, halted_full}
 use Rattle.pc_desk.specs.Refused.{GivesBack}
-use Rattle.pc_desk.proofs.desk.Desk.refused.Goals as goal
+use Rattle.pc_desk.proofs.evaluating.Desk.refused.Goals as goal
 
 pub returns-in-Full-clause-halted : goal.returns-in-Full-clause-halted
 returns-in-Full-clause-halted g c =

@@ -1,7 +1,7 @@
 use Rattle.std.proofs.Common.{inr, refl, sym, subst, ◌∙◌}
 use Rattle.std.proofs.lemmas.List.{nil_from_length}
 use Rattle.pc_desk.proofs.WaveSteps.{LearntSoFar, learnt_more, learnt_none, stopped_for}
-use Rattle.pc_desk.proofs.desk.Desk.end_for.Goals as goal
+use Rattle.pc_desk.proofs.beside.Desk.end_for.Goals as goal
 
 pub loop-outcome-init : goal.loop-outcome-init
 loop-outcome-init g c =

@@ -1,5 +1,5 @@
 use Rattle.pc_desk.proofs.WaveSteps.{taken_in_back}
-use Rattle.pc_desk.proofs.desk.Desk.take_back.Goals as goal
+use Rattle.pc_desk.proofs.beside.Desk.take_back.Goals as goal
 
 pub returns-in-Full-clause-ok : goal.returns-in-Full-clause-ok
 returns-in-Full-clause-ok g c =

@@ -8,7 +8,7 @@ use Rattle.pc_desk.proofs.Refusing.{sent_back}
 use Rattle.pc_desk.specs.Desk.{posting}
 use Rattle.pc_history.specs.Parts.{known_entry, uses_left}
 use Rattle.pc_range.specs.Message.{evaluation}
-use Rattle.pc_desk.proofs.desk.Desk.deliver_first.Goals as goal
+use Rattle.pc_desk.proofs.evaluating.Desk.deliver_first.Goals as goal
 
 pub serve-requires-clause-there : goal.serve-requires-clause-there
 serve-requires-clause-there g c = (desk_first _ _ _ _ _ _ c.in-Some.ensures.taken.whole c.self.invariant.0).there

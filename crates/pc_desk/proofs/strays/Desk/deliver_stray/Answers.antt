@@ -5,7 +5,7 @@ use Rattle.pc_desk.proofs.Refusing.{sent_back}
 use Rattle.pc_desk.proofs.Strays.{dropped_one}
 use Rattle.pc_desk.specs.Desk.{posting}
 use Rattle.pc_history.specs.Parts.{uses_left}
-use Rattle.pc_desk.proofs.desk.Desk.deliver_stray.Goals as goal
+use Rattle.pc_desk.proofs.strays.Desk.deliver_stray.Goals as goal
 
 pub serve-served-requires-clause-there : goal.serve-served-requires-clause-there
 serve-served-requires-clause-there g c = (desk_first _ _ _ _ _ _ c.in-Some.ensures.taken.whole c.self.invariant.1).there
