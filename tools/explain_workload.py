@@ -139,7 +139,6 @@ class Judge:
         elif self.members(value, place, ("period", "verdict"), ("period", "verdict")):
             self.number(value["period"], f"{place}.period", 1, MOST_SENDS)
             self.verdict(value["verdict"], f"{place}.verdict")
-        self.need(False, 10, place, "messages that are lost, held or repeated are not built yet")
 
     def actor(self, value, place):
         """What a session and a recoverer may both state."""
