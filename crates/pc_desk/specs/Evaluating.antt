@@ -1,5 +1,5 @@
 -- One evaluation of an actor's message: what the actor knows by it, and what it keeps. Own profile.
-use Rattle.std.specs.Prelude.{◌≡◌, ℕ, Bool, cond, Option, None, Some, List, [], ◌∷◌, ◌++◌}
+use Rattle.std.specs.Prelude.{◌≡◌, ℕ, Bool, true, cond, Option, None, Some, List, [], ◌∷◌, ◌++◌}
 use Rattle.pc_desk.specs.declared.answered.Answered.{Answered}
 use Rattle.pc_desk.specs.declared.errand.Errand.{Errand}
 use Rattle.pc_desk.specs.declared.errand.Sequel.{Sequel}

@@ -4,12 +4,10 @@ use Rattle.pc_base.specs.declared.actor.ActorId.TheVariants as actors
 use Rattle.pc_desk.specs.declared.answered.Answered.{Answered}
 use Rattle.pc_desk.specs.declared.halt.Halt.{Halt}
 use Rattle.pc_desk.specs.declared.halt.Halt.TheVariants as halts
-use Rattle.pc_desk.specs.Desk.{DeskMeaning, HasHalted, Posted, posting}
-use Rattle.pc_desk.specs.OwnLog.{IsOwnLog}
+use Rattle.pc_desk.specs.Desk.{DeskMeaning, Posted, posting}
 use Rattle.pc_desk.specs.Waiting.{IsBehindAll}
 use Rattle.pc_history.specs.declared.named.Named.{Ghosts}
 use Rattle.pc_history.specs.declared.view.Known.{Known as KnownEntry}
-use Rattle.pc_history.specs.declared.view.Part.{Part}
 use Rattle.pc_history.specs.Parts.{uses_left, with_uses}
 use Rattle.pc_proto.specs.declared.event.Event.{Event}
 use Rattle.pc_proto.specs.Stamps.{request_stamps}

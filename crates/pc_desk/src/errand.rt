@@ -1,7 +1,7 @@
 ghost use Rattle.std.specs.Prelude.{◌≡◌, ◌≤◌, false, true, None, Some, IfOk, OnOk};
 ghost use Rattle.pc_desk.specs.Desk.{uses_by};
 ghost use Rattle.pc_desk.specs.Errand.{IsCopyOf, IsRepeated, due_by};
-ghost use Rattle.pc_history.specs.Parts.{uses_left, with_uses, without_uses};
+ghost use Rattle.pc_history.specs.Parts.{uses_left, without_uses};
 
 use pc_base::{NoMemory, TryCopy};
 use pc_history::Named;

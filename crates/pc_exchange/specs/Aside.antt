@@ -11,7 +11,6 @@ use Rattle.pc_txn.specs.Standing.{is_query_of}
 use Rattle.pc_world.specs.Known.{Known, open_txn}
 use Rattle.pc_world.specs.Known.Traffic.{Heard, Sent}
 use Rattle.pc_world.specs.Known.Transactions.{Txn}
-use Rattle.pc_world.specs.Tell.Refusal.{is_heard}
 use Rattle.pc_wave.specs.Standing.{goes_beside}
 
 -- The request is one of a round, or settles what a finishing job leaves; or it is the commit with which such a job begins, between calls.

@@ -1,7 +1,7 @@
 ghost use Rattle.std.specs.Prelude.{◌≡◌, IfErr, IfNone, IfOk, IfSome, OnErr, OnOk, All};
 ghost use Rattle.pc_desk.specs.Desk.{HasHalted};
 ghost use Rattle.pc_exchange.specs.Ending.{BreaksOff};
-ghost use Rattle.pc_exchange.specs.Exchange.{HasLostAll, HasLostOne, HasOneOut, IsExchanging, MayExchangeNow, WasExchanged, WasHeardLast};
+ghost use Rattle.pc_exchange.specs.Exchange.{HasLostAll, HasLostOne, HasOneOut, MayExchangeNow, WasExchanged, WasHeardLast};
 ghost use Rattle.pc_turns.specs.Order.{IsInBetween};
 
 use pc_base::{NoMemory, TryCopy};
