@@ -26,11 +26,17 @@ abbrev pub MayStayUnheard : Bool → Known → Sent → Type 0
 MayStayUnheard true k m = IsOwnPut k m
 MayStayUnheard false k m = ⊥
 
+-- By the telling of a call each message sent in it was heard, but for one that may stay unheard.
+abbrev pub HearsAll : Bool → Known → Event → Type 0
+HearsAll pipelining k (events.Tell answer) =
+    All (λ m. IsTrue (is_heard k.heard_now m) ⊎ MayStayUnheard pipelining k m) k.sent_now
+HearsAll pipelining k _ = ⊤
+
 -- By the telling of a call each message sent in it was heard, unless its verdict loses it, but for one that may stay unheard.
-abbrev pub HearsAll : (ℕ → Verdict) → Bool → Known → Event → Type 0
-HearsAll verdict pipelining k (events.Tell answer) =
+abbrev pub HearsUnlost : (ℕ → Verdict) → Bool → Known → Event → Type 0
+HearsUnlost verdict pipelining k (events.Tell answer) =
     All (λ m. IsTrue (is_heard k.heard_now m) ⊎ (is_losing (verdict m.number) ≡ true) ⊎ MayStayUnheard pipelining k m) k.sent_now
-HearsAll verdict pipelining k _ = ⊤
+HearsUnlost verdict pipelining k _ = ⊤
 
 -- No reply is heard to a message that its verdict loses.
 abbrev pub HearsNothingLost : (ℕ → Verdict) → Option Heard → Type 0

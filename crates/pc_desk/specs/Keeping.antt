@@ -1,11 +1,11 @@
 -- What each entry of an actor's own list keeps, whatever its script says: each call is asked at the next reading of the actor's clock, and
 -- what a session sends, hears and is told in its calls is as its workload has it. Own profile, as workloads are.
-use Rattle.std.specs.Prelude.{ℕ, Bool, Option, List, [], ◌∷◌, ◌++◌, ⊤}
+use Rattle.std.specs.Prelude.{◌≡◌, ℕ, Bool, false, Option, List, [], ◌∷◌, ◌++◌, ⊤}
 use Rattle.pc_base.specs.declared.actor.ActorId.{ActorId}
 use Rattle.pc_base.specs.declared.actor.ActorId.TheVariants as actors
 use Rattle.pc_base.specs.declared.entry.Entry.{Entry}
 use Rattle.pc_desk.specs.Asks.{ReadsClock, asks_in}
-use Rattle.pc_desk.specs.Hearing.{HearsAll, HearsNothingLost, HearsOldest}
+use Rattle.pc_desk.specs.Hearing.{HearsAll, HearsNothingLost, HearsOldest, HearsUnlost}
 use Rattle.pc_desk.specs.WholeScan.{HearsAllPieces}
 use Rattle.pc_history.specs.declared.pair.Pair.{Pair}
 use Rattle.pc_proto.specs.declared.event.Event.{Event}
@@ -28,6 +28,7 @@ use Rattle.pc_follows.specs.Refreshes.{RefreshesInOneWave, RefreshesReads}
 use Rattle.pc_follows.specs.Rollbacks.{AbortsFirst, TellsRollbacks}
 use Rattle.pc_follows.specs.WaveOrder.{SendsInWave}
 use Rattle.pc_wire.specs.declared.verdict.Verdict.{Verdict}
+use Rattle.pc_wire.specs.Verdicts.{is_losing}
 use Rattle.pc_world.specs.Known.{known_of}
 use Rattle.pc_world.specs.Known.Traffic.{Heard, heard_by}
 
@@ -37,22 +38,25 @@ pub record Terms : Type 0 where
   pub tries : ℕ
   pub pipelining : Bool
 
--- What a session's next event keeps beside its script and its clock, where the ranges are cut at these keys, and its messages go by these terms: after
--- these entries of its own, and by the reply that the event brings.
-pub record KeepsSessionStep (splits : List (List ℕ)) (terms : Terms) (own : List (Pair Event)) (event : Event) (h : Option Heard) : Type 0 where
-  pub wire : HearsAll terms.verdict terms.pipelining (known_of own) event
-  pub losses : HearsNothingLost terms.verdict h
+-- No message is lost by these verdicts.
+abbrev pub LosesNothing : (ℕ → Verdict) → Type 0
+LosesNothing verdict = (number : ℕ) → is_losing (verdict number) ≡ false
+
+-- What a session's next event keeps where none of its messages is lost: what it sends goes out in whole waves, each for its call, and again only for a reason that
+-- it heard; and what it hears and is told is as its call asks for.
+pub record KeepsOverQuiet (splits : List (List ℕ)) (pipelining : Bool) (own : List (Pair Event)) (event : Event) (h : Option Heard) : Type 0 where
+  pub wire : HearsAll pipelining (known_of own) event
   pub early_tell : TellsEarly (known_of own) event
   pub early_proof : ProvesNothingEarly (known_of own) h
-  pub written : TellsWritten terms.pipelining (known_of own) event
+  pub written : TellsWritten pipelining (known_of own) event
   pub puts : HearsOnlyItsPuts (known_of own) h
   pub proving : ProvesInWaves (known_of own) h
   pub proved : WritesBehindProved (known_of own) event
-  pub last : WritesLast terms.pipelining (known_of own) event
-  pub behind : HearsNothingBehind terms.pipelining (known_of own) h
+  pub last : WritesLast pipelining (known_of own) event
+  pub behind : HearsNothingBehind pipelining (known_of own) h
   pub stages : StagesBesidePuts (known_of own) event
   pub resends : ResendsOnlyAnswered (known_of own) event
-  pub calls : SendsForCall terms.pipelining (known_of own) event
+  pub calls : SendsForCall pipelining (known_of own) event
   pub beats : KeepsHeartbeats (known_of own) event
   pub last_beats : BeatsLast (known_of own) event
   pub finishes : DoesJobs (known_of own) (jobs_of own) event
@@ -60,14 +64,21 @@ pub record KeepsSessionStep (splits : List (List ℕ)) (terms : Terms) (own : Li
   pub rolled_back : TellsRollbacks (known_of own) event
   pub writes : WritesOnce (known_of own) event
   pub refreshes : RefreshesReads (known_of own) event
-  pub rounds : MakesRounds terms.pipelining (known_of own) event
-  pub eighth : StopsAtEighth terms.pipelining (known_of own) event
+  pub rounds : MakesRounds pipelining (known_of own) event
+  pub eighth : StopsAtEighth pipelining (known_of own) event
   pub waves : SendsInWave own event
   pub pieces : HearsAllPieces splits (known_of own) h
   pub refresh_wave : RefreshesInOneWave (known_of own) h
-  pub again : HearsAllAgain terms.pipelining own h
+  pub again : HearsAllAgain pipelining own h
   pub piece_order : SendsPiecesInOrder (known_of own) event
   pub oldest : HearsOldest (known_of own) h
+
+-- What a session's next event keeps beside its script and its clock, where the ranges are cut at these keys, and its messages go by these terms: after
+-- these entries of its own, and by the reply that the event brings.
+pub record KeepsSessionStep (splits : List (List ℕ)) (terms : Terms) (own : List (Pair Event)) (event : Event) (h : Option Heard) : Type 0 where
+  pub wire : HearsUnlost terms.verdict terms.pipelining (known_of own) event
+  pub losses : HearsNothingLost terms.verdict h
+  pub quiet : LosesNothing terms.verdict → KeepsOverQuiet splits terms.pipelining own event h
 
 -- What the next event of this actor keeps.
 abbrev pub KeepsAs : ActorId → List (List ℕ) → Terms → List (Pair Event) → Event → Option Heard → Type 0
