@@ -1,5 +1,6 @@
 -- How an actor's list breaks off in the middle of what it did: it made some entries, and then its list had ended.
 use Rattle.std.specs.Prelude.{◌≡◌, ◌≤◌, false, true, List, ◌++◌, length, All, Contains, ⊤}
+use Rattle.pc_desk.specs.OwnLog.{verdict_of}
 use Rattle.pc_desk.specs.declared.halt.Halt.{Halt}
 use Rattle.pc_desk.specs.declared.halt.Halt.TheVariants as halts
 use Rattle.pc_desk.specs.Desk.{DeskMeaning, GivesByVerdicts}
@@ -29,7 +30,7 @@ pub record HasBrokenOff {C : Type 0} (Are : List Event → Type 0) (old new : De
         stopped = true;
       }
   pub limit : new.range_limit ≡ old.range_limit
-  pub given : GivesByVerdicts new.log.verdict new.log.part
+  pub given : GivesByVerdicts (verdict_of new.log) new.log.part
   pub within : length new.log.part.own ≤ new.log.limit
   pub end : EndsEarly new
 

@@ -1,5 +1,6 @@
 -- One message that is sent, evaluated and heard, before the next; while nothing is heard of it, it is sent again.
 use Rattle.std.specs.Prelude.{◌≡◌, ℕ, ◌+◌, ◌<◌, true, false, None, Some, List, [], ◌∷◌, ◌++◌, length}
+use Rattle.pc_desk.specs.OwnLog.{verdict_of}
 use Rattle.pc_base.specs.declared.actor.ActorId.{ActorId}
 use Rattle.pc_desk.specs.declared.answered.Answered.{Answered}
 use Rattle.pc_desk.specs.Desk.{DeskMeaning, HasHeardFirst, KeepsTrack, MaySendNow}
@@ -49,7 +50,7 @@ AreLostSends id verdict request number (p ∷ ps) =
 -- heard this reply, of the message's kind.
 pub record WasExchanged {C : Type 0} (old new : DeskMeaning C) (request : Request) (reply : Reply) : Type 0 where
   pub lost : List (Pair Event)
-  pub unheard : AreLostSends old.log.part.id old.log.verdict request (next_number (known_of old.log.part.own)) lost
+  pub unheard : AreLostSends old.log.part.id (verdict_of old.log) request (next_number (known_of old.log.part.own)) lost
   pub few : length lost < old.log.tries
   pub range : ℕ
   pub evaluated_by : ℕ
@@ -66,14 +67,14 @@ pub record WasExchanged {C : Type 0} (old new : DeskMeaning C) (request : Reques
 -- The actor sent this message just as often as its tries, and heard nothing of it.
 pub record HasLostAll {C : Type 0} (old new : DeskMeaning C) (request : Request) : Type 0 where
   pub lost : List (Pair Event)
-  pub unheard : AreLostSends old.log.part.id old.log.verdict request (next_number (known_of old.log.part.own)) lost
+  pub unheard : AreLostSends old.log.part.id (verdict_of old.log) request (next_number (known_of old.log.part.own)) lost
   pub all : length lost ≡ old.log.tries
   pub goes : HasGoneBeside old new lost
 
 -- The actor sent this message once, and heard nothing of it.
 pub record HasLostOne {C : Type 0} (old new : DeskMeaning C) (request : Request) : Type 0 where
   pub lost : Pair Event
-  pub unheard : AreLostSends old.log.part.id old.log.verdict request (next_number (known_of old.log.part.own)) (lost ∷ [])
+  pub unheard : AreLostSends old.log.part.id (verdict_of old.log) request (next_number (known_of old.log.part.own)) (lost ∷ [])
   pub goes : HasGoneBeside old new (lost ∷ [])
 
 -- One message of the actor was delivered: its reply waits to be heard, or it was lost.

@@ -1,5 +1,6 @@
 -- A finishing job of a session: each lock of its transaction is settled, and then the record removed.
 use Rattle.std.specs.Prelude.{◌≡◌, ℕ, ◌≤◌, ◌⊎◌, true, None, Some, List, ◌∷◌, All}
+use Rattle.pc_desk.specs.OwnLog.{verdict_of}
 use Rattle.pc_base.specs.declared.actor.ActorId.TheVariants as actors
 use Rattle.pc_coord.specs.Coordination.{Coordination}
 use Rattle.pc_coord.specs.declared.job.Job.{Job}
@@ -48,4 +49,4 @@ pub record HasFinishedJob {C : Type 0} (old new : DeskMeaning C) (job : Job) (ts
   pub goes : HasGoneBeside old new part
   pub made : IsJobMade session (known_of old.log.part.own) (known_of new.log.part.own) ts
   pub done : jobs_of old.log.part.own ≡ messages_of_job job ∷ jobs_of new.log.part.own
-  pub heard : All (λ m. IsHeardOrPut (known_of new.log.part.own).heard m ⊎ (is_losing (new.log.verdict m.number) ≡ true)) (known_of new.log.part.own).sent
+  pub heard : All (λ m. IsHeardOrPut (known_of new.log.part.own).heard m ⊎ (is_losing (verdict_of new.log m.number) ≡ true)) (known_of new.log.part.own).sent

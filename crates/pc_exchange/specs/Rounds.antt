@@ -1,5 +1,6 @@
 -- The round of a conflict that the open call met: the holder of the intent is pushed, and the intent settled as the push came out.
 use Rattle.std.specs.Prelude.{◌≡◌, ℕ, ◌+◌, ◌⊎◌, Bool, true, false, All, IsTrue, Option, Some, List}
+use Rattle.pc_desk.specs.OwnLog.{verdict_of}
 use Rattle.pc_base.specs.declared.actor.ActorId.TheVariants as actors
 use Rattle.pc_call.specs.Sending.{IsConflictNow}
 use Rattle.pc_coord.specs.Coordination.{Coordination, next_of}
@@ -55,7 +56,7 @@ pub record MayMakeRound {C : Type 0} (d : DeskMeaning C) (pusher : Pusher) (read
   pub pushes : IsPusherOf (known_of d.log.part.own) (Some pusher)
   pub read : reading_of (known_of d.log.part.own) ≡ Some reading
   pub next : IsNextRoundIn d.log.pipelining (known_of d.log.part.own) met.h
-  pub goes : MayGoInCall d.log.verdict d.log.pipelining (known_of d.log.part.own)
+  pub goes : MayGoInCall (verdict_of d.log) d.log.pipelining (known_of d.log.part.own)
 
 -- Since then the session has made the round of this conflict, which ended so, and done nothing else: it began one round. This is the greatest
 -- timestamp that it heard in it. What its jobs may do they may do still.
