@@ -20,7 +20,7 @@ use Rattle.pc_history.specs.Own.{pair}
 use Rattle.pc_history.specs.Parts.{acted, entry_of, knowledge, named_by}
 use Rattle.pc_lists.proofs.Counts.{one_if}
 use Rattle.pc_proto.specs.declared.event.Event.{Event}
-use Rattle.pc_wire.specs.declared.verdict.Verdict.{Verdict}
+use Rattle.pc_wire.specs.Verdicts.{WireRule}
 use Rattle.pc_world.specs.Local.{Head}
 use Rattle.pc_world.specs.Run.{protocol}
 
@@ -44,14 +44,14 @@ pub has_made : {E : Type 0} (actor after : ActorMeaning Head Event) (event : Eve
 has_made actor after event places later (Ok step) wanting is none stored above small sound stands kept = (step, record { stored = stored; above = above; small = small; sound = sound; stands = stands; kept = kept })
 has_made actor after event places later (Err e) wanting is none stored above small sound stands kept = absurd (let e : true ≡ false = sym is ∙ none in cc e)
 
-module _ {C : Type 0} (old ready : LogMeaning C) (actor after : ActorMeaning Head Event) (was now : C) (verdict : ℕ → Verdict) (tries : ℕ) (pipelining beside : Bool) (limit : ℕ) (stop : Option ℕ) (stopped last : Bool) (step : ℕ) (event : Event) where
+module _ {C : Type 0} (old ready : LogMeaning C) (actor after : ActorMeaning Head Event) (was now : C) (wire : WireRule) (tries : ℕ) (pipelining beside : Bool) (limit : ℕ) (stop : Option ℕ) (stopped last : Bool) (step : ℕ) (event : Event) where
   -- The list before.
   abbrev pub before_it : LogMeaning C
-  before_it = record { head = actor.world; part = actor.part; spare = actor.spare; clock = was; verdict = verdict; tries = tries; pipelining = pipelining; beside = beside; limit = limit; stop = stop; stopped = stopped }
+  before_it = record { head = actor.world; part = actor.part; spare = actor.spare; clock = was; wire = wire; tries = tries; pipelining = pipelining; beside = beside; limit = limit; stop = stop; stopped = stopped }
 
   -- The list after.
   abbrev pub after_it : ActorMeaning Head Event → LogMeaning C
-  after_it a = record { head = a.world; part = a.part; spare = a.spare; clock = now; verdict = verdict; tries = tries; pipelining = pipelining; beside = beside; limit = limit; stop = stop; stopped = last }
+  after_it a = record { head = a.world; part = a.part; spare = a.spare; clock = now; wire = wire; tries = tries; pipelining = pipelining; beside = beside; limit = limit; stop = stop; stopped = last }
 
   as-it-was : before_it ≡ ready → IsReady old ready last → record old { spare = ready.spare } ≡ before_it
   as-it-was view is = sym (view ∙ is.same)
