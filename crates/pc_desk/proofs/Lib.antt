@@ -18,3 +18,9 @@ pub mod WaveSteps
 pub mod Besides
 pub mod StraysLeft
 pub mod InCall
+pub mod Bags
+pub mod Uses
+pub mod Staying
+pub mod Learning
+pub mod Outgoing
+pub mod Delivering
