@@ -4,7 +4,7 @@ use Rattle.pc_desk.specs.declared.answered.Answered.{Answered}
 use Rattle.pc_desk.specs.declared.halt.Halt.{Halt}
 use Rattle.pc_desk.specs.declared.halt.Halt.TheVariants as halts
 use Rattle.pc_desk.specs.declared.late.Late.{Late}
-use Rattle.pc_desk.specs.Desk.{DeskMeaning, KeepsTrack, Posted, first_told}
+use Rattle.pc_desk.specs.Desk.{ComesAfterFirst, DeskMeaning, KeepsTrack, Posted, first_told, told_first}
 use Rattle.pc_desk.specs.OwnLog.{IsOwnLog}
 use Rattle.pc_history.specs.declared.named.Named.{Ghosts}
 use Rattle.pc_history.specs.declared.view.Known.{Known as KnownEntry}
@@ -12,7 +12,7 @@ use Rattle.pc_history.specs.Parts.{told}
 use Rattle.pc_proto.specs.declared.event.Event.{Event}
 use Rattle.pc_proto.specs.declared.reply.Reply.{Reply}
 use Rattle.pc_range.specs.declared.commit_world.CommitWorld.{CommitWorld}
-use Rattle.pc_range.specs.Message.{ComesAfter, IsFullNote, evaluation}
+use Rattle.pc_range.specs.Message.{IsFullNote, evaluation}
 use Rattle.pc_wire.specs.declared.outbox.Stray.{Stray}
 use Rattle.pc_wire.specs.Outbox.{is_due_by}
 
@@ -32,11 +32,11 @@ pub record HasEvaluatedLate {C N : Type 0} {G : Ghosts N CommitWorld} (old new :
   pub step : ℕ
   pub reply : Reply
   pub place : ℕ
-  pub behind : ComesAfter step (first_told late.first)
+  pub behind : ComesAfterFirst step (first_told late.first)
   pub rest :
       new ≡ record old {
         log = record old.log {
-          part = told (record { entry = evaluation step late.message.range old.log.part.id late.message.number reply; place = place; uses = 0 } ∷ []) (told (first_told late.first) old.log.part);
+          part = told (record { entry = evaluation step late.message.range old.log.part.id late.message.number reply; place = place; uses = 0 } ∷ []) (told (told_first (first_told late.first)) old.log.part);
         };
       }
   pub log : IsOwnLog new.log
@@ -45,7 +45,7 @@ pub record HasEvaluatedLate {C N : Type 0} {G : Ghosts N CommitWorld} (old new :
 pub record HasLateBack {C N : Type 0} {G : Ghosts N CommitWorld} (old new : DeskMeaning C) (late : Late N G) : Type 0 where
   pub last : List (KnownEntry Event)
   pub full : IsFullNote late.message.range old.range_limit last
-  pub rest : new ≡ record old { log = record old.log { part = told late.message.note.known (told last (told (first_told late.first) old.log.part)); stopped = true } }
+  pub rest : new ≡ record old { log = record old.log { part = told late.message.note.known (told last (told (told_first (first_told late.first)) old.log.part)); stopped = true } }
 
 abbrev pub IsRefusedLate : {C N : Type 0} {G : Ghosts N CommitWorld} → DeskMeaning C → DeskMeaning C → Late N G → Halt → Type 0
 IsRefusedLate old new late halts.Stopped = ⊥
