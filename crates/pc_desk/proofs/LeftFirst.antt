@@ -23,9 +23,9 @@ use Rattle.pc_wire.specs.Outbox.{first_from}
 head-from : (n : ℕ) (ns : List ℕ) → first_from 0 (n ∷ ns) ≡ Some n
 head-from n ns = let low : nat_le 0 n ≡ true = grind (arith, nat_tests) in ap (λ b. cond b (Some n) (find (nat_le 0) ns)) low
 
-sorted-head : {X : Type 0} (e : ℕ × X) (es : List (ℕ × X)) → IsStrictlySortedBy nat_cmp (keys_of (e ∷ es)) → All (λ (x : ℕ × X). e.0 < x.0) es
+pub sorted_head : {X : Type 0} (e : ℕ × X) (es : List (ℕ × X)) → IsStrictlySortedBy nat_cmp (keys_of (e ∷ es)) → All (λ (x : ℕ × X). e.0 < x.0) es
 unfolding IsStrictlySortedBy
-sorted-head {X} e es sorted = by es sorted.0
+sorted_head {X} e es sorted = by es sorted.0
   where
     by : (xs : List (ℕ × X)) → Each (λ n. nat_cmp e.0 n ≡ Less) (keys_of xs) → All (λ (x : ℕ × X). e.0 < x.0) xs
     by [] each = All-nil (λ (x : ℕ × X). e.0 < x.0)
@@ -44,7 +44,7 @@ module _ {X : Type 0} where
   first_of es = first_from 0 (numbers es)
 
   above-head : (n : ℕ) (e : ℕ × X) (es : List (ℕ × X)) → n ≤ e.0 → IsStrictlySortedBy nat_cmp (keys_of (e ∷ es)) → NoneBelow n (e ∷ es)
-  above-head n e es low sorted = All-cons (λ (x : ℕ × X). n ≤ x.0) e es low (All-weaker (λ (x : ℕ × X). e.0 < x.0) (λ (x : ℕ × X). n ≤ x.0) (λ x above. omega (arith, low, above)) es (sorted-head e es sorted))
+  above-head n e es low sorted = All-cons (λ (x : ℕ × X). n ≤ x.0) e es low (All-weaker (λ (x : ℕ × X). e.0 < x.0) (λ (x : ℕ × X). n ≤ x.0) (λ x above. omega (arith, low, above)) es (sorted_head e es sorted))
 
   behind-it : (n : ℕ) (es : List (ℕ × X)) → All (λ (e : ℕ × X). n < e.0) es → NoneBelow n es
   behind-it n es rises = All-weaker (λ (e : ℕ × X). n < e.0) (λ (e : ℕ × X). n ≤ e.0) (λ e low. omega (arith, low)) es rises

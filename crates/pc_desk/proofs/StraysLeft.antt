@@ -32,8 +32,8 @@ use Rattle.pc_world.specs.Known.{known_of}
 use Rattle.pc_world.specs.Known.Traffic.{Sent}
 
 -- what is known of a message is known of each that was sent as it was
-repeated-same : {C : Type 0} (d : DeskMeaning C) (m p : Posted) → as_sent m ≡ as_sent p → IsRepeatedOrLate d m → IsRepeatedOrLate d p
-repeated-same d m p same is = back (subst (λ (s : Sent). IsRepeatedOrLate d (posting s.number s.range s.request 0)) same (forth is))
+pub repeated_same : {C : Type 0} (d : DeskMeaning C) (m p : Posted) → as_sent m ≡ as_sent p → IsRepeatedOrLate d m → IsRepeatedOrLate d p
+repeated_same d m p same is = back (subst (λ (s : Sent). IsRepeatedOrLate d (posting s.number s.range s.request 0)) same (forth is))
   where
     evaluated : (a b : Posted) (step : ℕ) → a.number ≡ b.number → a.range ≡ b.range → WasEvaluatedAt d.log a step → WasEvaluatedAt d.log b step
     evaluated a b step number range was = record {
@@ -52,8 +52,8 @@ repeated-same d m p same is = back (subst (λ (s : Sent). IsRepeatedOrLate d (po
     back (inr two) = inr (two.0, two.1, two.2, evaluated (posting p.number p.range p.request 0) p two.0 refl refl two.3, evaluated (posting p.number p.range p.request 0) p two.1 refl refl two.4)
 
 -- a stray's number is its message's
-one-bag : {C : Type 0} (old new : DeskMeaning C) (e : ℕ × Stray Posted) → new.log.part.own ≡ old.log.part.own → new.log.wire ≡ old.log.wire → posted_as e.0 new.posted + posted_as e.0 new.later ≡ 0 → IsOfBag old e → IsOfBag new e
-one-bag {C} old new e own wire gone of = record {
+pub one_bag : {C : Type 0} (old new : DeskMeaning C) (e : ℕ × Stray Posted) → new.log.part.own ≡ old.log.part.own → new.log.wire ≡ old.log.wire → posted_as e.0 new.posted + posted_as e.0 new.later ≡ 0 → IsOfBag old e → IsOfBag new e
+one_bag {C} old new e own wire gone of = record {
   one = subst (λ o. IsOneSent (known_of o).sent e.1.message) (sym own) of.one;
   number = of.number;
   late = subst (λ w. is_late (verdict_of (record old.log { wire = w }) e.0) ≡ true) (sym wire) of.late;
@@ -113,7 +113,7 @@ module _ {C : Type 0} (old : DeskMeaning C) (m : Posted) (rest : List Posted) (t
             by : (b : Bool) → (m.number == p.number) ≡ b → IsRepeatedOrLate after p
             by true is =
                 let same : m.number ≡ p.number = eqb-true m.number p.number is in
-                repeated-same after m p (the-one p one same) (twice (subst (λ n. is_repeating (verdict_of old.log n) ≡ true) (sym same) repeats))
+                repeated_same after m p (the-one p one same) (twice (subst (λ n. is_repeating (verdict_of old.log n) ≡ true) (sym same) repeats))
             by false is =
                 repeated_on old known rest bag more p (λ waits step was. inl (kept p waits, step, was))
                 (track.repeated p one repeats (omega (arith, gone, count-later p.number, ap one_if is)))
@@ -126,7 +126,7 @@ module _ {C : Type 0} (old : DeskMeaning C) (m : Posted) (rest : List Posted) (t
     left-same same log its twice =
         has-dropped
         (track-left log (λ p waits. subst (λ b. IsLate b p) (sym same) waits)
-        (subst (All (IsOfBag after)) (sym same) (All-weaker (IsOfBag old) (IsOfBag after) (λ e of. one-bag old after e refl refl (rest-gone e.0 of.gone) of) old.bag track.late)) its twice)
+        (subst (All (IsOfBag after)) (sym same) (All-weaker (IsOfBag old) (IsOfBag after) (λ e of. one_bag old after e refl refl (rest-gone e.0 of.gone) of) old.bag track.late)) its twice)
         (λ e there. subst (λ b. Contains b e) (sym same) there) (λ e there. inl (subst (λ b. Contains b e) same there))
 
     -- it, or its copy, was put into the bag
@@ -135,7 +135,7 @@ module _ {C : Type 0} (old : DeskMeaning C) (m : Posted) (rest : List Posted) (t
         has-dropped
         (track-left log (λ p waits. record { due = waits.due; uses = waits.uses; there = in-bag (p.number, straying waits.due (posting p.number p.range p.request waits.uses)) waits.there })
         (subst (All (IsOfBag after)) (sym is) (insert_every m.number (straying due it) (IsOfBag after) old.bag free
-        (All-weaker (IsOfBag old) (IsOfBag after) (λ e of. one-bag old after e refl refl (rest-gone e.0 of.gone) of) old.bag track.late)
+        (All-weaker (IsOfBag old) (IsOfBag after) (λ e of. one_bag old after e refl refl (rest-gone e.0 of.gone) of) old.bag track.late)
         (record { one = its-aside.one; number = refl; late = late; gone = its-gone }))) its twice)
         in-bag (λ e there. All-contains (λ x. Contains old.bag x ⊎ (Contains (map as_sent old.later) (as_sent x.1.message) × (is_late (verdict_of old.log x.0) ≡ true))) bag e put there)
       where

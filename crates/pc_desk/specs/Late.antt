@@ -1,5 +1,5 @@
 -- What is evaluated late, from the bag; and what is lost. Own profile.
-use Rattle.std.specs.Prelude.{◌≡◌, ℕ, ◌<◌, true, not, List, [], ◌∷◌, All, Contains, filter, ⊤}
+use Rattle.std.specs.Prelude.{◌≡◌, ℕ, ◌<◌, not, None, Option, Some, List, [], ◌∷◌, All, Contains, filter, ⊤}
 use Rattle.pc_desk.specs.declared.answered.Answered.{Answered}
 use Rattle.pc_desk.specs.declared.halt.Halt.{Halt}
 use Rattle.pc_desk.specs.declared.halt.Halt.TheVariants as halts
@@ -8,7 +8,7 @@ use Rattle.pc_desk.specs.Desk.{ComesAfterFirst, DeskMeaning, KeepsTrack, Posted,
 use Rattle.pc_desk.specs.OwnLog.{IsOwnLog}
 use Rattle.pc_history.specs.declared.named.Named.{Ghosts}
 use Rattle.pc_history.specs.declared.view.Known.{Known as KnownEntry}
-use Rattle.pc_history.specs.Parts.{told}
+use Rattle.pc_history.specs.Parts.{told, with_uses}
 use Rattle.pc_proto.specs.declared.event.Event.{Event}
 use Rattle.pc_proto.specs.declared.reply.Reply.{Reply}
 use Rattle.pc_range.specs.declared.commit_world.CommitWorld.{CommitWorld}
@@ -27,12 +27,17 @@ pub record HasDeliveredDue {C : Type 0} (old new : DeskMeaning C) : Type 0 where
   pub more : (k : KnownEntry Event) → Contains old.log.part.known k → Contains new.log.part.known k
   pub track : KeepsTrack new
 
+-- The note that is a copy of that one, if there is one.
+abbrev pub copy_told : Option (List (KnownEntry Event)) → Option (List (KnownEntry Event))
+copy_told None = None
+copy_told (Some note) = Some (with_uses 0 note)
+
 -- The message was evaluated late, after its first evaluation, if there was one, which the actor knows too; nobody hears the reply.
 pub record HasEvaluatedLate {C N : Type 0} {G : Ghosts N CommitWorld} (old new : DeskMeaning C) (late : Late N G) : Type 0 where
   pub step : ℕ
   pub reply : Reply
   pub place : ℕ
-  pub behind : ComesAfterFirst step (first_told late.first)
+  pub behind : ComesAfterFirst step (copy_told (first_told late.first))
   pub rest :
       new ≡ record old {
         log = record old.log {

@@ -161,7 +161,7 @@ impl<'a, N: Named<CommitWorld>, C: Clock, V: Wire, G: Gate> Desk<'a, N, C, V, G>
     ) -> Result<Note<CommitWorld, N>, Halt>
         requires may { MayGo self.old errand.message }
         requires copy { IsItsCopy (verdict_of self.old.log) errand.message errand.sequel.copy }
-        ensures ok { IfOk result (HasEvaluated self.old self.new errand.entry) }
+        ensures ok { OnOk result (HasEvaluated self.old self.new errand.entry last.entry.known) }
         ensures after { (step : ℕ) → IfOk result (λ n. ComesAfter step n.known → ComesAfter step last.known) }
         ensures clock { self.new.log.clock ≡ self.old.log.clock }
         ensures err { IfErr result (HasHalted self.old self.new) }
