@@ -205,7 +205,7 @@ impl<'a, N: Named<CommitWorld>, C: Clock, V: Wire, G: Gate> Desk<'a, N, C, V, G>
     ) -> Result<(), NoMemory>
         requires copy { MayBeKept self.old.log copy first.old.known }
         ensures ok { OnOk result (self.new ≡ record self.old { bag = with_copy copy self.old.bag }) }
-        ensures note { OnOk result (with_uses 0 first.new.known ≡ with_uses 0 first.old.known) }
+        ensures note { OnOk result (first.new.known ≡ first.old.known) }
         ensures refused { OnErr result (self.new ≡ self.old) }
     {
         match copy {
