@@ -203,7 +203,7 @@ module _ {C N : Type 0} {G : Ghosts N CommitWorld} where
     where
       by : (o : Option (ℕ × Stray (Late N G))) → All P (map f (without_stray o bag))
       by None = all
-      by (Some e) = All-map-remove_entry {test = is_at (nat_cmp e.0)} f P bag all
+      by (Some e) = All-map-remove_entry (is_at (nat_cmp e.0)) f P bag all
 
   -- the first that is due may go
   pub due_ready : {Y : Type 0} (f : ℕ × Stray (Late N G) → Y) (P : Y → Type 0) (sent : ℕ) (bag : List (ℕ × Stray (Late N G))) (e : ℕ × Stray (Late N G)) → find (is_due_by sent) bag ≡ Some e → All P (map f bag) → P (f e)

@@ -7,8 +7,8 @@ use Rattle.pc_desk.specs.declared.errand.Sequel.{Sequel}
 use Rattle.pc_desk.specs.declared.halt.Halt.{Halt}
 use Rattle.pc_desk.specs.declared.halt.Halt.TheVariants as halts
 use Rattle.pc_desk.specs.Desk.{DeskMeaning, HasHalted, Posted}
-use Rattle.pc_desk.specs.Errand.{HasPassedFirst, HasSetOutFirst, with_copy}
-use Rattle.pc_desk.specs.OwnLog.{IsOwnLog}
+use Rattle.pc_desk.specs.Errand.{HasPassedFirst, HasSetOutFirst, MayBeKept, with_copy}
+use Rattle.pc_desk.specs.OwnLog.{IsOwnLog, LogMeaning}
 use Rattle.pc_desk.specs.Wave.{AreRisingMessages, GoesOut, answered_by, posted_in}
 use Rattle.pc_history.specs.declared.named.Named.{Ghosts}
 use Rattle.pc_history.specs.declared.view.Known.{Known as KnownEntry}
@@ -71,6 +71,11 @@ pub record HasTakenIn {C N : Type 0} {G : Ghosts N CommitWorld} (old new : DeskM
   pub rest : new ≡ record old { log = record old.log { part = record old.log.part { known = new.log.part.known } }; bag = bag_with (outcome ∷ []) (sequel ∷ []) old.bag }
   pub more : (k : KnownEntry Event) → Contains old.log.part.known k → Contains new.log.part.known k
   pub knows : KnowsOutcome new.log.part outcome sequel
+
+-- The copy of a message that was evaluated, if there is one, may go into the bag.
+abbrev pub MayBeTakenIn : {C N : Type 0} {G : Ghosts N CommitWorld} → LogMeaning C → Result (ReplyMsg N) (ServeFault N G) → Sequel N G → Type 0
+MayBeTakenIn log (Ok r) sequel = MayBeKept log sequel.copy r.note.known
+MayBeTakenIn log (Err fault) sequel = ⊤
 
 -- The actor knows what these outcomes tell, and forgot nothing.
 pub record HasTakenAllIn {C N : Type 0} {G : Ghosts N CommitWorld} (old new : DeskMeaning C) (outcomes : List (Result (ReplyMsg N) (ServeFault N G))) (sequels : List (Sequel N G)) : Type 0 where

@@ -75,7 +75,6 @@ impl<'a, N: Named<CommitWorld>, C: Clock, V: Wire, G: Gate> Desk<'a, N, C, V, G>
     /// Takes the message of the least number from those that wait, to be evaluated as its verdict says. None where it is not evaluated now: it is
     /// lost, and in the bag if it is held.
     pub(crate) fn set_out_first(&mut self) -> Result<Option<Errand<N>>, Halt>
-        requires track { KeepsTrack self.old }
         requires some { 1 ≤ length self.old.posted }
         ensures some { IfOk result (λ errand. IfSome errand (HasSetOutFirst self.old self.new)) }
         ensures none { IfOk result (λ errand. IfNone errand (HasPassedFirst self.old self.new)) }
@@ -206,7 +205,7 @@ impl<'a, N: Named<CommitWorld>, C: Clock, V: Wire, G: Gate> Desk<'a, N, C, V, G>
     ) -> Result<(), NoMemory>
         requires copy { MayBeKept self.old.log copy first.old.known }
         ensures ok { OnOk result (self.new ≡ record self.old { bag = with_copy copy.entry self.old.bag }) }
-        ensures note { OnOk result (with_uses 0 first.new.known ≡ with_uses 0 first.old.known) }
+        ensures note { OnOk result (first.new.known ≡ first.old.known) }
         ensures refused { OnErr result (self.new ≡ self.old) }
     {
         match copy {
