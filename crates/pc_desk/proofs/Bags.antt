@@ -77,6 +77,11 @@ each-push : {X : Type 0} (P : X → Type 0) (xs : List X) (x : X) → Each P xs 
 each-push P [] x each one = (one, tt)
 each-push P (y ∷ xs) x each one = (each.0, each-push P xs x each.1 one)
 
+-- no numbers rise
+pub none_rises : IsStrictlySortedBy nat_cmp []
+unfolding IsStrictlySortedBy
+none_rises = tt
+
 -- one more number, above all of them
 pub push_rising : (ns : List ℕ) (n : ℕ) → IsStrictlySortedBy nat_cmp ns → All (λ (k : ℕ). k < n) ns → IsStrictlySortedBy nat_cmp (ns ++ n ∷ [])
 unfolding IsStrictlySortedBy

@@ -26,3 +26,7 @@ pub mod Stopping
 pub mod WaveSteps
 pub mod Besides
 pub mod InCall
+pub mod Staying
+pub mod Learning
+pub mod Outgoing
+pub mod Delivering

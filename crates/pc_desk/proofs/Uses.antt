@@ -24,6 +24,13 @@ module _ (verdict : ℕ → Verdict) where
   abbrev MayGive : ℕ → Pair Event → Type 0
   MayGive uses p = uses ≤ uses_allowed verdict p.entry.event
 
+  -- of no entry
+  pub gives_nothing : (part : Part Event) → part.own ≡ [] → part.given ≡ [] → GivesByVerdicts verdict part
+  gives_nothing part own given = record {
+    each = ap length given ∙ sym (ap length own);
+    within = subst (λ (us : List ℕ). AllZip MayGive us part.own) (sym given) (subst (AllZip MayGive []) (sym own) tt);
+  }
+
   -- one more entry, of which so many uses were given
   gives-so : (part after : Part Event) (p : Pair Event) (uses : ℕ) → after.own ≡ part.own ++ p ∷ [] → after.given ≡ part.given ++ uses ∷ [] → uses ≤ uses_allowed verdict p.entry.event → GivesByVerdicts verdict part → GivesByVerdicts verdict after
   gives-so part after p uses own given low gives = record {
