@@ -44,11 +44,11 @@ repeated_same d m p same is = back (subst (λ (s : Sent). IsRepeatedOrLate d (po
     }
 
     forth : IsRepeatedOrLate d m → IsRepeatedOrLate d (posting m.number m.range m.request 0)
-    forth (inl waits) = inl (record { due = waits.0.due; uses = waits.0.uses; there = waits.0.there }, waits.1.0, evaluated m (posting m.number m.range m.request 0) waits.1.0 refl refl waits.1.1)
+    forth (inl waits) = inl (record { due = waits.0.due; uses = waits.0.uses; there = waits.0.there }, waits.1, evaluated m (posting m.number m.range m.request 0) waits.1 refl refl waits.2)
     forth (inr two) = inr (two.0, two.1, two.2, evaluated m (posting m.number m.range m.request 0) two.0 refl refl two.3, evaluated m (posting m.number m.range m.request 0) two.1 refl refl two.4)
 
     back : IsRepeatedOrLate d (posting p.number p.range p.request 0) → IsRepeatedOrLate d p
-    back (inl waits) = inl (record { due = waits.0.due; uses = waits.0.uses; there = waits.0.there }, waits.1.0, evaluated (posting p.number p.range p.request 0) p waits.1.0 refl refl waits.1.1)
+    back (inl waits) = inl (record { due = waits.0.due; uses = waits.0.uses; there = waits.0.there }, waits.1, evaluated (posting p.number p.range p.request 0) p waits.1 refl refl waits.2)
     back (inr two) = inr (two.0, two.1, two.2, evaluated (posting p.number p.range p.request 0) p two.0 refl refl two.3, evaluated (posting p.number p.range p.request 0) p two.1 refl refl two.4)
 
 -- a stray's number is its message's
