@@ -92,7 +92,7 @@ impl<'a, N: Named<CommitWorld>, C: Clock, V: Wire, G: Gate> Desk<'a, N, C, V, G>
     /// Knows what became of a message of a wave; its copy goes into the bag. Where it was given back, it has its use, and its copy's.
     fn take_in(&mut self, outcome: Outcome<N>, sequel: Sequel<N>) -> Result<(), NoMemory>
         requires copy { MayBeTakenIn self.old.log outcome sequel }
-        ensures ok { OnOk result (HasTakenIn self.old self.new outcome sequel.entry) }
+        ensures ok { OnOk result (HasTakenIn self.old self.new outcome sequel) }
         ensures clock { self.new.log.clock ≡ self.old.log.clock }
     {
         match outcome {
@@ -108,7 +108,7 @@ impl<'a, N: Named<CommitWorld>, C: Clock, V: Wire, G: Gate> Desk<'a, N, C, V, G>
 
     /// Knows the last entry of a full range that gave a message back, and has the message's use, and its copy's.
     fn take_back(&mut self, fault: ServeFault<N>, sequel: Sequel<N>) -> Result<(), NoMemory>
-        ensures ok { OnOk result (HasTakenIn self.old self.new (Err fault) sequel.entry) }
+        ensures ok { OnOk result (HasTakenIn self.old self.new (Err fault) sequel) }
         ensures refused { OnErr result (self.new ≡ self.old) }
         ensures clock { self.new.log.clock ≡ self.old.log.clock }
     {
