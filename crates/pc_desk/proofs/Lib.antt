@@ -31,3 +31,5 @@ pub mod Staying
 pub mod Learning
 pub mod Outgoing
 pub mod Delivering
+pub mod RefusedErrands
+pub mod AskedLost

@@ -188,7 +188,7 @@ module _ {C N : Type 0} {G : Ghosts N CommitWorld} (old : DeskMeaning C) (messag
   stray_evaluated (verdicts.Repeat sends) errand is of log was =
       let uses = (posted_of of.copy.message).uses in
       let it : posted_of of.copy.message ≡ posting message.number message.range message.request uses =
-      ap (λ n. posting n of.copy.message.range of.copy.message.request uses) of.same.number ∙ (ap (λ r. posting message.number r of.copy.message.request uses) of.same.range ∙ ap (λ r. posting message.number message.range r uses) of.same.request) in
+      ap (λ n. posting n of.copy.message.range of.copy.message.request uses) of.same.alike.number ∙ (ap (λ r. posting message.number r of.copy.message.request uses) of.same.alike.range ∙ ap (λ r. posting message.number message.range r uses) of.same.alike.request) in
       let bag-is : with_copy errand.sequel.copy old.bag ≡ with_late of.copy.due (posting message.number message.range message.request uses) old.bag =
       ap (λ (c : Option (Stray (Message N G))). with_copy c old.bag) of.there ∙ ap (λ (p : Posted). with_late of.copy.due p old.bag) it in
       left-late old (posted_of message) rest track first known (with_copy errand.sequel.copy old.bag) more of.copy.due uses bag-is (sym (ap is_late is)) log (inr (inr (step, was)))

@@ -41,7 +41,9 @@ pub errand_sent : {N : Type 0} {G : Ghosts N CommitWorld} (verdict : Verdict) (m
 errand_sent {N} {G} verdicts.Deliver message errand is = ap (λ (e : Errand N G). as_sent (posted_of e.message)) is
 errand_sent verdicts.LoseRequest message errand is = absurd is
 errand_sent {N} {G} verdicts.LoseReply message errand is = ap (λ (e : Errand N G). as_sent (posted_of e.message)) is
-errand_sent {N} {G} (verdicts.Repeat sends) message errand is = ap (λ (m : Message N G). as_sent (posted_of m)) is.rest
+errand_sent (verdicts.Repeat sends) message errand is =
+    ap (λ (n : ℕ). as_sent (posting n errand.message.range errand.message.request 0)) is.alike.number
+    ∙ (ap (λ (r : ℕ). as_sent (posting message.number r errand.message.request 0)) is.alike.range ∙ ap (λ (r : Request). as_sent (posting message.number message.range r 0)) is.alike.request)
 errand_sent (verdicts.Hold sends) message errand is = absurd is
 
 module _ {C N : Type 0} {G : Ghosts N CommitWorld} (old new : DeskMeaning C) (message : Message N G) (rest : List Posted) (track : KeepsTrack old) (first : old.later ≡ posted_of message ∷ rest) (none : old.posted ≡ []) (errand : Errand N G) (may : MayGo old errand.message)

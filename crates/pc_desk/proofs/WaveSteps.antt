@@ -61,7 +61,7 @@ errand-number : {N : Type 0} {G : Ghosts N CommitWorld} (verdict : Verdict) (mes
 errand-number {N} {G} verdicts.Deliver message errand is = ap (λ (e : Errand N G). e.message.number) is
 errand-number verdicts.LoseRequest message errand is = absurd is
 errand-number {N} {G} verdicts.LoseReply message errand is = ap (λ (e : Errand N G). e.message.number) is
-errand-number {N} {G} (verdicts.Repeat sends) message errand is = ap (λ (m : Message N G). m.number) is.rest
+errand-number {N} {G} (verdicts.Repeat sends) message errand is = is.alike.number
 errand-number (verdicts.Hold sends) message errand is = absurd is
 
 module _ {C N : Type 0} {G : Ghosts N CommitWorld} where

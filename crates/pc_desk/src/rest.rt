@@ -6,7 +6,7 @@ ghost use Rattle.pc_desk.specs.Rest.{AreServedLeft, HasOnlyLearnt, IsReadyLeft, 
 ghost use Rattle.pc_desk.specs.Wave.{posted_of};
 ghost use Rattle.pc_history.specs.Parts.{told, uses_left};
 
-use crate::errand::copy_of;
+use crate::errand::copied;
 use crate::late::Late;
 use crate::left::Left;
 use pc_history::{Actor, Named, Note};
@@ -198,8 +198,7 @@ fn evaluate_twice<N: Named<CommitWorld>, G: Gate, R: Wait>(
     ensures all { OnOk result (KnowsTimes actor.new.part (posted_of message) 2) }
     ensures err { IfErr result (GivesBack ranges.now.limit actor.old.part.id (posted_of message)) }
 {
-    let mut message = message;
-    let copy = copy_of(&mut message)?;
+    let (message, copy) = copied(message)?;
     match evaluate_once(rt, copy, None, actor, ranges) {
         Ok(first) => {
             evaluate_once(rt, message, Some(first), actor, ranges)?;
