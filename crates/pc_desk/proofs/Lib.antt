@@ -22,6 +22,7 @@ pub mod Still
 pub mod StraysLeft
 pub mod DueLeft
 pub mod Ending
+pub mod StraysRefused
 pub mod Stopping
 pub mod WaveSteps
 pub mod Besides

@@ -73,7 +73,6 @@ impl<'a, N: Named<CommitWorld>, C: Clock, V: Wire, G: Gate> Desk<'a, N, C, V, G>
     /// Takes the message of the least number from those that wait, to be evaluated as its verdict says. None where it is not evaluated now: it is
     /// lost, and in the bag if it is held.
     pub(crate) fn set_out_first(&mut self) -> Result<Option<Errand<N>>, Halt>
-        requires track { KeepsTrack self.old }
         requires some { 1 ≤ length self.old.posted }
         ensures some { IfOk result (λ errand. IfSome errand (HasSetOutFirst self.old self.new)) }
         ensures none { IfOk result (λ errand. IfNone errand (HasPassedFirst self.old self.new)) }
