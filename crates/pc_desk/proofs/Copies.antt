@@ -7,7 +7,7 @@ use Rattle.pc_desk.specs.declared.errand.Errand.{Errand}
 use Rattle.pc_desk.specs.declared.errand.Sequel.{Sequel}
 use Rattle.pc_desk.specs.Desk.{DeskMeaning, HasKept, TellsFirst, is_repeating, uses_by}
 use Rattle.pc_desk.specs.Errand.{IsItsCopy, MayBeKept, with_copy}
-use Rattle.pc_desk.specs.Evaluating.{HasEvaluated, HasTakenReply, kept_by}
+use Rattle.pc_desk.specs.Evaluating.{HasEvaluated, HasLearntReply, HasTakenReply, kept_by}
 use Rattle.pc_desk.specs.OwnLog.{IsOwnLog, LogMeaning, verdict_of}
 use Rattle.pc_desk.specs.Wave.{MayGo, posted_of}
 use Rattle.pc_history.specs.declared.named.Named.{Ghosts}
@@ -136,19 +136,14 @@ replies_later (Err e) known v old new a sender number range step note taken sequ
 
 -- ---- the reply is kept or dropped, and then the copy
 
-pub taken_heard : {C N : Type 0} {G : Ghosts N CommitWorld} (old mid new : DeskMeaning C) (a : Answered) (note : List (KnownEntry Event)) (sequel : Sequel N G) → sequel.is_heard ≡ true → HasKept old mid a note → new ≡ record mid { bag = with_copy sequel.copy mid.bag } → HasTakenReply old new a note sequel
-taken_heard {C} {N} {G} old mid new a note sequel heard kept put =
-    let rest : new ≡ record old { log = record old.log { part = told note old.log.part }; replies = old.replies ++ a ∷ []; bag = with_copy sequel.copy old.bag } = put ∙ ap (λ (x : DeskMeaning C). record x { bag = with_copy sequel.copy x.bag }) kept.kept in
-    record {
-      rest = rest ∙ ap (λ (b : Bool). record old { log = record old.log { part = told note old.log.part }; replies = kept_by b a old.replies; bag = with_copy sequel.copy old.bag }) (sym heard);
-      log = subst IsOwnLog (sym (ap (λ (x : DeskMeaning C). x.log) put)) kept.log;
-    }
+pub learnt_heard : {C : Type 0} (old new : DeskMeaning C) (a : Answered) (note : List (KnownEntry Event)) (is_heard : Bool) → is_heard ≡ true → HasKept old new a note → HasLearntReply old new a note is_heard
+learnt_heard old new a note is_heard heard kept = subst (HasLearntReply old new a note) (sym heard) (record { rest = kept.kept; log = kept.log })
 
-pub taken_dropped : {C N : Type 0} {G : Ghosts N CommitWorld} (old mid new : DeskMeaning C) (a : Answered) (note : List (KnownEntry Event)) (sequel : Sequel N G) → sequel.is_heard ≡ false → mid ≡ record old { log = record old.log { part = told note old.log.part } } → IsOwnLog mid.log → new ≡ record mid { bag = with_copy sequel.copy mid.bag }
-    → HasTakenReply old new a note sequel
-taken_dropped {C} {N} {G} old mid new a note sequel dropped is log put =
-    let rest : new ≡ record old { log = record old.log { part = told note old.log.part }; bag = with_copy sequel.copy old.bag } = put ∙ ap (λ (x : DeskMeaning C). record x { bag = with_copy sequel.copy x.bag }) is in
-    record {
-      rest = rest ∙ ap (λ (b : Bool). record old { log = record old.log { part = told note old.log.part }; replies = kept_by b a old.replies; bag = with_copy sequel.copy old.bag }) (sym dropped);
-      log = subst IsOwnLog (sym (ap (λ (x : DeskMeaning C). x.log) put)) log;
-    }
+pub learnt_dropped : {C : Type 0} (old new : DeskMeaning C) (a : Answered) (note : List (KnownEntry Event)) (is_heard : Bool) → is_heard ≡ false → new ≡ record old { log = record old.log { part = told note old.log.part } } → IsOwnLog new.log → HasLearntReply old new a note is_heard
+learnt_dropped old new a note is_heard dropped is log = subst (HasLearntReply old new a note) (sym dropped) (record { rest = is; log = log })
+
+pub taken_reply : {C N : Type 0} {G : Ghosts N CommitWorld} (old mid new : DeskMeaning C) (a : Answered) (note : List (KnownEntry Event)) (sequel : Sequel N G) → HasLearntReply old mid a note sequel.is_heard → new ≡ record mid { bag = with_copy sequel.copy mid.bag } → HasTakenReply old new a note sequel
+taken_reply {C} old mid new a note sequel learnt put = record {
+  rest = put ∙ ap (λ (x : DeskMeaning C). record x { bag = with_copy sequel.copy x.bag }) learnt.rest;
+  log = subst IsOwnLog (sym (ap (λ (x : DeskMeaning C). x.log) put)) learnt.log;
+}
