@@ -64,14 +64,18 @@ may_be_kept {C} {N} {G} d message (Some stray) step reply note may copy tells =
       there = subst (λ (r : ℕ). r ≤ length d.log.head.splits) (sym l.range) may.there;
       use_left = copy.use_left;
       below = subst (λ (r : Request). AllBelowGreatest (request_stamps r)) (sym l.request) may.below;
-      tells = (step, reply, record {
-        place = tells.place;
-        tells =
-            ap (with_uses 0) tells.tells
-            ∙ (ap (λ (i : ActorId). known_entry (evaluation step message.range i message.number reply) tells.place 0 ∷ []) may.whose
-            ∙ (ap (λ (r : ℕ). known_entry (evaluation step r d.log.part.id message.number reply) tells.place 0 ∷ []) (sym l.range)
-            ∙ ap (λ (n : ℕ). known_entry (evaluation step c.range d.log.part.id n reply) tells.place 0 ∷ []) (sym l.number)));
-      });
+      tells = (
+        step,
+        reply,
+        record {
+          place = tells.place;
+          tells =
+              ap (with_uses 0) tells.tells
+              ∙ (ap (λ (i : ActorId). known_entry (evaluation step message.range i message.number reply) tells.place 0 ∷ []) may.whose
+              ∙ (ap (λ (r : ℕ). known_entry (evaluation step r d.log.part.id message.number reply) tells.place 0 ∷ []) (sym l.range)
+              ∙ ap (λ (n : ℕ). known_entry (evaluation step c.range d.log.part.id n reply) tells.place 0 ∷ []) (sym l.number)));
+        },
+      );
       counted = sym (repeats-twice (verdict_of d.log c.number) (ap (λ (n : ℕ). is_repeating (verdict_of d.log n)) l.number ∙ copy.repeats));
     }
 

@@ -142,11 +142,15 @@ halted_back {C} old new at note back copy full is =
       stopped = ap (λ (x : DeskMeaning C). x.log.stopped) is;
       head = ap (λ (x : DeskMeaning C). x.log.head) is;
       id = ap (λ (q : Part Event). q.id) (part ∙ copy-adds copy (told back (told note old.log.part)));
-      cause = inr (at, refl, subst (λ (l : ℕ). KnowsFull at l new.log.part.known) (sym (ap (λ (x : DeskMeaning C). x.range_limit) is)) (record {
-        entry = k;
-        knows = subst (λ (q : Part Event). Contains q.known k) (sym part) (copy-keeps copy (told back (told note old.log.part)) k there);
-        full = record { entry = full.entry; place = full.place; tells = refl; whose = full.whose; many = full.many };
-      }));
+      cause = inr (
+        at,
+        refl,
+        subst (λ (l : ℕ). KnowsFull at l new.log.part.known) (sym (ap (λ (x : DeskMeaning C). x.range_limit) is)) (record {
+          entry = k;
+          knows = subst (λ (q : Part Event). Contains q.known k) (sym part) (copy-keeps copy (told back (told note old.log.part)) k there);
+          full = record { entry = full.entry; place = full.place; tells = refl; whose = full.whose; many = full.many };
+        }),
+      );
     }
 
 -- memory was wanted
