@@ -80,8 +80,8 @@ pub not_behind : (number : ℕ) (replies : List Answered) → is_behind_first nu
 not_behind number [] is behind = behind
 not_behind number (a ∷ replies) is behind = absurd (let low : a.number < number = behind in let yes : nat_lt a.number number ≡ true = grind (arith, nat_tests) in let no : true ≡ false = sym yes ∙ is in cc no)
 
-first-same : (a b : ℕ) (as bs : List ℕ) → a ∷ as ≡ b ∷ bs → a ≡ b
-first-same a b as bs same = cc same
+first-same : (a b : ℕ) (xs ys : List ℕ) → a ∷ xs ≡ b ∷ ys → a ≡ b
+first-same a b xs ys same = cc same
 
 -- no message was lost
 pub none_lost : {C : Type 0} (d : DeskMeaning C) → d.lost ≡ [] → HasNoneLostFirst d
