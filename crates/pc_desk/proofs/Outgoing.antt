@@ -260,8 +260,7 @@ module _ {C : Type 0} (d : DeskMeaning C) (m : Posted) (rest : List Posted) (tra
               let late = copy (subst (λ (i : ℕ). is_repeating (verdict_of d.log i) ≡ true) (sym n) repeats) in
               inl (
                 record { due = late.due; uses = late.uses; there = subst (λ (x : Sent). Contains bag (x.number, straying late.due (posting x.number x.range x.request late.uses))) same late.there },
-                a.step,
-                first_evaluated p same,
+                (a.step, first_evaluated p same),
               )
           again p one repeats waits false is = repeated_on d hearing-desk more-answered p (track.repeated p one repeats (let c = posted-count p.number in let o = ap one_if is in omega arith))
 

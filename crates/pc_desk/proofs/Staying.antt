@@ -77,7 +77,7 @@ module _ {C : Type 0} (old new : DeskMeaning C) (more : HasMore old new) where
       why-on (inr puts) = inr puts
 
   pub repeated_on : (m : Posted) → IsRepeatedOrLate old m → IsRepeatedOrLate new m
-  repeated_on m (inl late) = inl (more.bag m late.0, late.1, evaluated_on old.log new.log more.log m late.1 late.2)
+  repeated_on m (inl late) = inl (more.bag m late.0, (late.1.0, evaluated_on old.log new.log more.log m late.1.0 late.1.1))
   repeated_on m (inr two) = inr (two.0, two.1, two.2, evaluated_on old.log new.log more.log m two.0 two.3, evaluated_on old.log new.log more.log m two.1 two.4)
 
   -- it is of the bag still

@@ -1,5 +1,5 @@
 -- What is evaluated late, from the bag; and what is lost. Own profile.
-use Rattle.std.specs.Prelude.{◌≡◌, ℕ, ◌<◌, not, None, Option, Some, List, [], ◌∷◌, All, Contains, filter, ⊤, Bool, false, nat_lt}
+use Rattle.std.specs.Prelude.{◌≡◌, ℕ, ◌<◌, not, None, Option, Some, List, [], ◌∷◌, All, Contains, filter, ⊤, Bool, false, true, nat_lt}
 use Rattle.pc_desk.specs.declared.answered.Answered.{Answered}
 use Rattle.pc_desk.specs.declared.halt.Halt.{Halt}
 use Rattle.pc_desk.specs.declared.halt.Halt.TheVariants as halts
