@@ -108,8 +108,8 @@ module _ {X : Type 0} (p : ℕ × X → Bool) where
 
 -- one that does not pass is left out in any case
 filter-cut : {X : Type 0} (q : X → Bool) (front : List X) (e : X) (back : List X) → q e ≡ false → filter q (front ++ e ∷ back) ≡ filter q (front ++ back)
-filter-cut q [] e back no = ap (λ b. cond b (e ∷ filter q back) (filter q back)) no
-filter-cut q (x ∷ front) e back no = ap (λ l. cond (q x) (x ∷ l) l) (filter-cut q front e back no)
+filter-cut q [] e back fails = ap (λ b. cond b (e ∷ filter q back) (filter q back)) fails
+filter-cut q (x ∷ front) e back fails = ap (λ l. cond (q x) (x ∷ l) l) (filter-cut q front e back fails)
 
 -- one that was there is it, or is left
 cut-or-left : {X : Type 0} (front back : List X) (e x : X) → Contains (front ++ e ∷ back) x → (e ≡ x) ⊎ Contains (front ++ back) x
@@ -178,13 +178,13 @@ module _ {C : Type 0} (old : DeskMeaning C) (e : ℕ × Stray Posted) (front bac
           repeated_on old known old.later (front ++ back) more p
           (λ waits at is. elim (late-still p waits) [
             | inl same ↦ repeated_same after e.1.message p same (its-two (subst (λ (s : Sent). is_repeating (verdict_of old.log s.number) ≡ true) (sym same) repeats))
-            | inr left ↦ inl (left, at, is)
+            | inr left ↦ inl (left, (at, is))
           ])
           (track.repeated p one repeats gone)
 
 -- ---- the bag, as its strays are seen
 
-module _ {C N : Type 0} {G : Ghosts N CommitWorld} where
+module _ {N : Type 0} {G : Ghosts N CommitWorld} where
   -- What contracts see of a stray.
   abbrev pub seen : ℕ × Stray (Late N G) → ℕ × Stray Posted
   seen e = (e.0, straying e.1.due (posted_of e.1.message.message))
@@ -363,11 +363,11 @@ module _ {C N : Type 0} {G : Ghosts N CommitWorld} (mid new : DeskMeaning C) (ba
       (λ plain. absurd (let bad : true ≡ false = sym of-bag.late ∙ (ap (λ n. is_late (verdict_of mid.log n)) of-bag.number ∙ plain) in cc bad))
     where
       -- What its first evaluation's note told.
-      abbrev first : List (KnownEntry Event)
+      first : List (KnownEntry Event)
       first = told_first (first_told e.1.message.first)
 
       -- What the note of its sending tells.
-      abbrev note : List (KnownEntry Event)
+      note : List (KnownEntry Event)
       note = e.1.message.message.note.known
 
       new-limit : new.range_limit ≡ mid.range_limit
