@@ -9,7 +9,7 @@ use Rattle.std.specs.Ordering.{nat_cmp}
 use Rattle.pc_desk.proofs.Staying.{ComesBehind, HasMore, WasLost, answered_on, bag_on, every_repeated, every_unheard}
 use Rattle.pc_desk.specs.declared.answered.Answered.{Answered}
 use Rattle.pc_desk.specs.Desk.{AreInTurn, DeskMeaning, IsAnsweredBy, KeepsTrack, answered_as}
-use Rattle.pc_desk.specs.Late.{BehindFirst, HasNoneLostFirst, HasTakenLost}
+use Rattle.pc_desk.specs.Late.{BehindFirst, HasNoneLostFirst, HasTakenLost, is_behind_first}
 use Rattle.pc_lists.proofs.Counts.{count-cons, one_if}
 
 module _ {C : Type 0} (old : DeskMeaning C) (number : ℕ) (lost : List ℕ) (first : old.lost ≡ number ∷ lost) where
@@ -69,3 +69,27 @@ taken_lost {C} v old number lost same first not_behind =
       rest = refl;
       track = track_asked old number lost f;
     }) first not_behind
+
+-- ---- whether the first reply comes before it
+
+behind_is : (number : ℕ) (replies : List Answered) → is_behind_first number replies ≡ true → BehindFirst number replies
+behind_is number [] is = absurd cc
+behind_is number (a ∷ replies) is = grind (arith, nat_tests)
+
+pub not_behind : (number : ℕ) (replies : List Answered) → is_behind_first number replies ≡ false → BehindFirst number replies → ⊥
+not_behind number [] is behind = behind
+not_behind number (a ∷ replies) is behind = absurd (let low : a.number < number = behind in let yes : nat_lt a.number number ≡ true = grind (arith, nat_tests) in let no : true ≡ false = sym yes ∙ is in cc no)
+
+first-same : (a b : ℕ) (as bs : List ℕ) → a ∷ as ≡ b ∷ bs → a ≡ b
+first-same a b as bs same = cc same
+
+-- no message was lost
+pub none_lost : {C : Type 0} (d : DeskMeaning C) → d.lost ≡ [] → HasNoneLostFirst d
+none_lost d none = record { none = λ empty. none; behind = λ number lost is. absurd (let e : [] ≡ number ∷ lost = sym none ∙ is in cc e) }
+
+-- or a reply comes before it
+pub lost_behind : {C : Type 0} (d : DeskMeaning C) (number : ℕ) (lost : List ℕ) → d.lost ≡ number ∷ lost → is_behind_first number d.replies ≡ true → HasNoneLostFirst d
+lost_behind d number lost first is = record {
+  none = λ empty. absurd (let e : false ≡ true = subst (λ (rs : List Answered). is_behind_first number rs ≡ true) empty is in cc e);
+  behind = λ n ns other. subst (λ (i : ℕ). BehindFirst i d.replies) (first-same number n lost ns (sym first ∙ other)) (behind_is number d.replies is);
+}

@@ -10,11 +10,11 @@ use Rattle.pc_desk.proofs.Outgoing.{answered_desk, bag_answered, bag_free, bag_l
 use Rattle.pc_desk.specs.declared.answered.Answered.{Answered}
 use Rattle.pc_desk.specs.declared.errand.Errand.{Errand}
 use Rattle.pc_desk.specs.Desk.{DeskMeaning, HasDelivered, IsLate, IsOfBag, IsOneSent, KeepsTrack, Posted, as_sent, has_lost, is_on_way, is_repeating, posted_as, posting, straying, with_late}
-use Rattle.pc_desk.specs.Errand.{HasPassedFirst, HasSetOutFirst, IsErrandOf, IsRepeated, due_by, held_by, is_not_now, lost_by, with_copy}
+use Rattle.pc_desk.specs.Errand.{HasPassedFirst, HasSetOutFirst, IsErrandOf, IsItsCopy, IsRepeated, due_by, held_by, is_not_now, lost_by, with_copy}
 use Rattle.pc_desk.specs.Evaluating.{HasEvaluated, kept_by}
 use Rattle.pc_desk.specs.OwnLog.{IsOwnLog, verdict_of}
 use Rattle.pc_desk.specs.Waiting.{IsNewest}
-use Rattle.pc_desk.specs.Wave.{posted_of}
+use Rattle.pc_desk.specs.Wave.{MayGo, posted_of}
 use Rattle.pc_history.specs.declared.named.Named.{Ghosts}
 use Rattle.pc_history.specs.declared.pair.Pair.{Pair}
 use Rattle.pc_history.specs.declared.view.Known.{Known as KnownEntry}
@@ -222,6 +222,12 @@ module _ {C N : Type 0} {G : Ghosts N CommitWorld} (old mid new : DeskMeaning C)
     more = λ k there. subst (λ (l : List (KnownEntry Event)). Contains l k) (sym known-is) (Contains-append_left old.log.part.known (told_of ∷ []) k there);
     limit = ap (λ (x : DeskMeaning C). x.range_limit) done-then.taken.rest;
   }
+
+-- what was set out may go still
+pub may_then : {C N : Type 0} {G : Ghosts N CommitWorld} (old mid : DeskMeaning C) (errand : Errand N G) → HasSetOutFirst old mid errand → MayGo mid errand.message × IsItsCopy (verdict_of mid.log) errand.message errand.sequel.copy
+may_then {C} {N} {G} old mid errand out =
+    subst (λ (x : DeskMeaning C). MayGo x errand.message × IsItsCopy (verdict_of x.log) errand.message errand.sequel.copy) (sym out.rest)
+    (record { whose = out.may.whose; there = out.may.there; use_left = out.may.use_left; below = out.may.below }, out.copy)
 
 -- one fewer waits
 pub one_fewer : (m : Posted) (before rest after : List Posted) → before ≡ m ∷ rest → after ≡ rest → length before ≡ length after + 1

@@ -50,22 +50,24 @@ module _ {C N : Type 0} {G : Ghosts N CommitWorld} (d : DeskMeaning C) where
       let sender : errand.message.sender ≡ m.sender = is.alike.sender in
       let number : errand.message.number ≡ m.number = is.alike.number in
       let range : errand.message.range ≡ m.range = is.alike.range in
-      let request : errand.message.request ≡ m.request = is.alike.request in
-      (record {
-        whose = sender ∙ ready.whose;
-        there = subst (λ r. r ≤ length d.log.head.splits) (sym range) ready.there;
-        use_left = subst (λ n. 1 ≤ uses_left n) (sym is.uses) (use-left m.note.known two);
-        below = subst (λ r. AllBelowGreatest (request_stamps r)) (sym request) ready.below;
-      }, subst (IsItsCopy (verdict_of d.log) errand.message) (sym is.there) (record {
-        alike = record {
-          sender = is.same.alike.sender ∙ sym sender;
-          number = is.same.alike.number ∙ sym number;
-          range = is.same.alike.range ∙ sym range;
-          request = is.same.alike.request ∙ sym request;
-        };
-        use_left = subst (λ n. 1 ≤ uses_left n) (sym is.same.note) (use-given m.note.known two);
-        repeats = ap (λ n. is_repeating (verdict_of d.log n)) number ∙ sym (ap is_repeating ready.ruled);
-      }))
+      let request : errand.message.request ≡ m.request = is.alike.request in (
+        record {
+          whose = sender ∙ ready.whose;
+          there = subst (λ r. r ≤ length d.log.head.splits) (sym range) ready.there;
+          use_left = subst (λ n. 1 ≤ uses_left n) (sym is.uses) (use-left m.note.known two);
+          below = subst (λ r. AllBelowGreatest (request_stamps r)) (sym request) ready.below;
+        },
+        subst (IsItsCopy (verdict_of d.log) errand.message) (sym is.there) (record {
+          alike = record {
+            sender = is.same.alike.sender ∙ sym sender;
+            number = is.same.alike.number ∙ sym number;
+            range = is.same.alike.range ∙ sym range;
+            request = is.same.alike.request ∙ sym request;
+          };
+          use_left = subst (λ n. 1 ≤ uses_left n) (sym is.same.note) (use-given m.note.known two);
+          repeats = ap (λ n. is_repeating (verdict_of d.log n)) number ∙ sym (ap is_repeating ready.ruled);
+        }),
+      )
 
   pub errand_may : (verdict : Verdict) (m : Message N G) (errand : Errand N G) → IsReady verdict m → IsErrandOf verdict m errand → MayBeDone errand
   errand_may verdicts.Deliver m errand ready is = subst MayBeDone (sym is) (once-may verdicts.Deliver m (omega arith) ready, tt)
@@ -93,9 +95,13 @@ may_be_kept {C} {N} {G} d m (Some stray) step reply note may is tells = record {
   there = subst (λ r. r ≤ length d.log.head.splits) (sym is.alike.range) may.there;
   use_left = is.use_left;
   below = subst (λ r. AllBelowGreatest (request_stamps r)) (sym is.alike.request) may.below;
-  tells = (step, reply, subst (λ n. IsEvalNote d.log.part.id n stray.message.range step reply (with_uses 0 note)) (sym is.alike.number)
-  (subst (λ r. IsEvalNote d.log.part.id m.number r step reply (with_uses 0 note)) (sym is.alike.range)
-  (subst (λ i. IsEvalNote i m.number m.range step reply (with_uses 0 note)) may.whose (record { place = tells.place; tells = ap (with_uses 0) tells.tells }))));
+  tells = (
+    step,
+    reply,
+    subst (λ n. IsEvalNote d.log.part.id n stray.message.range step reply (with_uses 0 note)) (sym is.alike.number)
+        (subst (λ r. IsEvalNote d.log.part.id m.number r step reply (with_uses 0 note)) (sym is.alike.range)
+        (subst (λ i. IsEvalNote i m.number m.range step reply (with_uses 0 note)) may.whose (record { place = tells.place; tells = ap (with_uses 0) tells.tells }))),
+  );
   counted = let two = repeats-two (verdict_of d.log stray.message.number) (ap (λ n. is_repeating (verdict_of d.log n)) is.alike.number ∙ is.repeats) in omega (arith, two);
 }
 

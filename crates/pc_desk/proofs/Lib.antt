@@ -33,3 +33,4 @@ pub mod Outgoing
 pub mod Delivering
 pub mod RefusedErrands
 pub mod AskedLost
+pub mod Copies

@@ -142,9 +142,19 @@ halted_back {C} old new at note back copy full is =
       stopped = ap (λ (x : DeskMeaning C). x.log.stopped) is;
       head = ap (λ (x : DeskMeaning C). x.log.head) is;
       id = ap (λ (q : Part Event). q.id) (part ∙ copy-adds copy (told back (told note old.log.part)));
-      cause = inr (at, refl, subst (λ (l : ℕ). KnowsFull at l new.log.part.known) (sym (ap (λ (x : DeskMeaning C). x.range_limit) is)) (record {
-        entry = k;
-        knows = subst (λ (q : Part Event). Contains q.known k) (sym part) (copy-keeps copy (told back (told note old.log.part)) k there);
-        full = record { entry = full.entry; place = full.place; tells = refl; whose = full.whose; many = full.many };
-      }));
+      cause = inr (
+        at,
+        refl,
+        subst (λ (l : ℕ). KnowsFull at l new.log.part.known) (sym (ap (λ (x : DeskMeaning C). x.range_limit) is)) (record {
+          entry = k;
+          knows = subst (λ (q : Part Event). Contains q.known k) (sym part) (copy-keeps copy (told back (told note old.log.part)) k there);
+          full = record { entry = full.entry; place = full.place; tells = refl; whose = full.whose; many = full.many };
+        }),
+      );
     }
+
+-- memory was wanted
+pub refused_memory : {M C N : Type 0} {G : Ghosts N CommitWorld} (r : Result M Halt) (v old new : DeskMeaning C) (errand : Errand N G) → v ≡ old → IfErr r (HasHalted v new) → IfErr r (λ halt. halt ≡ halts.NoMemory) → IfErr r (IsRefusedErrand old new errand)
+refused_memory (Ok n) v old new errand same halted want = tt
+refused_memory {M} {C} (Err halt) v old new errand same halted want =
+    subst (IsRefusedErrand old new errand) (sym want) (subst (λ (x : DeskMeaning C). HasHalted x new halts.NoMemory) same (subst (HasHalted v new) want halted))

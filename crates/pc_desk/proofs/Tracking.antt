@@ -278,17 +278,17 @@ module _ {C : Type 0} (old new : DeskMeaning C) (sent : LogMeaning C) (number ra
 -- ---- a reply is heard
 
 module _ {C : Type 0} (old new : DeskMeaning C) (a : Answered) (track : KeepsTrack old) (first : old.replies ≡ a ∷ new.replies) (by : IsAnsweredBy old.log a) (entered : HasEntered old.log new.log (events.Hear a.number a.step)) (rest : new ≡ record old { log = new.log; replies = new.replies }) where
-  posted : new.posted ≡ old.posted
-  posted = ap (λ (d : DeskMeaning C). d.posted) rest
+  posted-then : new.posted ≡ old.posted
+  posted-then = ap (λ (d : DeskMeaning C). d.posted) rest
 
-  later : new.later ≡ old.later
-  later = ap (λ (d : DeskMeaning C). d.later) rest
+  later-then : new.later ≡ old.later
+  later-then = ap (λ (d : DeskMeaning C). d.later) rest
 
-  bag : new.bag ≡ old.bag
-  bag = ap (λ (d : DeskMeaning C). d.bag) rest
+  bag-then : new.bag ≡ old.bag
+  bag-then = ap (λ (d : DeskMeaning C). d.bag) rest
 
-  wire : new.log.wire ≡ old.log.wire
-  wire = ap (λ (l : LogMeaning C). l.wire) entered.stored
+  wire-then : new.log.wire ≡ old.log.wire
+  wire-then = ap (λ (l : LogMeaning C). l.wire) entered.stored
 
   sent-same : (known_of new.log.part.own).sent ≡ (known_of old.log.part.own).sent
   sent-same = sent_still old.log new.log a track.log by entered
@@ -309,9 +309,9 @@ module _ {C : Type 0} (old new : DeskMeaning C) (a : Answered) (track : KeepsTra
 
   more-heard : HasMore old new
   more-heard = record {
-    log = record { wire = wire; id = ap (λ (l : LogMeaning C). l.part.id) entered.stored; known = λ e there. subst (λ (ks : List (KnownEntry Event)). Contains ks e) (sym (known_still old.log new.log a track.log by entered)) there };
+    log = record { wire = wire-then; id = ap (λ (l : LogMeaning C). l.part.id) entered.stored; known = λ e there. subst (λ (ks : List (KnownEntry Event)). Contains ks e) (sym (known_still old.log new.log a track.log by entered)) there };
     sent = λ p one. subst (λ (xs : List Sent). IsOneSent xs p) (sym sent-same) one;
-    bag = λ p waits. subst (λ (b : List (ℕ × Stray Posted)). IsLate b p) (sym bag) waits;
+    bag = λ p waits. subst (λ (b : List (ℕ × Stray Posted)). IsLate b p) (sym bag-then) waits;
   }
 
   unanswered : (n : ℕ) → Contains old.lost n → answered_as n old.replies ≡ 0
@@ -326,23 +326,23 @@ module _ {C : Type 0} (old new : DeskMeaning C) (a : Answered) (track : KeepsTra
     unheard = track.unheard;
     each_unheard = every_unheard old new more-heard track.unheard track.each_unheard;
     repeated = every_repeated old new more-heard (λ p one. subst (λ (xs : List Sent). IsOneSent xs p) sent-same one) sums track.repeated;
-    late = subst (All (IsOfBag new)) (sym bag) (bag_on old new more-heard sums track.late);
-    lost = lost_on old new track.lost (ap (λ (d : DeskMeaning C). d.lost) rest) wire (λ n one. sent-count n ∙ one)
+    late = subst (All (IsOfBag new)) (sym bag-then) (bag_on old new more-heard sums track.late);
+    lost = lost_on old new track.lost (ap (λ (d : DeskMeaning C). d.lost) rest) wire-then (λ n one. sent-count n ∙ one)
         (λ n there was. let u = unanswered n there in let r = replies-were n in let h = heard-count n in omega (arith, u, r, h, was))
-        (subst (λ (ps : List Posted). All (ComesBehind old.lost) ps) (sym posted) track.lost.behind)
+        (subst (λ (ps : List Posted). All (ComesBehind old.lost) ps) (sym posted-then) track.lost.behind)
         (all_from_contains (λ (n : ℕ). answered_as n new.replies ≡ 0) old.lost (λ n there. let u = unanswered n there in let r = replies-were n in omega (arith, u, r)));
-    aside = subst (All (WasSetAside (known_of new.log.part.own).sent)) (sym later) (subst (λ (xs : List Sent). All (WasSetAside xs) old.later) (sym sent-same) track.aside);
+    aside = subst (All (WasSetAside (known_of new.log.part.own).sent)) (sym later-then) (subst (λ (xs : List Sent). All (WasSetAside xs) old.later) (sym sent-same) track.aside);
     stages = λ n.
-        let p : posted_as n new.posted ≡ posted_as n old.posted = ap (posted_as n) posted in
-        let l : posted_as n new.later ≡ posted_as n old.later = ap (posted_as n) later in
+        let p : posted_as n new.posted ≡ posted_as n old.posted = ap (posted_as n) posted-then in
+        let l : posted_as n new.later ≡ posted_as n old.later = ap (posted_as n) later-then in
         omega (arith, p, l, sent-count n, heard-count n, replies-were n, track.stages n);
-    posted = subst (All (Says (known_of new.log.part.own).sent)) (sym posted) (subst (λ (xs : List Sent). All (Says xs) old.posted) (sym sent-same) track.posted);
-    waits = subst (All (IsOneSent (known_of new.log.part.own).sent)) (sym posted) (subst (λ (xs : List Sent). All (IsOneSent xs) old.posted) (sym sent-same) track.waits);
+    posted = subst (All (Says (known_of new.log.part.own).sent)) (sym posted-then) (subst (λ (xs : List Sent). All (Says xs) old.posted) (sym sent-same) track.posted);
+    waits = subst (All (IsOneSent (known_of new.log.part.own).sent)) (sym posted-then) (subst (λ (xs : List Sent). All (IsOneSent xs) old.posted) (sym sent-same) track.waits);
     answered =
         All-weaker (IsAnsweredBy old.log) (IsAnsweredBy new.log)
         (λ x. answered_on old.log new.log more-heard.log x (λ r said. subst (λ (xs : List Sent). request_sent x.number xs ≡ Some r) (sym sent-same) said)) new.replies
         (All-tail (IsAnsweredBy old.log) a new.replies (subst (All (IsAnsweredBy old.log)) first track.answered));
-    turn = subst (WaitInTurn new.replies) (sym posted) (turn_heard a new.replies old.posted (subst (λ rs. WaitInTurn rs old.posted) first track.turn));
+    turn = subst (WaitInTurn new.replies) (sym posted-then) (turn_heard a new.replies old.posted (subst (λ rs. WaitInTurn rs old.posted) first track.turn));
     wave =
         let q : Pair Event = added old.log new.log (events.Hear a.number a.step) entered in
         let own-is = own_after old.log new.log (events.Hear a.number a.step) entered in
@@ -352,18 +352,18 @@ module _ {C : Type 0} (old new : DeskMeaning C) (a : Answered) (track : KeepsTra
         let below = subst (All (λ (b : Answered). b.step < entered.step)) first (answers_before old new.log (events.Hear a.number a.step) track entered) in
         subst (λ b. WaitInWave b new.log.part.own new.posted new.replies) (sym (ap (λ (l : LogMeaning C). l.beside) entered.stored))
         (subst (λ o. WaitInWave old.log.beside o new.posted new.replies) (sym own-is)
-        (subst (λ ps. WaitInWave old.log.beside (old.log.part.own ++ q ∷ []) ps new.replies) (sym (posted ∙ none))
+        (subst (λ ps. WaitInWave old.log.beside (old.log.part.own ++ q ∷ []) ps new.replies) (sym (posted-then ∙ none))
         (wave_heard old.log.beside old.log.part.own q h a new.replies (λ sent. sent) same refl below
         (subst (λ ps. WaitInWave old.log.beside old.log.part.own ps (a ∷ new.replies)) none (subst (WaitInWave old.log.beside old.log.part.own old.posted) first track.wave)))));
     given =
-        subst (λ (w : WireRule). GivesByVerdicts (verdict_by w) new.log.part) (sym wire)
+        subst (λ (w : WireRule). GivesByVerdicts (verdict_by w) new.log.part) (sym wire-then)
         (gives_none (verdict_of old.log) old.log.part new.log.part (added old.log new.log (events.Hear a.number a.step) entered) (own_after old.log new.log (events.Hear a.number a.step) entered)
         (ap (λ (l : LogMeaning C). l.part.given) entered.stored) track.given);
   }
 
   pub way_heard : (n : ℕ) → is_on_way n new ≡ (is_on_way n old && not (a.number == n))
   way_heard n =
-      ap (λ x. x || list_any (λ (y : Answered). y.number == n) new.replies) (any_counts (λ (y : Posted). y.number == n) new.posted ∙ ap (λ ps. nat_lt 0 (posted_as n ps)) posted)
+      ap (λ x. x || list_any (λ (y : Answered). y.number == n) new.replies) (any_counts (λ (y : Posted). y.number == n) new.posted ∙ ap (λ ps. nat_lt 0 (posted_as n ps)) posted-then)
       ∙ (ap (λ x. nat_lt 0 (posted_as n old.posted) || x) (any_counts (λ (y : Answered). y.number == n) new.replies)
       ∙ (cases (a.number == n) refl
       ∙ ap (λ x. x && not (a.number == n)) (ap (λ x. x || nat_lt 0 (answered_as n old.replies)) (sym (any_counts (λ (y : Posted). y.number == n) old.posted))

@@ -25,6 +25,11 @@ use Rattle.pc_wire.specs.declared.outbox.Stray.{Stray}
 abbrev pub kept_by : Bool → Answered → List Answered → List Answered
 kept_by is_heard a replies = cond is_heard (replies ++ a ∷ []) replies
 
+-- The actor knows this evaluation now; its reply waits to be heard, or was dropped.
+pub record HasLearntReply {C : Type 0} (old new : DeskMeaning C) (a : Answered) (note : List (KnownEntry Event)) (is_heard : Bool) : Type 0 where
+  pub rest : new ≡ record old { log = record old.log { part = told note old.log.part }; replies = kept_by is_heard a old.replies }
+  pub log : IsOwnLog new.log
+
 -- The actor knows this evaluation now; its reply waits to be heard, or was dropped, and a copy of the message went into the bag, as is said.
 pub record HasTakenReply {C N : Type 0} {G : Ghosts N CommitWorld} (old new : DeskMeaning C) (a : Answered) (note : List (KnownEntry Event)) (sequel : Sequel N G) : Type 0 where
   pub rest :

@@ -1,5 +1,5 @@
 -- What is evaluated late, from the bag; and what is lost. Own profile.
-use Rattle.std.specs.Prelude.{◌≡◌, ℕ, ◌<◌, true, not, None, Option, Some, List, [], ◌∷◌, All, Contains, filter, ⊤}
+use Rattle.std.specs.Prelude.{◌≡◌, ℕ, ◌<◌, Bool, true, false, nat_lt, not, None, Option, Some, List, [], ◌∷◌, All, Contains, filter, ⊤}
 use Rattle.pc_desk.specs.declared.answered.Answered.{Answered}
 use Rattle.pc_desk.specs.declared.halt.Halt.{Halt}
 use Rattle.pc_desk.specs.declared.halt.Halt.TheVariants as halts
@@ -64,7 +64,12 @@ pub record HasTakenLost {C : Type 0} (old new : DeskMeaning C) (number : ℕ) : 
   pub rest : new ≡ record old { lost = new.lost }
   pub track : KeepsTrack old → KeepsTrack new
 
--- The first of these replies, if there is one, is to a message before this one.
+-- There is a first of these replies, and it is to a message before this one.
+abbrev pub is_behind_first : ℕ → List Answered → Bool
+is_behind_first number [] = false
+is_behind_first number (a ∷ replies) = nat_lt a.number number
+
+-- The same, as a fact.
 abbrev pub BehindFirst : ℕ → List Answered → Type 0
 BehindFirst number [] = ⊥
 BehindFirst number (a ∷ replies) = a.number < number

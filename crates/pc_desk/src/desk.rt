@@ -11,7 +11,7 @@ ghost use Rattle.pc_desk.specs.Ending.{EndsOnly};
 ghost use Rattle.pc_desk.specs.Aside.{HasJoinedWave, HasSetAside, with_one};
 ghost use Rattle.pc_desk.specs.Keeping.{ReadsEach};
 ghost use Rattle.pc_wire.specs.Outbox.{first_from};
-ghost use Rattle.pc_desk.specs.Late.{HasNoneLostFirst, HasTakenLost};
+ghost use Rattle.pc_desk.specs.Late.{HasNoneLostFirst, HasTakenLost, is_behind_first};
 ghost use Rattle.pc_desk.specs.OwnLog.{HasMadeEntry, IsNoRange, IsOwnLog, MayEnter};
 ghost use Rattle.pc_desk.specs.Rest.{IsReadyLeft, IsRestOf};
 ghost use Rattle.pc_desk.specs.Waiting.{EndsUnheard, IsBehindAll};
@@ -393,12 +393,20 @@ impl<'a, N: Named<CommitWorld>, C: Clock, V: Wire, G: Gate> Desk<'a, N, C, V, G>
         ensures clock { self.new.log.clock ≡ self.old.log.clock }
     {
         let number = *self.lost.front()?;
-        if let Some(first) = self.replies.front() {
-            if first.number < number {
-                return None;
-            }
+        if self.is_behind_first(number) {
+            return None;
         }
         self.lost.pop_front()
+    }
+
+    /// Whether a reply waits to be heard, and the first that does is to a message before this one.
+    fn is_behind_first(&self, number: u64) -> bool
+        ensures { result ≡ is_behind_first number self.now.replies }
+    {
+        match self.replies.front() {
+            Some(first) => first.number < number,
+            None => false,
+        }
     }
 
     /// Hears the reply that has waited longest, if there is one. All messages are evaluated by then.

@@ -3,7 +3,7 @@ ghost use Rattle.pc_desk.specs.declared.halt.Halt.TheVariants as halts;
 ghost use Rattle.pc_desk.specs.Desk.{HasDelivered, HasHalted, HasKept, IsReadyLate, IsReadyToGo, KeepsTrack, late_as, waiting_as, with_late};
 ghost use Rattle.pc_desk.specs.Ending.{EndsOnly, PostsInCall};
 ghost use Rattle.pc_desk.specs.Errand.{HasPassedFirst, HasSetOutFirst, IsErrandOf, IsItsCopy, MayBeKept, due_by, held_by, is_not_now, lost_by, with_copy};
-ghost use Rattle.pc_desk.specs.Evaluating.{EndsAtFault, HasEvaluated, HasTakenReply, IsFullFault, IsRefusedErrand, told_copy};
+ghost use Rattle.pc_desk.specs.Evaluating.{EndsAtFault, HasEvaluated, HasLearntReply, HasTakenReply, IsFullFault, IsRefusedErrand, told_copy};
 ghost use Rattle.pc_desk.specs.OwnLog.{IsOwnLog, verdict_of};
 ghost use Rattle.pc_desk.specs.Waiting.{IsNewest};
 ghost use Rattle.pc_desk.specs.Wave.{MayGo, posted_of};
@@ -185,14 +185,25 @@ impl<'a, N: Named<CommitWorld>, C: Clock, V: Wire, G: Gate> Desk<'a, N, C, V, G>
         ensures err { IfErr result (HasHalted self.old self.new) }
         ensures memory { IfErr result (λ halt. halt ≡ halts.NoMemory) }
     {
-        let mut last = if sequel.is_heard {
-            self.keep_noted(msg)?
-        } else {
-            self.drop_noted(msg)?
-        };
+        let mut last = self.learn(msg, sequel.is_heard)?;
         match self.keep_copy(sequel.copy, &mut last) {
             Ok(()) => Ok(last),
             Err(NoMemory) => Err(self.want_memory()),
+        }
+    }
+
+    /// Knows the evaluation, and keeps its reply where it is heard. Gives a copy of the evaluation's note.
+    fn learn(&mut self, msg: ReplyMsg<N>, is_heard: bool) -> Result<Note<CommitWorld, N>, Halt>
+        ensures ok { OnOk result (HasLearntReply self.old self.new (record { number = msg.number; step = msg.step; reply = msg.reply }) (without_uses 0 msg.note.known) is_heard) }
+        ensures copy { IfOk result (λ n. n.known ≡ with_uses 0 msg.note.known) }
+        ensures clock { self.new.log.clock ≡ self.old.log.clock }
+        ensures err { IfErr result (HasHalted self.old self.new) }
+        ensures memory { IfErr result (λ halt. halt ≡ halts.NoMemory) }
+    {
+        if is_heard {
+            self.keep_noted(msg)
+        } else {
+            self.drop_noted(msg)
         }
     }
 
