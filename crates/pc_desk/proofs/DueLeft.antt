@@ -151,11 +151,14 @@ module _ {C : Type 0} (old : DeskMeaning C) (e : ℕ × Stray Posted) (front bac
 
   -- it was evaluated under whatever count of uses it is known
   evaluated-same : (p : Posted) → as_sent e.1.message ≡ as_sent p → IsDropped after p
-  evaluated-same p same = inr (inr (step, record {
-    reply = was.reply;
-    place = was.place;
-    knows = subst (λ (s : Sent). Contains known (known_entry (evaluation step s.range old.log.part.id s.number was.reply) was.place 0)) same was.knows;
-  }))
+  evaluated-same p same = inr (inr (
+    step,
+    record {
+      reply = was.reply;
+      place = was.place;
+      knows = subst (λ (s : Sent). Contains known (known_entry (evaluation step s.range old.log.part.id s.number was.reply) was.place 0)) same was.knows;
+    },
+  ))
 
   late-still : (p : Posted) → IsLate old.bag p → (as_sent e.1.message ≡ as_sent p) ⊎ IsLate (front ++ back) p
   late-still p late =
@@ -170,7 +173,7 @@ module _ {C : Type 0} (old : DeskMeaning C) (e : ℕ × Stray Posted) (front bac
       (All-weaker (IsUnheard old) (IsUnheard after) (λ p. unheard_on old known old.later (front ++ back) more p (λ waits. elim (late-still p waits) [ inl same ↦ evaluated-same p same | inr left ↦ inr (inl left) ])) track.unheard track.each_unheard)
       track (λ n. refl) repeated
       (all_from_contains (IsOfBag after) (front ++ back) (λ x there.
-          let of = All-contains (IsOfBag old) old.bag x track.late (subst (λ b. Contains b x) (sym bag-is) (left-was front back e x there)) in one_bag old after x refl refl of.gone of))
+      let of = All-contains (IsOfBag old) old.bag x track.late (subst (λ b. Contains b x) (sym bag-is) (left-was front back e x there)) in one_bag old after x refl refl of.gone of))
       track.aside
     where
       repeated : (p : Posted) → IsOneSent (known_of old.log.part.own).sent p → is_repeating (verdict_of old.log p.number) ≡ true → posted_as p.number old.posted + posted_as p.number old.later ≡ 0 → IsRepeatedOrLate after p
@@ -306,8 +309,7 @@ module _ {C N : Type 0} {G : Ghosts N CommitWorld} (mid new : DeskMeaning C) (ba
       → is_repeating (verdict_of mid.log it.number) ≡ true → (one : ℕ) × (one < done.step) × WasEvaluatedAt log-then it one
   twice-by None tells counted behind knows repeats = absurd (let two = repeats-two (verdict_of mid.log it.number) repeats in omega (arith, counted, two))
   twice-by (Some note) tells counted behind knows repeats =
-      let k : KnownEntry Event = known_entry (evaluation tells.0 it.range mid.log.part.id it.number tells.1) tells.2.place 0 in
-      (
+      let k : KnownEntry Event = known_entry (evaluation tells.0 it.range mid.log.part.id it.number tells.1) tells.2.place 0 in (
         tells.0,
         after_evaluation mid.log.part.id it.number it.range tells.0 tells.1 note.known done.step tells.2 behind,
         record { reply = tells.1; place = tells.2.place; knows = knows k (subst (λ l. Contains l k) (sym tells.2.tells) (contains_head k [])) },
@@ -401,7 +403,7 @@ module _ {C N : Type 0} {G : Ghosts N CommitWorld} (mid new : DeskMeaning C) (ba
           in-bag x = elim (cut-or-left (map seen cut-of.front) (map seen cut-of.back) (seen e) x.0 (subst (λ b. Contains b x.0) was-bag x.1)) [
             | inl here ↦ inl (ap (λ (y : ℕ × Stray Posted). y.1.message.number) here ∙ ap (λ (q : Posted). q.number) x.2)
             | inr left ↦ inr (Contains-append_right (new.posted ++ new.later) (map (λ (y : ℕ × Stray Posted). y.1.message) new.bag) p
-            (subst (Contains (map (λ (y : ℕ × Stray Posted). y.1.message) new.bag)) x.2 (contains_map (λ (y : ℕ × Stray Posted). y.1.message) new.bag x.0 (subst (λ b. Contains b x.0) (sym new-bag) left))))
+                (subst (Contains (map (λ (y : ℕ × Stray Posted). y.1.message) new.bag)) x.2 (contains_map (λ (y : ℕ × Stray Posted). y.1.message) new.bag x.0 (subst (λ b. Contains b x.0) (sym new-bag) left))))
           ]
 
       broken : HasBrokenOff mid new the-message

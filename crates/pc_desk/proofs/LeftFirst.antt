@@ -123,6 +123,7 @@ module _ {X Y Z : Type 0} (ws : List (ℕ × X)) (aside : List (ℕ × Y)) (bs :
       where
         below : (m : ℕ) → comes_before (Some n) (Some m) ≡ true → n ≤ m
         below m first = let low : n < m = ltb-true n m first in omega (arith, low)
+
         some-same : (a b : ℕ) → Some a ≡ Some b → a ≡ b
         some-same a b e = cc
 
@@ -137,6 +138,7 @@ module _ {X Y Z : Type 0} (ws : List (ℕ × X)) (aside : List (ℕ × Y)) (bs :
       where
         below : (m : ℕ) → comes_before (Some m) (Some n) ≡ false → n ≤ m
         below m first = ltb-false m n first
+
         some-same : (a b : ℕ) → Some a ≡ Some b → a ≡ b
         some-same a b e = cc
 
