@@ -19,14 +19,14 @@ use Rattle.pc_wire.specs.declared.outbox.Stray.{Stray}
 module _ {X : Type 0} (k : ℕ) where
   -- no value stands under a number that no entry has
   pub lookup_free : (es : List (ℕ × X)) → ((e : ℕ × X) → Contains es e → e.0 ≡ k → ⊥) → lookup (is_at (nat_cmp k)) es ≡ None
-  lookup_free [] no = refl
-  lookup_free (e ∷ es) no = by (is_eq (nat_cmp k e.0)) refl (lookup_free es (λ x there. no x (contains_tail e es x there)))
+  lookup_free [] free = refl
+  lookup_free (e ∷ es) free = by (is_eq (nat_cmp k e.0)) refl (lookup_free es (λ x there. free x (contains_tail e es x there)))
     where
       same : is_eq (nat_cmp k e.0) ≡ true → k ≡ e.0
       same is = grind (arith, nat_tests)
 
       by : (b : Bool) → is_eq (nat_cmp k e.0) ≡ b → lookup (is_at (nat_cmp k)) es ≡ None → cond (is_eq (nat_cmp k e.0)) (Some e.1) (lookup (is_at (nat_cmp k)) es) ≡ None
-      by true is on = absurd (no e (contains_head e es) (sym (same is)))
+      by true is on = absurd (free e (contains_head e es) (sym (same is)))
       by false is on = ap (λ b. cond b (Some e.1) (lookup (is_at (nat_cmp k)) es)) is ∙ on
 
   module _ (v : X) where

@@ -108,8 +108,8 @@ module _ {X : Type 0} (p : ℕ × X → Bool) where
 
 -- one that does not pass is left out in any case
 filter-cut : {X : Type 0} (q : X → Bool) (front : List X) (e : X) (back : List X) → q e ≡ false → filter q (front ++ e ∷ back) ≡ filter q (front ++ back)
-filter-cut q [] e back no = ap (λ b. cond b (e ∷ filter q back) (filter q back)) no
-filter-cut q (x ∷ front) e back no = ap (λ l. cond (q x) (x ∷ l) l) (filter-cut q front e back no)
+filter-cut q [] e back fails = ap (λ b. cond b (e ∷ filter q back) (filter q back)) fails
+filter-cut q (x ∷ front) e back fails = ap (λ l. cond (q x) (x ∷ l) l) (filter-cut q front e back fails)
 
 -- one that was there is it, or is left
 cut-or-left : {X : Type 0} (front back : List X) (e x : X) → Contains (front ++ e ∷ back) x → (e ≡ x) ⊎ Contains (front ++ back) x
@@ -151,11 +151,14 @@ module _ {C : Type 0} (old : DeskMeaning C) (e : ℕ × Stray Posted) (front bac
 
   -- it was evaluated under whatever count of uses it is known
   evaluated-same : (p : Posted) → as_sent e.1.message ≡ as_sent p → IsDropped after p
-  evaluated-same p same = inr (inr (step, record {
-    reply = was.reply;
-    place = was.place;
-    knows = subst (λ (s : Sent). Contains known (known_entry (evaluation step s.range old.log.part.id s.number was.reply) was.place 0)) same was.knows;
-  }))
+  evaluated-same p same = inr (inr (
+    step,
+    record {
+      reply = was.reply;
+      place = was.place;
+      knows = subst (λ (s : Sent). Contains known (known_entry (evaluation step s.range old.log.part.id s.number was.reply) was.place 0)) same was.knows;
+    },
+  ))
 
   late-still : (p : Posted) → IsLate old.bag p → (as_sent e.1.message ≡ as_sent p) ⊎ IsLate (front ++ back) p
   late-still p late =
@@ -170,7 +173,7 @@ module _ {C : Type 0} (old : DeskMeaning C) (e : ℕ × Stray Posted) (front bac
       (All-weaker (IsUnheard old) (IsUnheard after) (λ p. unheard_on old known old.later (front ++ back) more p (λ waits. elim (late-still p waits) [ inl same ↦ evaluated-same p same | inr left ↦ inr (inl left) ])) track.unheard track.each_unheard)
       track (λ n. refl) repeated
       (all_from_contains (IsOfBag after) (front ++ back) (λ x there.
-          let of = All-contains (IsOfBag old) old.bag x track.late (subst (λ b. Contains b x) (sym bag-is) (left-was front back e x there)) in one_bag old after x refl refl of.gone of))
+      let of = All-contains (IsOfBag old) old.bag x track.late (subst (λ b. Contains b x) (sym bag-is) (left-was front back e x there)) in one_bag old after x refl refl of.gone of))
       track.aside
     where
       repeated : (p : Posted) → IsOneSent (known_of old.log.part.own).sent p → is_repeating (verdict_of old.log p.number) ≡ true → posted_as p.number old.posted + posted_as p.number old.later ≡ 0 → IsRepeatedOrLate after p
@@ -178,13 +181,13 @@ module _ {C : Type 0} (old : DeskMeaning C) (e : ℕ × Stray Posted) (front bac
           repeated_on old known old.later (front ++ back) more p
           (λ waits at is. elim (late-still p waits) [
             | inl same ↦ repeated_same after e.1.message p same (its-two (subst (λ (s : Sent). is_repeating (verdict_of old.log s.number) ≡ true) (sym same) repeats))
-            | inr left ↦ inl (left, at, is)
+            | inr left ↦ inl (left, (at, is))
           ])
           (track.repeated p one repeats gone)
 
 -- ---- the bag, as its strays are seen
 
-module _ {C N : Type 0} {G : Ghosts N CommitWorld} where
+module _ {N : Type 0} {G : Ghosts N CommitWorld} where
   -- What contracts see of a stray.
   abbrev pub seen : ℕ × Stray (Late N G) → ℕ × Stray Posted
   seen e = (e.0, straying e.1.due (posted_of e.1.message.message))
@@ -306,8 +309,7 @@ module _ {C N : Type 0} {G : Ghosts N CommitWorld} (mid new : DeskMeaning C) (ba
       → is_repeating (verdict_of mid.log it.number) ≡ true → (one : ℕ) × (one < done.step) × WasEvaluatedAt log-then it one
   twice-by None tells counted behind knows repeats = absurd (let two = repeats-two (verdict_of mid.log it.number) repeats in omega (arith, counted, two))
   twice-by (Some note) tells counted behind knows repeats =
-      let k : KnownEntry Event = known_entry (evaluation tells.0 it.range mid.log.part.id it.number tells.1) tells.2.place 0 in
-      (
+      let k : KnownEntry Event = known_entry (evaluation tells.0 it.range mid.log.part.id it.number tells.1) tells.2.place 0 in (
         tells.0,
         after_evaluation mid.log.part.id it.number it.range tells.0 tells.1 note.known done.step tells.2 behind,
         record { reply = tells.1; place = tells.2.place; knows = knows k (subst (λ l. Contains l k) (sym tells.2.tells) (contains_head k [])) },
@@ -363,11 +365,11 @@ module _ {C N : Type 0} {G : Ghosts N CommitWorld} (mid new : DeskMeaning C) (ba
       (λ plain. absurd (let bad : true ≡ false = sym of-bag.late ∙ (ap (λ n. is_late (verdict_of mid.log n)) of-bag.number ∙ plain) in cc bad))
     where
       -- What its first evaluation's note told.
-      abbrev first : List (KnownEntry Event)
+      first : List (KnownEntry Event)
       first = told_first (first_told e.1.message.first)
 
       -- What the note of its sending tells.
-      abbrev note : List (KnownEntry Event)
+      note : List (KnownEntry Event)
       note = e.1.message.message.note.known
 
       new-limit : new.range_limit ≡ mid.range_limit
@@ -401,7 +403,7 @@ module _ {C N : Type 0} {G : Ghosts N CommitWorld} (mid new : DeskMeaning C) (ba
           in-bag x = elim (cut-or-left (map seen cut-of.front) (map seen cut-of.back) (seen e) x.0 (subst (λ b. Contains b x.0) was-bag x.1)) [
             | inl here ↦ inl (ap (λ (y : ℕ × Stray Posted). y.1.message.number) here ∙ ap (λ (q : Posted). q.number) x.2)
             | inr left ↦ inr (Contains-append_right (new.posted ++ new.later) (map (λ (y : ℕ × Stray Posted). y.1.message) new.bag) p
-            (subst (Contains (map (λ (y : ℕ × Stray Posted). y.1.message) new.bag)) x.2 (contains_map (λ (y : ℕ × Stray Posted). y.1.message) new.bag x.0 (subst (λ b. Contains b x.0) (sym new-bag) left))))
+                (subst (Contains (map (λ (y : ℕ × Stray Posted). y.1.message) new.bag)) x.2 (contains_map (λ (y : ℕ × Stray Posted). y.1.message) new.bag x.0 (subst (λ b. Contains b x.0) (sym new-bag) left))))
           ]
 
       broken : HasBrokenOff mid new the-message

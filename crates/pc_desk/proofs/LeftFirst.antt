@@ -1,5 +1,5 @@
 -- The message of the least number, of those that wait, those that were set aside, and the bag.
-use Rattle.std.proofs.Common.{◌≡◌, ℕ, ◌+◌, ◌<◌, ◌≤◌, ◌&&◌, nat_le, cond, find, true, false, Bool, All, Contains, List, [], ◌∷◌, ◌++◌, length, map, slice_get, None, Option, Some, ⊤, refl, sym, ap, subst, ◌∙◌, arith}
+use Rattle.std.proofs.Common.{◌≡◌, ℕ, ◌+◌, ◌<◌, ◌≤◌, ◌&&◌, nat_le, cond, find, true, false, Bool, All, Contains, List, [], ◌∷◌, ◌++◌, length, map, slice_get, None, Option, Some, refl, sym, ap, subst, ◌∙◌, arith}
 use Rattle.std.proofs.lemmas.Bool.{ltb-false, ltb-true}
 use Rattle.std.proofs.lemmas.Bool.Decides.{nat_tests}
 use Rattle.std.proofs.lemmas.List.{append_assoc, map-append}
@@ -72,8 +72,8 @@ none-below-less : {X : Type 0} (n m : ℕ) (es : List (ℕ × X)) → n ≤ m �
 none-below-less {X} n m es low none = All-weaker (λ (e : ℕ × X). m ≤ e.0) (λ (e : ℕ × X). n ≤ e.0) (λ e above. omega (arith, low, above)) es none
 
 and-true : (b : Bool) → (b && true) ≡ false → b ≡ false
-and-true true no = no
-and-true false no = refl
+and-true true bad = bad
+and-true false bad = refl
 
 both-first : (a b : Bool) → (a && b) ≡ true → a ≡ true
 both-first true b is = refl
@@ -83,79 +83,81 @@ both-other : (a b : Bool) → (a && b) ≡ true → b ≡ true
 both-other true b is = is
 both-other false b is = absurd cc
 
-module _ {X Y Z : Type 0} (ws : List (ℕ × X)) (as : List (ℕ × Y)) (bs : List (ℕ × Z)) (sorted-ws : IsStrictlySortedBy nat_cmp (keys_of ws)) (sorted-as : IsStrictlySortedBy nat_cmp (keys_of as)) (sorted-bs : IsStrictlySortedBy nat_cmp (keys_of bs)) where
+module _ {X Y Z : Type 0} (ws : List (ℕ × X)) (aside : List (ℕ × Y)) (bs : List (ℕ × Z)) (sorted-ws : IsStrictlySortedBy nat_cmp (keys_of ws)) (sorted-aside : IsStrictlySortedBy nat_cmp (keys_of aside)) (sorted-bs : IsStrictlySortedBy nat_cmp (keys_of bs)) where
   -- where the bag's first comes first
-  pub stray_waiting : (n : ℕ) (z : Z) (rest : List (ℕ × Z)) → bs ≡ (n, z) ∷ rest → (comes_before (stray_of bs) (first_of ws) && comes_before (stray_of bs) (first_of as)) ≡ true → NoneBelow n ws
-  stray_waiting n z rest is first = before-these n ws sorted-ws (both-first (comes_before (Some n) (first_of ws)) (comes_before (Some n) (first_of as)) (subst (λ l. (comes_before (stray_of l) (first_of ws) && comes_before (stray_of l) (first_of as)) ≡ true) is first))
+  pub stray_waiting : (n : ℕ) (z : Z) (rest : List (ℕ × Z)) → bs ≡ (n, z) ∷ rest → (comes_before (stray_of bs) (first_of ws) && comes_before (stray_of bs) (first_of aside)) ≡ true → NoneBelow n ws
+  stray_waiting n z rest is first = before-these n ws sorted-ws (both-first (comes_before (Some n) (first_of ws)) (comes_before (Some n) (first_of aside)) (subst (λ l. (comes_before (stray_of l) (first_of ws) && comes_before (stray_of l) (first_of aside)) ≡ true) is first))
 
-  pub stray_aside : (n : ℕ) (z : Z) (rest : List (ℕ × Z)) → bs ≡ (n, z) ∷ rest → (comes_before (stray_of bs) (first_of ws) && comes_before (stray_of bs) (first_of as)) ≡ true → NoneBelow n as
-  stray_aside n z rest is first = before-these n as sorted-as (both-other (comes_before (Some n) (first_of ws)) (comes_before (Some n) (first_of as)) (subst (λ l. (comes_before (stray_of l) (first_of ws) && comes_before (stray_of l) (first_of as)) ≡ true) is first))
+  pub stray_aside : (n : ℕ) (z : Z) (rest : List (ℕ × Z)) → bs ≡ (n, z) ∷ rest → (comes_before (stray_of bs) (first_of ws) && comes_before (stray_of bs) (first_of aside)) ≡ true → NoneBelow n aside
+  stray_aside n z rest is first = before-these n aside sorted-aside (both-other (comes_before (Some n) (first_of ws)) (comes_before (Some n) (first_of aside)) (subst (λ l. (comes_before (stray_of l) (first_of ws) && comes_before (stray_of l) (first_of aside)) ≡ true) is first))
 
-  module _ (not_first : (comes_before (stray_of bs) (first_of ws) && comes_before (stray_of bs) (first_of as)) ≡ false) where
+  module _ (not_first : (comes_before (stray_of bs) (first_of ws) && comes_before (stray_of bs) (first_of aside)) ≡ false) where
     -- it does not come before the first that waits, or not before the first that was set aside; of both the lesser is not above it
     by-two : (one other : Option ℕ) → (comes_before (stray_of bs) one && comes_before (stray_of bs) other) ≡ false → (n : ℕ) → ((m : ℕ) → one ≡ Some m → n ≤ m) → ((m : ℕ) → other ≡ Some m → n ≤ m) → NoneBelow n bs
-    by-two one other not n below-one below-other = by bs refl
+    by-two one other never n below-one below-other = by bs refl
       where
         by : (es : List (ℕ × Z)) → es ≡ bs → NoneBelow n es
         by [] same = All-nil (λ (e : ℕ × Z). n ≤ e.0)
-        by (e ∷ es) same = above-head n e es (cases one other below-one below-other (subst (λ l. (comes_before (stray_of l) one && comes_before (stray_of l) other) ≡ false) (sym same) not)) (subst (λ l. IsStrictlySortedBy nat_cmp (keys_of l)) (sym same) sorted-bs)
+        by (e ∷ es) same = above-head n e es (cases one other below-one below-other (subst (λ l. (comes_before (stray_of l) one && comes_before (stray_of l) other) ≡ false) (sym same) never)) (subst (λ l. IsStrictlySortedBy nat_cmp (keys_of l)) (sym same) sorted-bs)
           where
             cases : (x y : Option ℕ) → ((m : ℕ) → x ≡ Some m → n ≤ m) → ((m : ℕ) → y ≡ Some m → n ≤ m) → (comes_before (Some e.0) x && comes_before (Some e.0) y) ≡ false → n ≤ e.0
-            cases None None p q no = absurd cc
-            cases None (Some y) p q no = let low : y ≤ e.0 = ltb-false e.0 y no in let m = q y refl in omega (arith, low, m)
-            cases (Some x) None p q no = let low : x ≤ e.0 = ltb-false e.0 x (and-true (comes_before (Some e.0) (Some x)) no) in let m = p x refl in omega (arith, low, m)
-            cases (Some x) (Some y) p q no = both (comes_before (Some e.0) (Some x)) refl
+            cases None None p q bad = absurd cc
+            cases None (Some y) p q bad = let low : y ≤ e.0 = ltb-false e.0 y bad in let m = q y refl in omega (arith, low, m)
+            cases (Some x) None p q bad = let low : x ≤ e.0 = ltb-false e.0 x (and-true (comes_before (Some e.0) (Some x)) bad) in let m = p x refl in omega (arith, low, m)
+            cases (Some x) (Some y) p q bad = both (comes_before (Some e.0) (Some x)) refl
               where
                 both : (b : Bool) → comes_before (Some e.0) (Some x) ≡ b → n ≤ e.0
                 both false is = let low : x ≤ e.0 = ltb-false e.0 x is in let m = p x refl in omega (arith, low, m)
                 both true is =
-                    let low : y ≤ e.0 = ltb-false e.0 y (subst (λ b. (b && comes_before (Some e.0) (Some y)) ≡ false) is no) in
+                    let low : y ≤ e.0 = ltb-false e.0 y (subst (λ b. (b && comes_before (Some e.0) (Some y)) ≡ false) is bad) in
                     let m = q y refl in omega (arith, low, m)
 
     -- where what was set aside comes first
-    pub aside_waiting : (n : ℕ) (y : Y) (rest : List (ℕ × Y)) → as ≡ (n, y) ∷ rest → comes_before (first_of as) (first_of ws) ≡ true → NoneBelow n ws
+    pub aside_waiting : (n : ℕ) (y : Y) (rest : List (ℕ × Y)) → aside ≡ (n, y) ∷ rest → comes_before (first_of aside) (first_of ws) ≡ true → NoneBelow n ws
     aside_waiting n y rest is first = before-these n ws sorted-ws (sym (ap (λ o. comes_before o (first_of ws)) (ap (λ l. first_of l) is ∙ head-from n (numbers rest))) ∙ first)
 
-    pub aside_bag : (n : ℕ) (y : Y) (rest : List (ℕ × Y)) → as ≡ (n, y) ∷ rest → comes_before (first_of as) (first_of ws) ≡ true → NoneBelow n bs
+    pub aside_bag : (n : ℕ) (y : Y) (rest : List (ℕ × Y)) → aside ≡ (n, y) ∷ rest → comes_before (first_of aside) (first_of ws) ≡ true → NoneBelow n bs
     aside_bag n y rest is first =
-        let head : first_of as ≡ Some n = ap (λ l. first_of l) is ∙ head-from n (numbers rest) in
-        by-two (first_of ws) (first_of as) not_first n (λ m at. below m (sym (ap (comes_before (first_of as)) at ∙ ap (λ o. comes_before o (Some m)) head) ∙ first)) (λ m at. let e : Some n ≡ Some m = sym head ∙ at in omega (arith, some-same n m e))
+        let head : first_of aside ≡ Some n = ap (λ l. first_of l) is ∙ head-from n (numbers rest) in
+        by-two (first_of ws) (first_of aside) not_first n (λ m at. below m (sym (ap (comes_before (first_of aside)) at ∙ ap (λ o. comes_before o (Some m)) head) ∙ first)) (λ m at. let e : Some n ≡ Some m = sym head ∙ at in omega (arith, some-same n m e))
       where
         below : (m : ℕ) → comes_before (Some n) (Some m) ≡ true → n ≤ m
         below m first = let low : n < m = ltb-true n m first in omega (arith, low)
+
         some-same : (a b : ℕ) → Some a ≡ Some b → a ≡ b
         some-same a b e = cc
 
     -- where it does not
-    pub waiting_aside : (n : ℕ) (x : X) (rest : List (ℕ × X)) → ws ≡ (n, x) ∷ rest → comes_before (first_of as) (first_of ws) ≡ false → NoneBelow n as
-    waiting_aside n x rest is first = first-least n as sorted-as (sym (ap (comes_before (first_of as)) (ap (λ l. first_of l) is ∙ head-from n (numbers rest))) ∙ first)
+    pub waiting_aside : (n : ℕ) (x : X) (rest : List (ℕ × X)) → ws ≡ (n, x) ∷ rest → comes_before (first_of aside) (first_of ws) ≡ false → NoneBelow n aside
+    waiting_aside n x rest is first = first-least n aside sorted-aside (sym (ap (comes_before (first_of aside)) (ap (λ l. first_of l) is ∙ head-from n (numbers rest))) ∙ first)
 
-    pub waiting_bag : (n : ℕ) (x : X) (rest : List (ℕ × X)) → ws ≡ (n, x) ∷ rest → comes_before (first_of as) (first_of ws) ≡ false → NoneBelow n bs
+    pub waiting_bag : (n : ℕ) (x : X) (rest : List (ℕ × X)) → ws ≡ (n, x) ∷ rest → comes_before (first_of aside) (first_of ws) ≡ false → NoneBelow n bs
     waiting_bag n x rest is first =
         let head : first_of ws ≡ Some n = ap (λ l. first_of l) is ∙ head-from n (numbers rest) in
-        by-two (first_of ws) (first_of as) not_first n (λ m at. let e : Some n ≡ Some m = sym head ∙ at in omega (arith, some-same n m e)) (λ m at. below m (sym (ap (comes_before (first_of as)) head ∙ ap (λ o. comes_before o (Some n)) at) ∙ first))
+        by-two (first_of ws) (first_of aside) not_first n (λ m at. let e : Some n ≡ Some m = sym head ∙ at in omega (arith, some-same n m e)) (λ m at. below m (sym (ap (comes_before (first_of aside)) head ∙ ap (λ o. comes_before o (Some n)) at) ∙ first))
       where
         below : (m : ℕ) → comes_before (Some m) (Some n) ≡ false → n ≤ m
         below m first = ltb-false m n first
+
         some-same : (a b : ℕ) → Some a ≡ Some b → a ≡ b
         some-same a b e = cc
 
     -- where none waits and none comes first, there is none
-    pub none_aside : ws ≡ [] → comes_before (first_of as) (first_of ws) ≡ false → as ≡ []
-    none_aside none first = by as refl
+    pub none_aside : ws ≡ [] → comes_before (first_of aside) (first_of ws) ≡ false → aside ≡ []
+    none_aside none first = by aside refl
       where
-        by : (es : List (ℕ × Y)) → es ≡ as → as ≡ []
+        by : (es : List (ℕ × Y)) → es ≡ aside → aside ≡ []
         by [] same = sym same
         by (e ∷ es) same =
-            absurd (let is : true ≡ false = sym (ap (λ y. comes_before y None) (head-from e.0 (numbers es))) ∙ (ap (λ l. comes_before (first_of l) None) same ∙ (sym (ap (λ l. comes_before (first_of as) (first_of l)) none) ∙ first)) in cc)
+            absurd (let is : true ≡ false = sym (ap (λ y. comes_before y None) (head-from e.0 (numbers es))) ∙ (ap (λ l. comes_before (first_of l) None) same ∙ (sym (ap (λ l. comes_before (first_of aside) (first_of l)) none) ∙ first)) in cc)
 
-    pub none_stray : ws ≡ [] → as ≡ [] → bs ≡ []
+    pub none_stray : ws ≡ [] → aside ≡ [] → bs ≡ []
     none_stray none other = by bs refl
       where
         by : (es : List (ℕ × Z)) → es ≡ bs → bs ≡ []
         by [] same = sym same
         by (e ∷ es) same =
-            absurd (let is : true ≡ false = ap (λ l. comes_before (stray_of l) None && comes_before (stray_of l) None) same ∙ (sym (ap (λ l. comes_before (stray_of bs) (first_of l) && comes_before (stray_of bs) (first_of as)) none ∙ ap (λ l. comes_before (stray_of bs) None && comes_before (stray_of bs) (first_of l)) other) ∙ not_first) in cc)
+            absurd (let is : true ≡ false = ap (λ l. comes_before (stray_of l) None && comes_before (stray_of l) None) same ∙ (sym (ap (λ l. comes_before (stray_of bs) (first_of l) && comes_before (stray_of bs) (first_of aside)) none ∙ ap (λ l. comes_before (stray_of bs) None && comes_before (stray_of bs) (first_of l)) other) ∙ not_first) in cc)
 
 -- ---- the first of what is left
 
@@ -206,4 +208,4 @@ stray_ready id splits verdict l ready = record { numbered = ready.numbered; whos
 
 -- in the end it was evaluated as often as its verdict says
 pub waiting_times : (id : ActorId) (splits : List (List ℕ)) (verdict : ℕ → Verdict) (w : WaitingMessage) → IsReadyToGo id splits verdict w → times_known (left_as w.key w.sender w.verdict w.posted) ≡ uses_by (verdict w.posted.number)
-waiting_times id splits verdict w ready = ap uses_by ready.ruled
+waiting_times id splits verdict w ready = let e : uses_by w.verdict ≡ uses_by (verdict w.posted.number) = ap uses_by ready.ruled in omega (arith, e)

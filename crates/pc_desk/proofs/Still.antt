@@ -38,7 +38,7 @@ module _ {C : Type 0} (d : DeskMeaning C) (known : List (KnownEntry Event)) (lat
   unheard_on m late is = record { one = is.one; why = is.why; dropped = dropped_on m late is.dropped }
 
   pub repeated_on : (m : Posted) → (IsLate d.bag m → (step : ℕ) → WasEvaluatedAt now.log m step → IsRepeatedOrLate now m) → IsRepeatedOrLate d m → IsRepeatedOrLate now m
-  repeated_on m late (inl waits) = late waits.0 waits.1 (evaluated_on m waits.1 waits.2)
+  repeated_on m late (inl waits) = late waits.0 waits.1.0 (evaluated_on m waits.1.0 waits.1.1)
   repeated_on m late (inr two) = inr (two.0, two.1, two.2, evaluated_on m two.0 two.3, evaluated_on m two.1 two.4)
 
   pub answered_on : (a : Answered) → IsAnsweredBy d.log a → IsAnsweredBy now.log a

@@ -44,11 +44,11 @@ repeated_same d m p same is = back (subst (λ (s : Sent). IsRepeatedOrLate d (po
     }
 
     forth : IsRepeatedOrLate d m → IsRepeatedOrLate d (posting m.number m.range m.request 0)
-    forth (inl waits) = inl (record { due = waits.0.due; uses = waits.0.uses; there = waits.0.there }, waits.1, evaluated m (posting m.number m.range m.request 0) waits.1 refl refl waits.2)
+    forth (inl waits) = inl (record { due = waits.0.due; uses = waits.0.uses; there = waits.0.there }, (waits.1.0, evaluated m (posting m.number m.range m.request 0) waits.1.0 refl refl waits.1.1))
     forth (inr two) = inr (two.0, two.1, two.2, evaluated m (posting m.number m.range m.request 0) two.0 refl refl two.3, evaluated m (posting m.number m.range m.request 0) two.1 refl refl two.4)
 
     back : IsRepeatedOrLate d (posting p.number p.range p.request 0) → IsRepeatedOrLate d p
-    back (inl waits) = inl (record { due = waits.0.due; uses = waits.0.uses; there = waits.0.there }, waits.1, evaluated (posting p.number p.range p.request 0) p waits.1 refl refl waits.2)
+    back (inl waits) = inl (record { due = waits.0.due; uses = waits.0.uses; there = waits.0.there }, (waits.1.0, evaluated (posting p.number p.range p.request 0) p waits.1.0 refl refl waits.1.1))
     back (inr two) = inr (two.0, two.1, two.2, evaluated (posting p.number p.range p.request 0) p two.0 refl refl two.3, evaluated (posting p.number p.range p.request 0) p two.1 refl refl two.4)
 
 -- a stray's number is its message's
@@ -115,7 +115,7 @@ module _ {C : Type 0} (old : DeskMeaning C) (m : Posted) (rest : List Posted) (t
                 let same : m.number ≡ p.number = eqb-true m.number p.number is in
                 repeated_same after m p (the-one p one same) (twice (subst (λ n. is_repeating (verdict_of old.log n) ≡ true) (sym same) repeats))
             by false is =
-                repeated_on old known rest bag more p (λ waits step was. inl (kept p waits, step, was))
+                repeated_on old known rest bag more p (λ waits step was. inl (kept p waits, (step, was)))
                 (track.repeated p one repeats (omega (arith, gone, count-later p.number, ap one_if is)))
 
     has-dropped : KeepsTrack after → ((e : ℕ × Stray Posted) → Contains old.bag e → Contains bag e) → ((e : ℕ × Stray Posted) → Contains bag e → Contains old.bag e ⊎ (Contains (map as_sent old.later) (as_sent e.1.message) × (is_late (verdict_of old.log e.0) ≡ true))) → HasDroppedFirst old after
@@ -140,7 +140,7 @@ module _ {C : Type 0} (old : DeskMeaning C) (m : Posted) (rest : List Posted) (t
         in-bag (λ e there. All-contains (λ x. Contains old.bag x ⊎ (Contains (map as_sent old.later) (as_sent x.1.message) × (is_late (verdict_of old.log x.0) ≡ true))) bag e put there)
       where
         -- What was put there.
-        abbrev it : Posted
+        it : Posted
         it = posting m.number m.range m.request uses
 
         in-bag : (e : ℕ × Stray Posted) → Contains old.bag e → Contains bag e
@@ -192,12 +192,15 @@ module _ {C N : Type 0} {G : Ghosts N CommitWorld} (old : DeskMeaning C) (messag
       let bag-is : with_copy errand.sequel.copy old.bag ≡ with_late of.copy.due (posting message.number message.range message.request uses) old.bag =
       ap (λ (c : Option (Stray (Message N G))). with_copy c old.bag) of.there ∙ ap (λ (p : Posted). with_late of.copy.due p old.bag) it in
       left-late old (posted_of message) rest track first known (with_copy errand.sequel.copy old.bag) more of.copy.due uses bag-is (sym (ap is_late is)) log (inr (inr (step, was)))
-      (λ repeats. inl (record {
-        due = of.copy.due;
-        uses = uses;
-        there = subst (λ b. Contains b (message.number, straying of.copy.due (posting message.number message.range message.request uses))) (sym bag-is)
-            (insert_has message.number (straying of.copy.due (posting message.number message.range message.request uses)) old.bag (free old (posted_of message) rest track first));
-      }, step, was))
+      (λ repeats. inl (
+        record {
+          due = of.copy.due;
+          uses = uses;
+          there = subst (λ b. Contains b (message.number, straying of.copy.due (posting message.number message.range message.request uses))) (sym bag-is)
+              (insert_has message.number (straying of.copy.due (posting message.number message.range message.request uses)) old.bag (free old (posted_of message) rest track first));
+        },
+        (step, was),
+      ))
   stray_evaluated verdicts.LoseRequest errand is of log was = absurd of
   stray_evaluated (verdicts.Hold sends) errand is of log was = absurd of
 
@@ -211,21 +214,24 @@ drops_none d track = record { own = refl; rest = refl; kept = λ e there. there;
 pub drops_more : {C : Type 0} (a b d : DeskMeaning C) → HasDropped a b → ((p : Posted) → Contains b.later p → Contains a.later p) → HasDroppedFirst b d → b.posted ≡ [] → HasDropped a d × (d.posted ≡ []) × ((p : Posted) → Contains d.later p → Contains a.later p)
 drops_more {C} a b d x from first none =
     let y = first.dropped in
-    let wire : b.log.wire ≡ a.log.wire = ap (λ (l : LogMeaning C). l.wire) x.own in
-    (record {
-      own = y.own ∙ ap (λ (l : LogMeaning C). record l { part = record l.part { known = d.log.part.known } }) x.own;
-      rest = y.rest ∙ ap (λ (e : DeskMeaning C). record e { log = d.log; later = d.later; bag = d.bag }) x.rest;
-      kept = λ e there. y.kept e (x.kept e there);
-      put = λ e there. elim (y.put e there) [
-        | inl was ↦ x.put e was
-        | inr put ↦ inr (
-          let it = contains_in_map as_sent b.later (as_sent e.1.message) put.0 in subst (Contains (map as_sent a.later)) it.2 (contains_map as_sent a.later it.0 (from it.0 it.1)),
-          subst (λ w. is_late (verdict_of (record a.log { wire = w }) e.0) ≡ true) wire put.1,
-        )
-      ];
-      more = λ k there. y.more k (x.more k there);
-      track = y.track;
-    }, ap (λ (e : DeskMeaning C). e.posted) y.rest ∙ none, λ p there. from p (subst (λ l. Contains l p) (sym first.taken) (contains_tail first.first d.later p there)))
+    let wire : b.log.wire ≡ a.log.wire = ap (λ (l : LogMeaning C). l.wire) x.own in (
+      record {
+        own = y.own ∙ ap (λ (l : LogMeaning C). record l { part = record l.part { known = d.log.part.known } }) x.own;
+        rest = y.rest ∙ ap (λ (e : DeskMeaning C). record e { log = d.log; later = d.later; bag = d.bag }) x.rest;
+        kept = λ e there. y.kept e (x.kept e there);
+        put = λ e there. elim (y.put e there) [
+          | inl was ↦ x.put e was
+          | inr put ↦ inr (
+            let it = contains_in_map as_sent b.later (as_sent e.1.message) put.0 in subst (Contains (map as_sent a.later)) it.2 (contains_map as_sent a.later it.0 (from it.0 it.1)),
+            subst (λ w. is_late (verdict_of (record a.log { wire = w }) e.0) ≡ true) wire put.1,
+          )
+        ];
+        more = λ k there. y.more k (x.more k there);
+        track = y.track;
+      },
+      ap (λ (e : DeskMeaning C). e.posted) y.rest ∙ none,
+      λ p there. from p (subst (λ l. Contains l p) (sym first.taken) (contains_tail first.first d.later p there)),
+    )
 
 -- so fewer are aside
 pub fewer_aside : {C : Type 0} (old new : DeskMeaning C) → HasDroppedFirst old new → length new.later < length old.later

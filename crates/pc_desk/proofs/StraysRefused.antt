@@ -1,5 +1,5 @@
 -- The first of what was set aside is delivered as a stray, and its range, which is full, refuses it.
-use Rattle.std.proofs.Common.{◌≡◌, ℕ, ◌<◌, ◌≤◌, ◌⊎◌, false, All, Contains, inl, inr, List, [], ◌∷◌, ◌++◌, length, map, None, Option, Some, refl, sym, ap, subst, ◌∙◌}
+use Rattle.std.proofs.Common.{◌≡◌, ℕ, ◌<◌, ◌≤◌, ◌⊎◌, true, false, All, Contains, inl, inr, List, [], ◌∷◌, ◌++◌, length, map, None, Option, Some, refl, sym, ap, subst, ◌∙◌}
 use Rattle.std.proofs.lemmas.List.{append-nil, append_assoc}
 use Rattle.std.proofs.lemmas.List.Elements.{All-head, All-nil, Contains-append_cases, Contains-append_left, Contains-append_right}
 use Rattle.pc_desk.proofs.Ending.{HasBrokenOff, ended_full}
@@ -63,15 +63,15 @@ module _ {C N : Type 0} {G : Ghosts N CommitWorld} (old new : DeskMeaning C) (me
   ended-back back = ended_full old new m track broken its-one given (λ plain. inside)
     where
       -- What the note of its sending tells.
-      abbrev note : List (KnownEntry Event)
+      note : List (KnownEntry Event)
       note = errand.message.note.known
 
       -- What the actor knows beside its copy's note.
-      abbrev known-first : List (KnownEntry Event)
+      known-first : List (KnownEntry Event)
       known-first = (old.log.part.known ++ back.last) ++ note
 
       -- The desk that it left.
-      abbrev left-desk : List (KnownEntry Event) → DeskMeaning C
+      left-desk : List (KnownEntry Event) → DeskMeaning C
       left-desk ks = record taken-aside { log = record old.log { part = record old.log.part { known = ks }; stopped = true } }
 
       new-is : new ≡ left-desk (known-first ++ copy_note errand.sequel.copy)
@@ -81,7 +81,7 @@ module _ {C N : Type 0} {G : Ghosts N CommitWorld} (old new : DeskMeaning C) (me
       known-is = ap (λ (d : DeskMeaning C). d.log.part.known) new-is
 
       -- What the actor is once it took both notes.
-      abbrev part-first : Part Event
+      part-first : Part Event
       part-first = record old.log.part { known = known-first }
 
       given-first : WasGivenBack old.range_limit part-first (as_sent (posted_of errand.message))
@@ -101,7 +101,7 @@ module _ {C N : Type 0} {G : Ghosts N CommitWorld} (old new : DeskMeaning C) (me
       bag-same = ap (λ (d : DeskMeaning C). d.bag) new-is
 
       -- The messages in a bag.
-      abbrev in-bag : List (ℕ × Stray Posted) → List Posted
+      in-bag : List (ℕ × Stray Posted) → List Posted
       in-bag bag = map (λ (x : ℕ × Stray Posted). x.1.message) bag
 
       first-ones : (p : Posted) → Contains (old.posted ++ old.later) p → (m ≡ p) ⊎ Contains (new.posted ++ new.later) p

@@ -182,13 +182,34 @@ part-more all beside left left_beside done done_beside x y part = record {
 
 -- the next of both, of lists that go beside each other
 pub zip-next : {X Y : Type 0} (R : X → Y → Type 0) (all : List X) (beside : List Y) (left : List X) (left_beside : List Y) (done : List X) (done_beside : List Y) → AllZip R all beside → IsPart all beside left left_beside done done_beside → AllZip R left left_beside
-zip-next R all beside left left_beside done done_beside zips part = drop-front done done_beside part.same (subst (λ l. AllZip R l (done_beside ++ left_beside)) part.whole (subst (AllZip R all) part.whole_beside zips))
+zip-next {X} {Y} R all beside left left_beside done done_beside zips part = drop-front done done_beside part.same (subst (λ l. AllZip R l (done_beside ++ left_beside)) part.whole (subst (AllZip R all) part.whole_beside zips))
   where
     drop-front : (xs : List X) (ys : List Y) → length xs ≡ length ys → AllZip R (xs ++ left) (ys ++ left_beside) → AllZip R left left_beside
     drop-front [] [] same zips = zips
     drop-front [] (y ∷ ys) same zips = absurd cc
     drop-front (x ∷ xs) [] same zips = absurd cc
     drop-front (x ∷ xs) (y ∷ ys) same zips = drop-front xs ys (let e = same in omega (arith, e)) zips.1
+
+none-left : {X : Type 0} (done left : List X) → left ≡ [] → done ++ left ≡ done
+none-left done left none = ap (λ l. done ++ l) none ∙ append-nil done
+
+module _ {N : Type 0} {G : Ghosts N CommitWorld} where
+  -- one reply is kept, or dropped, beside what came of it
+  kept-answer : (rs : List Answered) (r : ReplyMsg N) (s : Sequel N G) → kept_by s.is_heard (answered_by r) rs ≡ rs ++ answers_in (Ok r ∷ []) (s ∷ [])
+  kept-answer rs r s = by s.is_heard
+    where
+      by : (b : Bool) → kept_by b (answered_by r) rs ≡ rs ++ cond b (answered_by r ∷ []) []
+      by true = refl
+      by false = sym (append-nil rs)
+
+  -- where no outcome is left, no sequel is
+  none-beside : (all left : List (Result (ReplyMsg N) (ServeFault N G))) (sequels left_sequels : List (Sequel N G)) (done : List (Result (ReplyMsg N) (ServeFault N G))) (done_sequels : List (Sequel N G)) → length all ≡ length sequels → IsPart all sequels left left_sequels done done_sequels → left ≡ [] → left_sequels ≡ []
+  none-beside all left sequels left_sequels done done_sequels same part none = by left_sequels
+      (let a = ap length part.whole ∙ length-append done left in let b = ap length part.whole_beside ∙ length-append done_sequels left_sequels in let n : length left ≡ 0 = ap length none in let p = part.same in omega (arith, a, b, n, p, same))
+    where
+      by : (ss : List (Sequel N G)) → length ss ≡ 0 → ss ≡ []
+      by [] is = refl
+      by (s ∷ ss) is = absurd (omega (arith, is))
 
 module _ {C N : Type 0} {G : Ghosts N CommitWorld} where
   learnt-one : (old mid new : DeskMeaning C) (os : List (Result (ReplyMsg N) (ServeFault N G))) (ss : List (Sequel N G)) (o : Result (ReplyMsg N) (ServeFault N G)) (s : Sequel N G) → HasTakenAllIn old mid os ss → ((k : KnownEntry Event) → Contains mid.log.part.known k → Contains new.log.part.known k) → KnowsOutcome new.log.part o s
@@ -213,14 +234,6 @@ module _ {C N : Type 0} {G : Ghosts N CommitWorld} where
     kept = record { rest = ap (λ rs. record old { replies = rs }) (sym (append-nil old.replies)); learnt = record { more = λ k there. there; knows = tt }; log = log };
   }
 
-  -- one reply is kept, or dropped, beside what came of it
-  kept-answer : (rs : List Answered) (r : ReplyMsg N) (s : Sequel N G) → kept_by s.is_heard (answered_by r) rs ≡ rs ++ answers_in (Ok r ∷ []) (s ∷ [])
-  kept-answer rs r s = by s.is_heard
-    where
-      by : (b : Bool) → kept_by b (answered_by r) rs ≡ rs ++ cond b (answered_by r ∷ []) []
-      by true = refl
-      by false = sym (append-nil rs)
-
   pub kept_one : (old mid new : DeskMeaning C) (all left : List (Result (ReplyMsg N) (ServeFault N G))) (sequels left_sequels : List (Sequel N G)) (r : ReplyMsg N) (s : Sequel N G) → KeptSoFar old mid all (Ok r ∷ left) sequels (s ∷ left_sequels)
       → HasTakenReply mid new (answered_by r) (without_uses 0 r.note.known) s → without_uses 0 r.note.known ≡ r.note.known → KeptSoFar old new all left sequels left_sequels
   kept_one old mid new all left sequels left_sequels r s so_far took same = record {
@@ -242,27 +255,15 @@ module _ {C N : Type 0} {G : Ghosts N CommitWorld} where
   }
     where
       -- What its note tells.
-      abbrev note : List (KnownEntry Event)
+      note : List (KnownEntry Event)
       note = without_uses 0 r.note.known
 
       -- The desk, as it is then.
-      abbrev desk-then : List (KnownEntry Event) → List Answered → List (ℕ × Stray Posted) → DeskMeaning C
+      desk-then : List (KnownEntry Event) → List Answered → List (ℕ × Stray Posted) → DeskMeaning C
       desk-then ks rs b = record old { log = record old.log { part = record old.log.part { known = ks } }; replies = rs; bag = b }
 
       known-now : new.log.part.known ≡ mid.log.part.known ++ note
       known-now = ap (λ (d : DeskMeaning C). d.log.part.known) took.rest
-
-  none-left : {X : Type 0} (done left : List X) → left ≡ [] → done ++ left ≡ done
-  none-left done left none = ap (λ l. done ++ l) none ∙ append-nil done
-
-  -- where no outcome is left, no sequel is
-  none-beside : (all left : List (Result (ReplyMsg N) (ServeFault N G))) (sequels left_sequels : List (Sequel N G)) (done : List (Result (ReplyMsg N) (ServeFault N G))) (done_sequels : List (Sequel N G)) → length all ≡ length sequels → IsPart all sequels left left_sequels done done_sequels → left ≡ [] → left_sequels ≡ []
-  none-beside all left sequels left_sequels done done_sequels same part none = by left_sequels
-      (let a = ap length part.whole ∙ length-append done left in let b = ap length part.whole_beside ∙ length-append done_sequels left_sequels in let n : length left ≡ 0 = ap length none in let p = part.same in omega (arith, a, b, n, p, same))
-    where
-      by : (ss : List (Sequel N G)) → length ss ≡ 0 → ss ≡ []
-      by [] is = refl
-      by (s ∷ ss) is = absurd (omega (arith, is))
 
   pub kept_all : (old now : DeskMeaning C) (all left : List (Result (ReplyMsg N) (ServeFault N G))) (sequels left_sequels : List (Sequel N G)) → length all ≡ length sequels → left ≡ [] → KeptSoFar old now all left sequels left_sequels → HasKeptAll old now all sequels
   kept_all old now all left sequels left_sequels same none so_far =
@@ -308,3 +309,25 @@ zip-long R [] [] zips = refl
 zip-long R [] (y ∷ ys) zips = absurd zips
 zip-long R (x ∷ xs) [] zips = absurd zips
 zip-long R (x ∷ xs) (y ∷ ys) zips = ap suc (zip-long R xs ys zips.1)
+
+-- ---- one outcome
+
+module _ {C N : Type 0} {G : Ghosts N CommitWorld} where
+  -- the actor took a note, and a copy went into the bag, if there was one
+  took-in : (old new : DeskMeaning C) (o : Result (ReplyMsg N) (ServeFault N G)) (s : Sequel N G) (note : List (KnownEntry Event)) (bag : List (ℕ × Stray Posted)) → new ≡ record old { log = record old.log { part = told note old.log.part }; bag = bag } → bag ≡ bag_with (o ∷ []) (s ∷ []) old.bag
+      → (((k : KnownEntry Event) → Contains note k → Contains new.log.part.known k) → KnowsOutcome new.log.part o s) → HasTakenIn old new o s
+  took-in old new o s note bag took same knows = record {
+    rest = took ∙ (ap (λ ks. record old { log = record old.log { part = record old.log.part { known = ks } }; bag = bag }) (sym known-now) ∙ ap (λ b. record old { log = record old.log { part = record old.log.part { known = new.log.part.known } }; bag = b }) same);
+    more = λ k there. subst (λ l. Contains l k) (sym known-now) (Contains-append_left old.log.part.known note k there);
+    knows = knows (λ k there. subst (λ l. Contains l k) (sym known-now) (Contains-append_right old.log.part.known note k there));
+  }
+    where
+      known-now : new.log.part.known ≡ old.log.part.known ++ note
+      known-now = ap (λ (d : DeskMeaning C). d.log.part.known) took
+
+  -- a reply is taken in
+  pub taken_in_reply : (old mid new : DeskMeaning C) (o : Result (ReplyMsg N) (ServeFault N G)) (r : ReplyMsg N) (s : Sequel N G) (note : List (KnownEntry Event)) → o ≡ Ok r → mid ≡ record old { bag = with_copy s.copy old.bag } → note ≡ r.note.known
+      → new ≡ record mid { log = record mid.log { part = told note mid.log.part } } → HasTakenIn old new o s
+  taken_in_reply old mid new o r s note is copied same took =
+      subst (λ x. HasTakenIn old new x s) (sym is)
+      (took-in old new (Ok r) s note (with_copy s.copy old.bag) (took ∙ ap (λ (d : DeskMeaning C). record d { log = record d.log { part = told note d.log.part } }) copied) refl (λ all k there. all k (subst (λ l. Contains l k) (sym same) there)))
