@@ -1,5 +1,5 @@
 -- What a session knows after messages of conflicts' rounds and of finishing jobs alone, and how its coordinator stands beside it.
-use Rattle.std.specs.Prelude.{◌≡◌, ℕ, ◌+◌, ◌≤◌, ◌⊎◌, max, true, false, None, Some, List, [], ◌++◌, All, IsTrue, length, map}
+use Rattle.std.specs.Prelude.{◌≡◌, ℕ, ◌+◌, ◌≤◌, ◌⊎◌, max, Bool, true, false, None, Some, List, [], ◌++◌, All, length, map}
 use Rattle.pc_coord.specs.Beside.{IsLaterBeside, KeepsTxns}
 use Rattle.pc_coord.specs.Coordination.{Coordination}
 use Rattle.pc_coord.specs.Ranged.{WentToOneRange}
@@ -55,7 +55,7 @@ pub record IsLaterAside (session : ℕ) (start k : Known) (ts : ℕ) : Type 0 wh
   pub top : start.top ≤ k.top
   pub below : ts ≤ k.top
 
--- The coordinator, whose session knew `start`, may go on beside it: it has to hear of no greater timestamp than this.
-pub record MayGoOnBeside (c : Coordination) (start k : Known) (ts : ℕ) : Type 0 where
-  pub later : IsLaterBeside true c start k
+-- The coordinator, whose session knew `start`, may go on beside it, whether messages may be lost or not: it has to hear of no greater timestamp than this.
+pub record MayGoOnBeside (loses : Bool) (c : Coordination) (start k : Known) (ts : ℕ) : Type 0 where
+  pub later : IsLaterBeside loses c start k
   pub clock : max c.clock ts ≡ k.high
