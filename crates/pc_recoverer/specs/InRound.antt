@@ -4,7 +4,7 @@ use Rattle.pc_base.specs.declared.actor.ActorId.{ActorId}
 use Rattle.pc_base.specs.declared.actor.ActorId.TheVariants as actors
 use Rattle.pc_base.specs.declared.transaction.TxnId.{TxnId}
 use Rattle.pc_desk.specs.Desk.{DeskMeaning, HasSentNext}
-use Rattle.pc_desk.specs.OwnLog.{LogMeaning}
+use Rattle.pc_desk.specs.OwnLog.{LogMeaning, verdict_of}
 use Rattle.pc_exchange.specs.Exchange.{HasLostAll, WasExchanged}
 use Rattle.pc_exchange.specs.Growing.{HasAllBack, HasGoneBeside}
 use Rattle.pc_history.specs.declared.pair.Pair.{Pair}
@@ -70,7 +70,7 @@ pub record IsMakingRound {C : Type 0} (maker : RoundMaker) (d : DeskMeaning C) :
 
 -- What becomes of the messages of this list, and how often in a row it sends one that is lost.
 abbrev pub sending_of : {C : Type 0} → LogMeaning C → Sending
-sending_of l = record { verdict = l.verdict; tries = l.tries }
+sending_of l = record { verdict = verdict_of l; tries = l.tries }
 
 -- The recoverer exchanged these messages, and did nothing else: it is in its round still.
 pub record HasMadeTraffic {C : Type 0} (old new : DeskMeaning C) (traffic : List RoundMessage) : Type 0 where
