@@ -1,10 +1,5 @@
 -- One message that is sent, evaluated and heard, before the next; while nothing is heard of it, it is sent again.
-<<<<<<< HEAD
 use Rattle.std.specs.Prelude.{◌≡◌, ℕ, ◌+◌, ◌<◌, true, false, None, Some, List, [], ◌∷◌, length}
-=======
-use Rattle.std.specs.Prelude.{◌≡◌, ℕ, ◌+◌, ◌<◌, true, false, None, Some, List, [], ◌∷◌, ◌++◌, length}
-use Rattle.pc_desk.specs.OwnLog.{verdict_of}
->>>>>>> 4bfa858ea550363928c447208fd69d52ad2d1b6f
 use Rattle.pc_base.specs.declared.actor.ActorId.{ActorId}
 use Rattle.pc_desk.specs.declared.answered.Answered.{Answered}
 use Rattle.pc_desk.specs.Desk.{DeskMeaning, HasHeardFirst, KeepsTrack, MaySendNow}
@@ -56,14 +51,10 @@ AreLostSends id verdict request number (p ∷ ps) =
 pub record HasLostSome {C : Type 0} (old new : DeskMeaning C) (request : Request) : Type 0 where
   pub lost : List (Pair Event)
   pub unheard : AreLostSends old.log.part.id (verdict_of old.log) request (next_number (known_of old.log.part.own)) lost
-<<<<<<< HEAD
   pub goes : HasGoneBeside old new lost
 
 -- The actor sent this message once more under its next number, some range evaluated it, and the actor heard this reply, of the message's kind.
 pub record WasExchangedOnce {C : Type 0} (old new : DeskMeaning C) (request : Request) (reply : Reply) : Type 0 where
-=======
-  pub few : length lost < old.log.tries
->>>>>>> 4bfa858ea550363928c447208fd69d52ad2d1b6f
   pub range : ℕ
   pub evaluated_by : ℕ
   pub sent_at : ℕ
@@ -85,7 +76,6 @@ pub record WasExchanged {C : Type 0} (old new : DeskMeaning C) (request : Reques
 
 -- The actor sent this message just as often as its tries, and heard nothing of it.
 pub record HasLostAll {C : Type 0} (old new : DeskMeaning C) (request : Request) : Type 0 where
-<<<<<<< HEAD
   pub some : HasLostSome old new request
   pub all : length some.lost ≡ old.log.tries
 
@@ -93,18 +83,6 @@ pub record HasLostAll {C : Type 0} (old new : DeskMeaning C) (request : Request)
 pub record HasLostOne {C : Type 0} (old new : DeskMeaning C) (request : Request) : Type 0 where
   pub some : HasLostSome old new request
   pub one : length some.lost ≡ 1
-=======
-  pub lost : List (Pair Event)
-  pub unheard : AreLostSends old.log.part.id (verdict_of old.log) request (next_number (known_of old.log.part.own)) lost
-  pub all : length lost ≡ old.log.tries
-  pub goes : HasGoneBeside old new lost
-
--- The actor sent this message once, and heard nothing of it.
-pub record HasLostOne {C : Type 0} (old new : DeskMeaning C) (request : Request) : Type 0 where
-  pub lost : Pair Event
-  pub unheard : AreLostSends old.log.part.id (verdict_of old.log) request (next_number (known_of old.log.part.own)) (lost ∷ [])
-  pub goes : HasGoneBeside old new (lost ∷ [])
->>>>>>> 4bfa858ea550363928c447208fd69d52ad2d1b6f
 
 -- One message of the actor was delivered: its reply waits to be heard, or it was lost.
 pub record HasOneOut {C : Type 0} (d : DeskMeaning C) : Type 0 where

@@ -1,10 +1,5 @@
 -- A finishing job of a session: each lock of its transaction is settled, and then the record removed.
-<<<<<<< HEAD
 use Rattle.std.specs.Prelude.{◌≡◌, ℕ, ◌≤◌, ◌⊎◌, true, false, None, Some, List, ◌∷◌, All}
-=======
-use Rattle.std.specs.Prelude.{◌≡◌, ℕ, ◌≤◌, ◌⊎◌, true, None, Some, List, ◌∷◌, All}
-use Rattle.pc_desk.specs.OwnLog.{verdict_of}
->>>>>>> 4bfa858ea550363928c447208fd69d52ad2d1b6f
 use Rattle.pc_base.specs.declared.actor.ActorId.TheVariants as actors
 use Rattle.pc_coord.specs.Coordination.{Coordination}
 use Rattle.pc_coord.specs.declared.job.Job.{Job}
@@ -59,10 +54,5 @@ pub record HasFinishedJob {C : Type 0} (old new : DeskMeaning C) (job : Job) (ts
   pub part : List (Pair Event)
   pub goes : HasGoneBeside old new part
   pub made : IsJobMade session (known_of old.log.part.own) (known_of new.log.part.own) ts
-<<<<<<< HEAD
   pub heard : All (λ m. IsHeardOrPut (known_of new.log.part.own).heard m ⊎ (is_losing (verdict_of new.log m.number) ≡ true)) (known_of new.log.part.own).sent
   pub quiet : LosesNothing (verdict_of old.log) → IsJobDone session old.log.part.own new.log.part.own job ts
-=======
-  pub done : jobs_of old.log.part.own ≡ messages_of_job job ∷ jobs_of new.log.part.own
-  pub heard : All (λ m. IsHeardOrPut (known_of new.log.part.own).heard m ⊎ (is_losing (verdict_of new.log m.number) ≡ true)) (known_of new.log.part.own).sent
->>>>>>> 4bfa858ea550363928c447208fd69d52ad2d1b6f
