@@ -2,7 +2,6 @@
 use Rattle.std.specs.Prelude.{◌≡◌, ℕ, ◌+◌, ◌≤◌, ◌⊎◌, max, Bool, true, false, None, Some, List, [], ◌++◌, All, length, map}
 use Rattle.pc_coord.specs.Beside.{IsLaterBeside, KeepsTxns}
 use Rattle.pc_coord.specs.Coordination.{Coordination}
-use Rattle.pc_coord.specs.Ranged.{WentToOneRange}
 use Rattle.pc_proto.specs.declared.request.Request.{Request}
 use Rattle.pc_proto.specs.Requests.{is_about, is_commit}
 use Rattle.pc_proto.specs.Stamps.{request_stamps}
@@ -44,7 +43,6 @@ pub record IsLaterAside (session : ℕ) (start k : Known) (ts : ℕ) : Type 0 wh
   pub heard_now : k.heard_now ≡ start.heard_now ++ heard_more
   pub sent_aside : All (λ m. IsAside session start m.request) sent_more
   pub heard_aside : All (λ h. IsAside session start h.request) heard_more
-  pub one_range : WentToOneRange k
   pub sent_first : All (λ m. length start.sent + 1 ≤ m.number) sent_more
   pub heard_first : All (λ h. length start.sent + 1 ≤ h.number) heard_more
   pub sent_numbers : All (λ m. m.number ≤ length k.sent) sent_more

@@ -29,7 +29,7 @@ pub fn exchange<N: Named<CommitWorld>, C: Clock, V: Wire, G: Gate, R: Wait>(
     ensures err { IfErr result (HasHalted desk.old desk.new) }
     ensures ended { IfErr result (BreaksOff (All IsInBetween) desk.old desk.new) }
 {
-    for _ in 0..desk.tries() {
+    for _sending in 0..desk.tries() {
         let copy = match request.copy() {
             Ok(copy) => copy,
             Err(NoMemory) => return Err(desk.want_memory()),
