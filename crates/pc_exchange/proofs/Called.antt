@@ -148,8 +148,8 @@ now-after k (events.Tell answer) named a s = now-same k a
 now-after k (events.Meet id step) named a s = now-same k a
 
 module _ (head : Head) (actor : ActorId) (client : IsNoRange actor) where
-  may-do : (own : List (Pair Event)) (event : Event) (named : Option (Entry Event)) → MayComeNext head actor own event named → MayDo head actor (known_of own) event
-  may-do own event named may = by actor client may
+  pub may_do : (own : List (Pair Event)) (event : Event) (named : Option (Entry Event)) → MayComeNext head actor own event named → MayDo head actor (known_of own) event
+  may_do own event named may = by actor client may
     where
       by : (actor : ActorId) → IsNoRange actor → MayComeNext head actor own event named → MayDo head actor (known_of own) event
       by (actors.Session number) client may = may
@@ -166,7 +166,7 @@ module _ (head : Head) (actor : ActorId) (client : IsNoRange actor) where
             let next : MayComeNext head actor (own (protocol head) actor history) e.event named =
             subst (λ (a : ActorId). MayComeNext head a (own (protocol head) a history) e.event named) same may.local.next in
             subst Since (sym (known_same head actor history e same))
-            (now-after k e.event named before (steps-of head actor k e.event before (may-do (own (protocol head) actor history) e.event named next)))
+            (now-after k e.event named before (steps-of head actor k e.event before (may_do (own (protocol head) actor history) e.event named next)))
         | inr differ ↦ subst Since (sym (known_other head actor history e differ)) before
       ])
 

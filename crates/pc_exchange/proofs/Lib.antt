@@ -32,6 +32,7 @@ pub mod Recovering
 pub mod Rounding
 pub mod Rounds
 pub mod RowsDecide
+pub mod SameRange
 pub mod ShownStages
 pub mod Silent
 pub mod StagesPast
