@@ -43,7 +43,7 @@ IsItsCopy verdict message (Some stray) = IsCopyFor verdict message stray.message
 -- The copy, if there is one, may go into the bag beside what this note tells.
 abbrev pub MayBeKept : {C N : Type 0} {G : Ghosts N CommitWorld} → LogMeaning C → Option (Stray (Message N G)) → List (KnownEntry Event) → Type 0
 MayBeKept log None note = ⊤
-MayBeKept log (Some stray) note = IsReadyLate log.part.id log.head.splits (verdict_of log) (late_as stray.message.number stray.message.sender (posted_of stray.message) (with_uses 0 note))
+MayBeKept log (Some stray) note = IsReadyLate log.part.id log.head.splits (verdict_of log) (late_as stray.message.number stray.message.sender (posted_of stray.message) (Some (with_uses 0 note)))
 
 -- The message is evaluated and heard, and a copy is due late by so many sends.
 pub record IsRepeated {N : Type 0} {G : Ghosts N CommitWorld} (message : Message N G) (sends : ℕ) (errand : Errand N G) : Type 0 where

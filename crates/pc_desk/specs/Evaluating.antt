@@ -15,7 +15,7 @@ use Rattle.pc_history.specs.Parts.{told}
 use Rattle.pc_proto.specs.declared.event.Event.{Event}
 use Rattle.pc_range.specs.declared.commit_world.CommitWorld.{CommitWorld}
 use Rattle.pc_range.specs.declared.message.Message.{Message}
-use Rattle.pc_range.specs.Message.{IsFullNote, evaluation}
+use Rattle.pc_range.specs.Message.{ComesAfter, IsFullNote, evaluation}
 use Rattle.pc_wire.specs.declared.outbox.Stray.{Stray}
 
 -- The replies that wait, and behind them this one, if it is heard.
@@ -32,10 +32,11 @@ pub record HasTakenReply {C N : Type 0} {G : Ghosts N CommitWorld} (old new : De
       }
   pub log : IsOwnLog new.log
 
--- The errand's message was evaluated, at this step and so, after all that the actor knows of its own; what was to come of that came.
-pub record HasEvaluated {C N : Type 0} {G : Ghosts N CommitWorld} (old new : DeskMeaning C) (errand : Errand N G) : Type 0 where
+-- The errand's message was evaluated, at this step and so, after what this note tells; what was to come of that came.
+pub record HasEvaluated {C N : Type 0} {G : Ghosts N CommitWorld} (old new : DeskMeaning C) (errand : Errand N G) (last : List (KnownEntry Event)) : Type 0 where
   pub answered : Answered
   pub number : answered.number ≡ errand.message.number
+  pub behind : ComesAfter answered.step last
   pub place : ℕ
   pub taken : HasTakenReply old new answered (record { entry = evaluation answered.step errand.message.range old.log.part.id answered.number answered.reply; place = place; uses = 0 } ∷ []) errand.sequel
 

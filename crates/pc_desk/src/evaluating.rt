@@ -1,4 +1,4 @@
-ghost use Rattle.std.specs.Prelude.{◌≡◌, ℕ, ◌+◌, ◌≤◌, [], true, length, IfErr, IfNone, IfOk, IfSome, OnErr, OnOk};
+ghost use Rattle.std.specs.Prelude.{◌≡◌, ℕ, ◌+◌, ◌≤◌, [], true, length, None, IfErr, IfNone, IfOk, IfSome, OnErr, OnOk};
 ghost use Rattle.pc_desk.specs.declared.halt.Halt.TheVariants as halts;
 ghost use Rattle.pc_desk.specs.Desk.{DeskMeaning, HasDelivered, HasHalted, HasKept, HasTaken, IsReadyLate, IsReadyToGo, KeepsTrack, Posted, late_as, waiting_as, with_late};
 ghost use Rattle.pc_desk.specs.Ending.{EndsOnly, PostsInCall, PutsInCall};
@@ -135,7 +135,7 @@ impl<'a, N: Named<CommitWorld>, C: Clock, V: Wire, G: Gate> Desk<'a, N, C, V, G>
 
     /// Puts a message into the bag, which is late by so many sends.
     fn hold(&mut self, message: Message<N>, sends: u32) -> Result<(), Halt>
-        requires ready { IsReadyLate self.old.log.part.id self.old.log.head.splits (verdict_of self.old.log) (late_as message.number message.sender (posted_of message) []) }
+        requires ready { IsReadyLate self.old.log.part.id self.old.log.head.splits (verdict_of self.old.log) (late_as message.number message.sender (posted_of message) None) }
         ensures ok { OnOk result (self.new ≡ record self.old { bag = with_late (due_by message.number sends) (posted_of message.entry) self.old.bag }) }
         ensures clock { self.new.log.clock ≡ self.old.log.clock }
         ensures err { IfErr result (HasHalted self.old self.new) }
@@ -161,7 +161,7 @@ impl<'a, N: Named<CommitWorld>, C: Clock, V: Wire, G: Gate> Desk<'a, N, C, V, G>
     ) -> Result<Note<CommitWorld, N>, Halt>
         requires may { MayGo self.old errand.message }
         requires copy { IsItsCopy (verdict_of self.old.log) errand.message errand.sequel.copy }
-        ensures ok { IfOk result (HasEvaluated self.old self.new errand.entry) }
+        ensures ok { OnOk result (HasEvaluated self.old self.new errand.entry last.entry.known) }
         ensures after { (step : ℕ) → IfOk result (λ n. ComesAfter step n.known → ComesAfter step last.known) }
         ensures clock { self.new.log.clock ≡ self.old.log.clock }
         ensures err { IfErr result (HasHalted self.old self.new) }
