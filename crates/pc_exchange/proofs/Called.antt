@@ -237,6 +237,13 @@ module _ {C : Type 0} (d : DeskMeaning C) (back : HasAllBack d) where
   pub all_heard_or_lost : All (λ m. IsHeardOrPut known.heard m ⊎ (is_losing (verdict_of d.log m.number) ≡ true)) known.sent
   all_heard_or_lost = all_from_contains (λ m. IsHeardOrPut known.heard m ⊎ (is_losing (verdict_of d.log m.number) ≡ true)) known.sent heard-or-lost
 
+  -- replies are to what was sent
+  pub heard_low : All (λ h. h.number ≤ length known.sent) known.heard
+  heard_low =
+      let log = back.track.log in
+      let a : Since known = subst Since (known_there d.log log) (since d.log.head d.log.part.id log.client (history_of d.log log) (is_run d.log log)) in
+      a.behind
+
   -- no message has the next number
   pub next_unsent : times_sent (next_number known) known ≡ 0
   next_unsent = none_beyond (λ (x : Sent). x.number) (length known.sent) (next_number known) known.sent back.track.numbers (omega arith)

@@ -9,14 +9,18 @@ use Rattle.pc_coord.specs.declared.job.Job.{Job}
 use Rattle.pc_call.specs.Finished.{KnowsFate, MayBeCommittedFirst, MayBeSettledAfter}
 use Rattle.pc_coord.specs.Knows.{left_for, messages_of_job}
 use Rattle.pc_desk.specs.Desk.{DeskMeaning}
+use Rattle.pc_desk.specs.Keeping.{LosesNothing}
+use Rattle.pc_desk.specs.OwnLog.{LogMeaning, verdict_of}
 use Rattle.pc_exchange.proofs.Anchored.{anchor_is, own_named}
 use Rattle.pc_exchange.proofs.Aside.{aside_none, goes_on_beside, heard_since, kind_now, left_still, must}
-use Rattle.pc_exchange.proofs.Called.{all_heard_ever}
+use Rattle.pc_exchange.proofs.Called.{all_heard_ever, all_heard_or_lost}
 use Rattle.pc_exchange.proofs.Coordinator.{counted_closed}
-use Rattle.pc_exchange.proofs.Going.{answered_to_by, aside_by, goes_both, goes_none, heard_now_by, jobs_by, known_by_it, not_same, part_by, reply_by, told_by}
+use Rattle.pc_exchange.proofs.Going.{answered_to_by, aside_by, goes_by, heard_by_it, heard_now_by, jobs_by, lost_aside, lost_told, never_quiet, not_same, part_by, reply_by, told_by}
+use Rattle.pc_exchange.proofs.Growing.{goes_both, goes_none}
 use Rattle.pc_exchange.proofs.HeardSince.{shows_fate, shows_told, told_heard}
 use Rattle.pc_exchange.proofs.Messages.{due_first, finishing_left, is_first, left_by_exchange, left_less, less_left, none_left, staged_messages, unstaged_messages}
 use Rattle.pc_exchange.proofs.RowsDecide.{commit_decides}
+use Rattle.pc_exchange.proofs.SameRange.{more_is_heard, went_on}
 use Rattle.pc_exchange.proofs.Silent.{beside_commits_none}
 use Rattle.pc_exchange.proofs.Timely.{IsTimely, may_exchange}
 use Rattle.pc_exchange.proofs.ToldViews.{IsCommittedView}
@@ -27,9 +31,11 @@ use Rattle.pc_exchange.specs.Growing.{HasGoneBeside}
 use Rattle.pc_exchange.specs.Finishing.{IsJobUnderWay, IsMachineOf, is_committed_reply, messages_due, with_rest}
 use Rattle.pc_exchange.specs.Jobs.{HasFinishedJob, IsJobMade, MayFinishNow}
 use Rattle.pc_exchange.specs.Told.{KeepsTold, StaysDecided, StillDecides}
+use Rattle.pc_history.specs.declared.pair.Pair.{Pair}
 use Rattle.pc_lists.proofs.Anywhere.{any_last}
 use Rattle.pc_lists.proofs.Lists.{contains_head}
 use Rattle.pc_lists.proofs.Same.{same_txn-self}
+use Rattle.pc_proto.specs.declared.event.Event.{Event}
 use Rattle.pc_proto.specs.declared.machine.MachineNext.{MachineNext}
 use Rattle.pc_proto.specs.declared.machine.MachineNext.TheVariants as machine
 use Rattle.pc_proto.specs.declared.reply.Reply.{Reply}
@@ -63,19 +69,6 @@ undecided_closed k closed t (inl (ts, decided)) = let both = sym (ap call_in clo
 undecided_closed k closed t (inr (why, decided)) = let both = sym (ap call_in closed) ∙ decided.asked in cc both
 
 -- ---- what a job leaves, however it ended
-
-module _ {C : Type 0} (d : DeskMeaning C) (session : ℕ) (start : Known) (ts : ℕ) (l : IsLaterAside session start (known_of d.log.part.own) ts) where
-  -- what was sent in it was heard, where all was
-  more_is_heard : All (IsHeardOrPut (known_of d.log.part.own).heard) (known_of d.log.part.own).sent → All (λ m. IsTrue (is_heard (known_of d.log.part.own).heard m)) l.sent_more
-  more_is_heard all =
-      let k = known_of d.log.part.own in
-      all_from_contains (λ m. IsTrue (is_heard k.heard m)) l.sent_more (λ m there.
-      elim (All-contains (IsHeardOrPut k.heard) k.sent m all (subst (λ ms. Contains ms m) (sym l.sent) (Contains-append_right start.sent l.sent_more m there))) [
-        | inl heard ↦ heard
-        | inr put ↦
-            let no_put = aside_no_put start m.request (All-contains (λ (m : Sent). IsAside session start m.request) l.sent_more m l.sent_aside there).kind in
-            absurd (let both : false ≡ true = sym no_put ∙ put in cc both)
-      ])
 
 made_of : {C : Type 0} (old : DeskMeaning C) (job : Job) (start : MayFinishNow old job) (new : DeskMeaning C) (part : List (Pair Event)) → HasGoneBeside old new part → (ts : ℕ)
     → IsLaterAside start.session (known_of old.log.part.own) (known_of new.log.part.own) ts → KeepsTold (known_of old.log.part.own) (known_of new.log.part.own)

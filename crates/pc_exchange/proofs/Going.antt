@@ -85,7 +85,7 @@ module _ {C : Type 0} (d new : DeskMeaning C) (request : Request) (some : HasLos
   own_lost = some.goes.grown.own
 
   -- what each sending keeps
-  lost_keeps : (P : List (Pair Event) → Type 0) → ((own : List (Pair Event)) (sent_at range : ℕ) → P own → P (own ++ sent_pair id sent_at (next_number (known_of own)) range request ∷ []))
+  pub lost_keeps : (P : List (Pair Event) → Type 0) → ((own : List (Pair Event)) (sent_at range : ℕ) → P own → P (own ++ sent_pair id sent_at (next_number (known_of own)) range request ∷ []))
       → P d.log.part.own → P new.log.part.own
   lost_keeps P step p = subst P (sym own_lost) (after_lost id (verdict_of d.log) request P step d.log.part.own some.lost some.unheard p)
 

@@ -23,6 +23,7 @@ pub mod Listed
 pub mod Lists
 pub mod LocalSteps
 pub mod Losing
+pub mod LostTimes
 pub mod Messages
 pub mod NextTurn
 pub mod PastEpochs

@@ -1,7 +1,7 @@
--- Where a session's messages went: those of one request to one range, as rounds and jobs go on.
-use Rattle.std.proofs.Common.{◌≡◌, ℕ, ◌==◌, Bool, true, false, ◌||◌, ◌⊎◌, inl, inr, All, Contains, List, [], ◌∷◌, ◌++◌, refl, sym, ap, subst, ◌∙◌}
+-- What a session sent in rounds and jobs: messages of one request went to one range, and it was heard where all was.
+use Rattle.std.proofs.Common.{◌≡◌, ℕ, ◌==◌, Bool, true, false, ◌||◌, ◌⊎◌, inl, inr, All, Contains, IsTrue, List, [], ◌∷◌, ◌++◌, refl, sym, ap, subst, ◌∙◌}
 use Rattle.std.proofs.lemmas.List.{append-nil, append_assoc}
-use Rattle.std.proofs.lemmas.List.Elements.{All-contains, All-nil, All-push, Contains-append_cases}
+use Rattle.std.proofs.lemmas.List.Elements.{All-contains, All-nil, All-push, Contains-append_cases, Contains-append_right}
 use Rattle.std.proofs.lemmas.List.Folds.{list_any-append}
 use Rattle.std.specs.List.{list_any}
 use Rattle.pc_base.specs.declared.actor.ActorId.{ActorId}
@@ -13,7 +13,9 @@ use Rattle.pc_exchange.proofs.Called.{may_do}
 use Rattle.pc_exchange.proofs.Free.{aside_no_put}
 use Rattle.pc_exchange.proofs.LocalSteps.{IsLocalPair, log_is_local}
 use Rattle.pc_exchange.specs.Aside.{IsAside, IsLaterAside, IsOfRoundOrJob}
+use Rattle.pc_follows.specs.WaveOrder.{IsHeardOrPut}
 use Rattle.pc_history.specs.declared.pair.Pair.{Pair}
+use Rattle.pc_lists.proofs.Lists.{all_from_contains}
 use Rattle.pc_proto.specs.declared.event.Event.{Event}
 use Rattle.pc_proto.specs.declared.event.Event.TheVariants as events
 use Rattle.pc_proto.specs.declared.request.Request.{Request}
@@ -50,19 +52,19 @@ pub went_there : {C : Type 0} (l : LogMeaning C) → IsOwnLog l → All (WentThe
 went_there l log = gone-on l.head l.part.id log.client [] l.part.own (log_is_local l log) (All-nil (WentThere l.head.splits))
 
 -- what goes beside, or is a commit, goes to one range
-one-way : (splits : List (List ℕ)) (request : Request) (one other : ℕ) → (goes_beside request ≡ true) ⊎ (is_commit request ≡ true) → GoesTo splits request one → GoesTo splits request other → one ≡ other
-one-way splits (requests.Push holder by level now goal) one other is a b = a ∙ sym b
-one-way splits (requests.Query id epoch seq ts key by) one other is a b = a ∙ sym b
-one-way splits (requests.Recover id epoch ts anchor finding) one other is a b = a ∙ sym b
-one-way splits (requests.Resolve id key fate) one other is a b = a ∙ sym b
-one-way splits (requests.Remove id anchor) one other is a b = a ∙ sym b
-one-way splits (requests.Commit meta ts locks) one other is a b = a ∙ sym b
-one-way splits request one other (inl is) a b = absurd cc
-one-way splits request one other (inr is) a b = absurd cc
+pub one_way : (splits : List (List ℕ)) (request : Request) (one other : ℕ) → (goes_beside request ≡ true) ⊎ (is_commit request ≡ true) → GoesTo splits request one → GoesTo splits request other → one ≡ other
+one_way splits (requests.Push holder by level now goal) one other is a b = a ∙ sym b
+one_way splits (requests.Query id epoch seq ts key by) one other is a b = a ∙ sym b
+one_way splits (requests.Recover id epoch ts anchor finding) one other is a b = a ∙ sym b
+one_way splits (requests.Resolve id key fate) one other is a b = a ∙ sym b
+one_way splits (requests.Remove id anchor) one other is a b = a ∙ sym b
+one_way splits (requests.Commit meta ts locks) one other is a b = a ∙ sym b
+one_way splits request one other (inl is) a b = absurd cc
+one_way splits request one other (inr is) a b = absurd cc
 
-of-kind : (k : Known) (request : Request) → IsOfRoundOrJob k request → (goes_beside request ≡ true) ⊎ (is_commit request ≡ true)
-of-kind k request (inl is) = inl is
-of-kind k request (inr is) = inr is.1
+pub of_kind : (k : Known) (request : Request) → IsOfRoundOrJob k request → (goes_beside request ≡ true) ⊎ (is_commit request ≡ true)
+of_kind k request (inl is) = inl is
+of_kind k request (inr is) = inr is.1
 
 -- the second of two puts is one
 second-puts : (meta : _) (seq ts : ℕ) (key : List ℕ) (value : _) (other : Request) → IsSamePut (requests.Put meta seq ts key value) other → is_put other ≡ true
@@ -97,7 +99,7 @@ module _ {C : Type 0} (session : ℕ) (start : Known) (new : DeskMeaning C) (ts 
       let all = went_there new.log log in
       let splits = new.log.head.splits in
       let equal : one.request ≡ other.request = is-equal one.request other.request (no-put aside) same in
-      one-way splits other.request one.range other.range (kind aside equal)
+      one_way splits other.request one.range other.range (kind aside equal)
       (subst (λ r. GoesTo splits r one.range) equal (All-contains (WentThere splits) k.sent one all there))
       (All-contains (WentThere splits) k.sent other all too)
     where
@@ -106,8 +108,8 @@ module _ {C : Type 0} (session : ℕ) (start : Known) (new : DeskMeaning C) (ts 
       no-put (inr is) = inr (aside_no_put start other.request is.kind)
 
       kind : (IsAside session start one.request) ⊎ (IsAside session start other.request) → one.request ≡ other.request → (goes_beside other.request ≡ true) ⊎ (is_commit other.request ≡ true)
-      kind (inl is) equal = subst (λ r. (goes_beside r ≡ true) ⊎ (is_commit r ≡ true)) equal (of-kind start one.request is.kind)
-      kind (inr is) equal = of-kind start other.request is.kind
+      kind (inl is) equal = subst (λ r. (goes_beside r ≡ true) ⊎ (is_commit r ≡ true)) equal (of_kind start one.request is.kind)
+      kind (inr is) equal = of_kind start other.request is.kind
 
   -- of what is not heard, messages of one request went to one range still
   pub went_on : WentToOneRange start → WentToOneRange k
@@ -123,3 +125,18 @@ module _ {C : Type 0} (session : ℕ) (start : Known) (new : DeskMeaning C) (ts 
       by (inl a) (inl b) = went one other a b (unheard-before one here) (unheard-before other now) own same
       by (inl a) (inr b) = went-same one other there too (inr (aside other b)) same
       by (inr a) both = went-same one other there too (inl (aside one a)) same
+
+-- ---- and what was sent since was heard where all was
+
+module _ {C : Type 0} (d : DeskMeaning C) (session : ℕ) (start : Known) (ts : ℕ) (l : IsLaterAside session start (known_of d.log.part.own) ts) where
+  -- what was sent in it was heard, where all was
+  pub more_is_heard : All (IsHeardOrPut (known_of d.log.part.own).heard) (known_of d.log.part.own).sent → All (λ m. IsTrue (is_heard (known_of d.log.part.own).heard m)) l.sent_more
+  more_is_heard all =
+      let k = known_of d.log.part.own in
+      all_from_contains (λ m. IsTrue (is_heard k.heard m)) l.sent_more (λ m there.
+      elim (All-contains (IsHeardOrPut k.heard) k.sent m all (subst (λ ms. Contains ms m) (sym l.sent) (Contains-append_right start.sent l.sent_more m there))) [
+        | inl heard ↦ heard
+        | inr put ↦
+            let no_put = aside_no_put start m.request (All-contains (λ (m : Sent). IsAside session start m.request) l.sent_more m l.sent_aside there).kind in
+            absurd (let both : false ≡ true = sym no_put ∙ put in cc both)
+      ])
