@@ -1,5 +1,5 @@
 -- The first of the messages that wait goes as its verdict has it.
-use Rattle.std.proofs.Common.{◌≡◌, ℕ, ◌+◌, ◌<◌, ◌≤◌, Bool, true, false, ◌||◌, All, Contains, List, [], ◌∷◌, ◌++◌, length, Option, None, Some, inl, inr, refl, sym, ap, subst, ◌∙◌, arith}
+use Rattle.std.proofs.Common.{◌≡◌, ℕ, ◌+◌, ◌<◌, ◌≤◌, Bool, true, false, ◌||◌, All, Contains, List, [], ◌∷◌, ◌++◌, length, Option, None, Some, Result, Ok, Err, IfOk, OnOk, inl, inr, refl, sym, ap, subst, ◌∙◌, arith}
 use Rattle.std.proofs.lemmas.List.Elements.{Contains-append_left, Contains-push}
 use Rattle.std.specs.BTreeMap.{is_at}
 use Rattle.std.specs.Map.{lookup}
@@ -22,7 +22,7 @@ use Rattle.pc_proto.specs.declared.event.Event.{Event}
 use Rattle.pc_proto.specs.declared.request.Request.{Request}
 use Rattle.pc_range.specs.declared.commit_world.CommitWorld.{CommitWorld}
 use Rattle.pc_range.specs.declared.message.Message.{Message}
-use Rattle.pc_range.specs.Message.{evaluation}
+use Rattle.pc_range.specs.Message.{ComesAfter, evaluation}
 use Rattle.pc_wire.specs.declared.outbox.Stray.{Stray}
 use Rattle.pc_wire.specs.declared.verdict.Verdict.{Verdict}
 use Rattle.pc_wire.specs.declared.verdict.Verdict.TheVariants as verdicts
@@ -154,15 +154,15 @@ module _ {C N : Type 0} {G : Ghosts N CommitWorld} (d : DeskMeaning C) (message 
       let same = repeated.same in
       subst (λ (b : Bool). StandsAs d (gone-out (verdicts.Repeat sends) b errand.sequel.copy)) (sym repeated.heard)
       (subst (λ (o : Option (Stray (Message N G))). StandsAs d (gone-out (verdicts.Repeat sends) true o)) (sym repeated.there)
-      (repeated-at sends is repeated.copy.due repeated.copy.message same.number same.range same.request))
+      (repeated-at sends is repeated.copy.due repeated.copy.message same.alike.number same.alike.range same.alike.request))
   evaluated-by verdicts.LoseRequest is errand errand_of = absurd errand_of
   evaluated-by (verdicts.Hold sends) is errand errand_of = absurd errand_of
 
 -- the errand's message is that which waited
-pub errand_message : {N : Type 0} {G : Ghosts N CommitWorld} (v : Verdict) (message : Message N G) (errand : Errand N G) → IsErrandOf v message errand → (errand.message.number ≡ message.number) × (errand.message.range ≡ message.range)
-errand_message {N} {G} verdicts.Deliver message errand is = (ap (λ (e : Errand N G). e.message.number) is, ap (λ (e : Errand N G). e.message.range) is)
-errand_message {N} {G} verdicts.LoseReply message errand is = (ap (λ (e : Errand N G). e.message.number) is, ap (λ (e : Errand N G). e.message.range) is)
-errand_message {N} {G} (verdicts.Repeat sends) message errand is = (ap (λ (m : Message N G). m.number) is.rest, ap (λ (m : Message N G). m.range) is.rest)
+pub errand_message : {N : Type 0} {G : Ghosts N CommitWorld} (v : Verdict) (message : Message N G) (errand : Errand N G) → IsErrandOf v message errand → (errand.message.number ≡ message.number) × (errand.message.range ≡ message.range) × (errand.message.request ≡ message.request)
+errand_message {N} {G} verdicts.Deliver message errand is = (ap (λ (e : Errand N G). e.message.number) is, ap (λ (e : Errand N G). e.message.range) is, ap (λ (e : Errand N G). e.message.request) is)
+errand_message {N} {G} verdicts.LoseReply message errand is = (ap (λ (e : Errand N G). e.message.number) is, ap (λ (e : Errand N G). e.message.range) is, ap (λ (e : Errand N G). e.message.request) is)
+errand_message {N} {G} (verdicts.Repeat sends) message errand is = (is.alike.number, is.alike.range, is.alike.request)
 errand_message verdicts.LoseRequest message errand is = absurd is
 errand_message (verdicts.Hold sends) message errand is = absurd is
 
@@ -175,3 +175,65 @@ stands_evaluated d message errand rest a place track first later errand_of to kn
     let is = errand_message (verdict_of d.log message.number) message errand errand_of in
     evaluated-by d message rest a place track first later (to ∙ is.0) (subst (λ (r : ℕ). Contains d.log.part.known (record { entry = evaluation a.step r d.log.part.id a.number a.reply; place = place; uses = 0 })) is.1 knows) behind after
     (verdict_of d.log message.number) refl errand errand_of
+
+-- the first message was set out, and evaluated after the newest that is known
+module _ {C N : Type 0} {G : Ghosts N CommitWorld} (old mid new : DeskMeaning C) (errand : Errand N G) (last : List (KnownEntry Event)) (track : KeepsTrack old) (out : HasSetOutFirst old mid errand) (done : HasEvaluated mid new errand last) (newest : IsNewest old.log.part.own old.replies last) where
+  -- The desk while the message is away.
+  abbrev between : DeskMeaning C
+  between = record old { posted = mid.posted; lost = lost_by (verdict_of old.log out.message.number) out.message.number old.lost }
+
+  done-then : HasEvaluated between new errand last
+  done-then = subst (λ (x : DeskMeaning C). HasEvaluated x new errand last) out.rest done
+
+  -- What the actor knows by it.
+  abbrev told_of : KnownEntry Event
+  told_of = record { entry = evaluation done-then.answered.step errand.message.range old.log.part.id done-then.answered.number done-then.answered.reply; place = done-then.place; uses = 0 }
+
+  abbrev known-then : List (KnownEntry Event)
+  known-then = old.log.part.known ++ told_of ∷ []
+
+  abbrev learnt : DeskMeaning C
+  learnt = record old { log = knowing known-then old.log }
+
+  stands : StandsAs learnt new
+  stands =
+      subst (StandsAs learnt) (sym done-then.taken.rest)
+      (stands_evaluated learnt out.message errand mid.posted done-then.answered done-then.place
+      (track_knowing old known-then track (λ x there. Contains-append_left old.log.part.known (told_of ∷ []) x there) (subst IsOwnLog (ap (λ (x : DeskMeaning C). x.log) done-then.taken.rest) done-then.taken.log))
+      out.taken.first out.taken.later out.errand_of done-then.number (Contains-push old.log.part.known told_of) (newest.made done-then.answered.step done-then.behind) (λ one. newest.evaluated done-then.answered.step done-then.behind))
+
+  known-is : new.log.part.known ≡ known-then
+  known-is = ap (λ (x : DeskMeaning C). x.log.part.known) done-then.taken.rest
+
+  pub own_evaluated : new.log.part.own ≡ old.log.part.own
+  own_evaluated = ap (λ (x : DeskMeaning C). x.log.part.own) done-then.taken.rest
+
+  pub posted_evaluated : new.posted ≡ mid.posted
+  posted_evaluated = ap (λ (x : DeskMeaning C). x.posted) done-then.taken.rest
+
+  pub delivered_evaluated : HasDelivered old new
+  delivered_evaluated = record {
+    own = ap (λ (x : DeskMeaning C). x.log) done-then.taken.rest ∙ ap (λ (ks : List (KnownEntry Event)). knowing ks old.log) (sym known-is);
+    sends = ap (λ (x : DeskMeaning C). x.sends) done-then.taken.rest;
+    track = stands.track;
+    way = stands.way;
+    kept = stands.kept;
+    later = ap (λ (x : DeskMeaning C). x.later) done-then.taken.rest;
+    more = λ k there. subst (λ (l : List (KnownEntry Event)). Contains l k) (sym known-is) (Contains-append_left old.log.part.known (told_of ∷ []) k there);
+    limit = ap (λ (x : DeskMeaning C). x.range_limit) done-then.taken.rest;
+  }
+
+-- one fewer waits
+pub one_fewer : (m : Posted) (before rest after : List Posted) → before ≡ m ∷ rest → after ≡ rest → length before ≡ length after + 1
+one_fewer m before rest after first same = let f : length before ≡ length rest + 1 = ap length first in let a : length after ≡ length rest = ap length same in omega arith
+
+-- the note that is given is the newest then
+pub newest_after : {M E C : Type 0} (r : Result M E) (known : M → List (KnownEntry Event)) (old mid new : DeskMeaning C) (last : List (KnownEntry Event)) → mid.replies ≡ old.replies → OnOk r (new.log.part.own ≡ old.log.part.own)
+    → ((step : ℕ) → IfOk r (λ n. ComesAfter step (known n) → ComesAfter step last))
+    → ((step : ℕ) → IfOk r (λ n. ComesAfter step (known n) → All (λ (a : Answered). a.step < step) mid.replies → All (λ (a : Answered). a.step < step) new.replies))
+    → IsNewest old.log.part.own old.replies last → IfOk r (λ n. IsNewest new.log.part.own new.replies (known n))
+newest_after (Ok n) known old mid new last same own after replies newest = record {
+  made = λ step behind. subst (λ (o : List (Pair Event)). All (λ (p : Pair Event). p.entry.step < step) o) (sym own) (newest.made step (after step behind));
+  evaluated = λ step behind. replies step behind (subst (λ (rs : List Answered). All (λ (a : Answered). a.step < step) rs) (sym same) (newest.evaluated step (after step behind)));
+}
+newest_after (Err e) known old mid new last same own after replies newest = tt

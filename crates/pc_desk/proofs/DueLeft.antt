@@ -1,8 +1,8 @@
 -- What is due in the bag is evaluated, and nobody hears the replies.
 use Rattle.std.proofs.Common.{◌≡◌, ℕ, ◌+◌, ◌-◌, ◌<◌, ◌≤◌, ◌==◌, ◌⊎◌, Bool, true, false, cond, find, filter, not, All, Contains, inl, inr, List, [], ◌∷◌, ◌++◌, length, length-append, map, None, Option, Some, refl, sym, ap, subst, ◌∙◌, arith}
 use Rattle.std.proofs.lemmas.Bool.Decides.{nat_tests}
-use Rattle.std.proofs.lemmas.List.{map-append}
-use Rattle.std.proofs.lemmas.List.Elements.{All-contains, All-head, All-weaker, Contains-append_cases, Contains-append_left, Contains-append_right, Contains-push}
+use Rattle.std.proofs.lemmas.List.{append_assoc, map-append}
+use Rattle.std.proofs.lemmas.List.Elements.{All-contains, All-nil, All-weaker, Contains-append_cases, Contains-append_left, Contains-append_right, Contains-push}
 use Rattle.std.specs.BTreeMap.{is_at}
 use Rattle.std.specs.List.Sorted.{IsStrictlySortedBy}
 use Rattle.std.proofs.lemmas.Map.Views.{All-map-remove_entry}
@@ -10,27 +10,33 @@ use Rattle.std.specs.Map.{keys_of, remove_entry}
 use Rattle.std.specs.Option.{option_map}
 use Rattle.std.specs.Ordering.{is_eq, nat_cmp}
 use Rattle.pc_base.specs.declared.actor.ActorId.{ActorId}
+use Rattle.pc_desk.proofs.Ending.{HasBrokenOff, ended_full}
 use Rattle.pc_desk.proofs.LeftFirst.{sorted_head}
 use Rattle.pc_desk.proofs.LeftServed.{after_evaluation}
+use Rattle.pc_desk.proofs.Refusing.{was_given_back}
 use Rattle.pc_desk.proofs.Still.{repeated_on, then, track_then, unheard_on}
 use Rattle.pc_desk.proofs.StraysLeft.{one_bag, repeated_same}
+use Rattle.pc_desk.specs.declared.halt.Halt.{Halt}
+use Rattle.pc_desk.specs.declared.halt.Halt.TheVariants as halts
 use Rattle.pc_desk.specs.declared.late.Late.{Late}
 use Rattle.pc_desk.specs.Desk.{ComesAfterFirst, DeskMeaning, IsDropped, IsLate, IsOfBag, IsOneSent, IsReadyLate, IsRepeatedOrLate, IsUnheard, KeepsTrack, LateMessage, Posted, TellsFirst, WasEvaluatedAt, as_sent, first_told, is_repeating, late_as, posted_as, posting, straying, told_first, times_first, uses_by}
-use Rattle.pc_desk.specs.Late.{HasDeliveredDue, HasEvaluatedLate, copy_told, not_due}
+use Rattle.pc_desk.specs.Ending.{EndsOnly, HasEnded, all_waiting}
+use Rattle.pc_desk.specs.Late.{HasDeliveredDue, HasEvaluatedLate, HasLateBack, IsRefusedLate, copy_told, not_due}
 use Rattle.pc_desk.specs.OwnLog.{IsOwnLog, LogMeaning, verdict_of}
 use Rattle.pc_desk.specs.Wave.{posted_of}
 use Rattle.pc_history.specs.declared.named.Named.{Ghosts}
 use Rattle.pc_history.specs.declared.view.Known.{Known as KnownEntry}
 use Rattle.pc_history.specs.Meanings.{NoteMeaning}
 use Rattle.pc_history.specs.Parts.{known_entry, with_uses}
-use Rattle.pc_lists.proofs.Lists.{all_from_contains, contains_cons, contains_head, contains_map, contains_tail}
+use Rattle.pc_lists.proofs.Lists.{all_from_contains, contains_cons, contains_head, contains_in_map, contains_map, contains_tail}
 use Rattle.pc_proto.specs.declared.event.Event.{Event}
 use Rattle.pc_range.specs.declared.commit_world.CommitWorld.{CommitWorld}
-use Rattle.pc_range.specs.Message.{ComesAfter, evaluation}
+use Rattle.pc_range.specs.Message.{ComesAfter, IsFullNote, evaluation}
 use Rattle.pc_wire.specs.declared.outbox.Stray.{Stray}
 use Rattle.pc_wire.specs.declared.verdict.Verdict.{Verdict}
 use Rattle.pc_wire.specs.declared.verdict.Verdict.TheVariants as verdicts
 use Rattle.pc_wire.specs.Outbox.{after_due, is_due_by, without_stray}
+use Rattle.pc_wire.specs.Verdicts.{is_late}
 use Rattle.pc_world.specs.Known.{known_of}
 use Rattle.pc_world.specs.Known.Traffic.{Sent}
 use Rattle.pc_world.specs.Local.{Head}
@@ -203,7 +209,7 @@ module _ {C N : Type 0} {G : Ghosts N CommitWorld} where
     where
       by : (o : Option (ℕ × Stray (Late N G))) → All P (map f (without_stray o bag))
       by None = all
-      by (Some e) = All-map-remove_entry {test = is_at (nat_cmp e.0)} f P bag all
+      by (Some e) = All-map-remove_entry (is_at (nat_cmp e.0)) f P bag all
 
   -- the first that is due may go
   pub due_ready : {Y : Type 0} (f : ℕ × Stray (Late N G) → Y) (P : Y → Type 0) (sent : ℕ) (bag : List (ℕ × Stray (Late N G))) (e : ℕ × Stray (Late N G)) → find (is_due_by sent) bag ≡ Some e → All P (map f bag) → P (f e)
@@ -327,3 +333,89 @@ module _ {C N : Type 0} {G : Ghosts N CommitWorld} (mid new : DeskMeaning C) (ba
   -- one more that is due was evaluated
   pub gone_one : (old : DeskMeaning C) → HasGoneLate old mid → HasGoneLate old new
   gone_one old gone = gone-both old mid new gone (subst (HasGoneLate mid) (sym new-is) due-then)
+
+-- ---- it was refused
+
+module _ {C N : Type 0} {G : Ghosts N CommitWorld} (mid new : DeskMeaning C) (bag : List (ℕ × Stray (Late N G))) (e : ℕ × Stray (Late N G)) (track : KeepsTrack mid) (is : mid.bag ≡ map seen bag) (found : find (is_due_by mid.sends) bag ≡ Some e) (sorted : IsStrictlySortedBy nat_cmp (keys_of bag))
+    (ready : IsReadyLate mid.log.part.id mid.log.head.splits (verdict_of mid.log) (late_seen e)) (none : mid.posted ≡ []) where
+  -- What it says.
+  abbrev the-message : Posted
+  the-message = posted_of e.1.message.message
+
+  -- The desk from which it was taken.
+  abbrev taken-from : DeskMeaning C
+  taken-from = record mid { bag = map seen (remove_entry (is_at (nat_cmp e.0)) bag) }
+
+  cut-of : IsCut bag (remove_entry (is_at (nat_cmp e.0)) bag) e
+  cut-of = cut-first (is_due_by mid.sends) bag e sorted found
+
+  was-bag : mid.bag ≡ map seen cut-of.front ++ seen e ∷ map seen cut-of.back
+  was-bag = is ∙ (ap (map seen) cut-of.whole ∙ map-append seen cut-of.front (e ∷ cut-of.back))
+
+  left-bag : taken-from.bag ≡ map seen cut-of.front ++ map seen cut-of.back
+  left-bag = ap (map seen) cut-of.left ∙ map-append seen cut-of.front cut-of.back
+
+  of-bag : IsOfBag mid (seen e)
+  of-bag = All-contains (IsOfBag mid) mid.bag (seen e) track.late (subst (λ b. Contains b (seen e)) (sym was-bag) (it-was (map seen cut-of.front) (map seen cut-of.back) (seen e)))
+
+  ended-back : HasLateBack taken-from new e.1.message → HasEnded mid new
+  ended-back back = ended_full mid new the-message track broken of-bag.one (was_given_back new.range_limit new.log.part the-message e.1.message.message back.last (mid.log.part.known ++ first) known-is full whose refl ready.use_left)
+      (λ plain. absurd (let bad : true ≡ false = sym of-bag.late ∙ (ap (λ n. is_late (verdict_of mid.log n)) of-bag.number ∙ plain) in cc bad))
+    where
+      -- What its first evaluation's note told.
+      abbrev first : List (KnownEntry Event)
+      first = told_first (first_told e.1.message.first)
+
+      -- What the note of its sending tells.
+      abbrev note : List (KnownEntry Event)
+      note = e.1.message.message.note.known
+
+      new-limit : new.range_limit ≡ mid.range_limit
+      new-limit = ap (λ (d : DeskMeaning C). d.range_limit) back.rest
+
+      known-so : new.log.part.known ≡ ((mid.log.part.known ++ first) ++ back.last) ++ note
+      known-so = ap (λ (d : DeskMeaning C). d.log.part.known) back.rest
+
+      known-is : new.log.part.known ≡ (mid.log.part.known ++ first) ++ (back.last ++ note)
+      known-is = known-so ∙ append_assoc (mid.log.part.known ++ first) back.last note
+
+      full : IsFullNote the-message.range new.range_limit back.last
+      full = subst (λ n. IsFullNote the-message.range n back.last) (sym new-limit) back.full
+
+      whose : e.1.message.message.sender ≡ new.log.part.id
+      whose = ready.whose ∙ sym (ap (λ (d : DeskMeaning C). d.log.part.id) back.rest)
+
+      first-same : new.posted ++ new.later ≡ mid.posted ++ mid.later
+      first-same = ap (λ (d : DeskMeaning C). d.posted ++ d.later) back.rest
+
+      new-bag : new.bag ≡ map seen cut-of.front ++ map seen cut-of.back
+      new-bag = ap (λ (d : DeskMeaning C). d.bag) back.rest ∙ left-bag
+
+      others : (p : Posted) → Contains (all_waiting mid) p → (the-message.number ≡ p.number) ⊎ Contains (all_waiting new) p
+      others p there = elim (Contains-append_cases (mid.posted ++ mid.later) (map (λ (x : ℕ × Stray Posted). x.1.message) mid.bag) p there) [
+        | inl waits ↦ inr (Contains-append_left (new.posted ++ new.later) (map (λ (x : ℕ × Stray Posted). x.1.message) new.bag) p (subst (λ l. Contains l p) (sym first-same) waits))
+        | inr late ↦ in-bag (contains_in_map (λ (x : ℕ × Stray Posted). x.1.message) mid.bag p late)
+      ]
+        where
+          in-bag : (x : ℕ × Stray Posted) × Contains mid.bag x × (x.1.message ≡ p) → (the-message.number ≡ p.number) ⊎ Contains (all_waiting new) p
+          in-bag x = elim (cut-or-left (map seen cut-of.front) (map seen cut-of.back) (seen e) x.0 (subst (λ b. Contains b x.0) was-bag x.1)) [
+            | inl here ↦ inl (ap (λ (y : ℕ × Stray Posted). y.1.message.number) here ∙ ap (λ (q : Posted). q.number) x.2)
+            | inr left ↦ inr (Contains-append_right (new.posted ++ new.later) (map (λ (y : ℕ × Stray Posted). y.1.message) new.bag) p
+            (subst (Contains (map (λ (y : ℕ × Stray Posted). y.1.message) new.bag)) x.2 (contains_map (λ (y : ℕ × Stray Posted). y.1.message) new.bag x.0 (subst (λ b. Contains b x.0) (sym new-bag) left))))
+          ]
+
+      broken : HasBrokenOff mid new the-message
+      broken = record {
+        log = ap (λ (d : DeskMeaning C). d.log) back.rest ∙ ap (λ ks. record mid.log { part = record mid.log.part { known = ks }; stopped = true }) (sym known-so);
+        limit = new-limit;
+        more = λ k there. subst (λ l. Contains l k) (sym known-is) (Contains-append_left (mid.log.part.known ++ first) (back.last ++ note) k (Contains-append_left mid.log.part.known first k there));
+        others = others;
+        left = λ p there. subst (λ l. Contains l p) first-same there;
+        later = subst (All (λ (p : Posted). the-message.number < p.number)) (sym (ap (λ (d : DeskMeaning C). d.posted) back.rest ∙ none)) (All-nil (λ (p : Posted). the-message.number < p.number));
+      }
+
+  -- its list has ended
+  pub due_refused : (halt : Halt) → IsRefusedLate taken-from new e.1.message halt → EndsOnly (λ made. ⊥) mid new halt
+  due_refused halts.Stopped refused = absurd refused
+  due_refused (halts.Full actor) refused = λ going. ended-back refused
+  due_refused halts.NoMemory refused = λ going. tt

@@ -22,6 +22,7 @@ pub mod Still
 pub mod StraysLeft
 pub mod DueLeft
 pub mod Ending
+pub mod StraysRefused
 pub mod Stopping
 pub mod WaveSteps
 pub mod Besides
@@ -30,3 +31,5 @@ pub mod Staying
 pub mod Learning
 pub mod Outgoing
 pub mod Delivering
+pub mod RefusedErrands
+pub mod AskedLost

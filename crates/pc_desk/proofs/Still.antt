@@ -38,7 +38,7 @@ module _ {C : Type 0} (d : DeskMeaning C) (known : List (KnownEntry Event)) (lat
   unheard_on m late is = record { one = is.one; why = is.why; dropped = dropped_on m late is.dropped }
 
   pub repeated_on : (m : Posted) → (IsLate d.bag m → (step : ℕ) → WasEvaluatedAt now.log m step → IsRepeatedOrLate now m) → IsRepeatedOrLate d m → IsRepeatedOrLate now m
-  repeated_on m late (inl waits) = late waits.0 waits.1.0 (evaluated_on m waits.1.0 waits.1.1)
+  repeated_on m late (inl waits) = late waits.0 waits.1 (evaluated_on m waits.1 waits.2)
   repeated_on m late (inr two) = inr (two.0, two.1, two.2, evaluated_on m two.0 two.3, evaluated_on m two.1 two.4)
 
   pub answered_on : (a : Answered) → IsAnsweredBy d.log a → IsAnsweredBy now.log a
@@ -69,16 +69,3 @@ module _ {C : Type 0} (d : DeskMeaning C) (known : List (KnownEntry Event)) (lat
     wave = track.wave;
     given = record { each = track.given.each; within = track.given.within };
   }
-
--- the actor knows more, and did nothing else
-module _ {C : Type 0} (d : DeskMeaning C) (known : List (KnownEntry Event)) (more : (k : KnownEntry Event) → Contains d.log.part.known k → Contains known k) where
-  bag-on : (e : ℕ × Stray Posted) → IsOfBag d e → IsOfBag (then d known d.later d.bag) e
-  bag-on e of = record { one = of.one; number = of.number; late = of.late; gone = of.gone }
-
-  pub track_learnt : KeepsTrack d → IsOwnLog (then d known d.later d.bag).log → KeepsTrack (then d known d.later d.bag)
-  track_learnt track log =
-      track_then d known d.later d.bag more log track.unheard
-      (All-weaker (IsUnheard d) (IsUnheard (then d known d.later d.bag)) (λ m. unheard_on d known d.later d.bag more m (λ waits. inr (inl waits))) track.unheard track.each_unheard)
-      track (λ n. refl)
-      (λ m one repeats gone. repeated_on d known d.later d.bag more m (λ waits step is. inl (waits, step, is)) (track.repeated m one repeats gone))
-      (All-weaker (IsOfBag d) (IsOfBag (then d known d.later d.bag)) bag-on d.bag track.late) track.aside

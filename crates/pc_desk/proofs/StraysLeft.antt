@@ -44,11 +44,11 @@ repeated_same d m p same is = back (subst (λ (s : Sent). IsRepeatedOrLate d (po
     }
 
     forth : IsRepeatedOrLate d m → IsRepeatedOrLate d (posting m.number m.range m.request 0)
-    forth (inl waits) = inl (record { due = waits.0.due; uses = waits.0.uses; there = waits.0.there }, waits.1.0, evaluated m (posting m.number m.range m.request 0) waits.1.0 refl refl waits.1.1)
+    forth (inl waits) = inl (record { due = waits.0.due; uses = waits.0.uses; there = waits.0.there }, waits.1, evaluated m (posting m.number m.range m.request 0) waits.1 refl refl waits.2)
     forth (inr two) = inr (two.0, two.1, two.2, evaluated m (posting m.number m.range m.request 0) two.0 refl refl two.3, evaluated m (posting m.number m.range m.request 0) two.1 refl refl two.4)
 
     back : IsRepeatedOrLate d (posting p.number p.range p.request 0) → IsRepeatedOrLate d p
-    back (inl waits) = inl (record { due = waits.0.due; uses = waits.0.uses; there = waits.0.there }, waits.1.0, evaluated (posting p.number p.range p.request 0) p waits.1.0 refl refl waits.1.1)
+    back (inl waits) = inl (record { due = waits.0.due; uses = waits.0.uses; there = waits.0.there }, waits.1, evaluated (posting p.number p.range p.request 0) p waits.1 refl refl waits.2)
     back (inr two) = inr (two.0, two.1, two.2, evaluated (posting p.number p.range p.request 0) p two.0 refl refl two.3, evaluated (posting p.number p.range p.request 0) p two.1 refl refl two.4)
 
 -- a stray's number is its message's
@@ -188,7 +188,7 @@ module _ {C N : Type 0} {G : Ghosts N CommitWorld} (old : DeskMeaning C) (messag
   stray_evaluated (verdicts.Repeat sends) errand is of log was =
       let uses = (posted_of of.copy.message).uses in
       let it : posted_of of.copy.message ≡ posting message.number message.range message.request uses =
-      ap (λ n. posting n of.copy.message.range of.copy.message.request uses) of.same.number ∙ (ap (λ r. posting message.number r of.copy.message.request uses) of.same.range ∙ ap (λ r. posting message.number message.range r uses) of.same.request) in
+      ap (λ n. posting n of.copy.message.range of.copy.message.request uses) of.same.alike.number ∙ (ap (λ r. posting message.number r of.copy.message.request uses) of.same.alike.range ∙ ap (λ r. posting message.number message.range r uses) of.same.alike.request) in
       let bag-is : with_copy errand.sequel.copy old.bag ≡ with_late of.copy.due (posting message.number message.range message.request uses) old.bag =
       ap (λ (c : Option (Stray (Message N G))). with_copy c old.bag) of.there ∙ ap (λ (p : Posted). with_late of.copy.due p old.bag) it in
       left-late old (posted_of message) rest track first known (with_copy errand.sequel.copy old.bag) more of.copy.due uses bag-is (sym (ap is_late is)) log (inr (inr (step, was)))

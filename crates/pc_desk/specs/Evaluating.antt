@@ -1,5 +1,6 @@
 -- One evaluation of an actor's message: what the actor knows by it, and what it keeps. Own profile.
-use Rattle.std.specs.Prelude.{◌≡◌, ℕ, Bool, true, cond, Option, None, Some, List, [], ◌∷◌, ◌++◌}
+use Rattle.std.specs.Prelude.{◌≡◌, ℕ, Bool, true, cond, Option, None, Some, List, [], ◌∷◌, ◌++◌, ⊤}
+use Rattle.pc_base.specs.declared.actor.ActorId.TheVariants as actors
 use Rattle.pc_desk.specs.declared.answered.Answered.{Answered}
 use Rattle.pc_desk.specs.declared.errand.Errand.{Errand}
 use Rattle.pc_desk.specs.declared.errand.Sequel.{Sequel}
@@ -15,6 +16,8 @@ use Rattle.pc_history.specs.Parts.{told}
 use Rattle.pc_proto.specs.declared.event.Event.{Event}
 use Rattle.pc_range.specs.declared.commit_world.CommitWorld.{CommitWorld}
 use Rattle.pc_range.specs.declared.message.Message.{Message}
+use Rattle.pc_range.specs.declared.message.ServeFault.{ServeFault}
+use Rattle.pc_range.specs.declared.message.ServeFault.TheVariants as faults
 use Rattle.pc_range.specs.Message.{ComesAfter, IsFullNote, evaluation}
 use Rattle.pc_wire.specs.declared.outbox.Stray.{Stray}
 
@@ -57,3 +60,15 @@ abbrev pub IsRefusedErrand : {C N : Type 0} {G : Ghosts N CommitWorld} → DeskM
 IsRefusedErrand old new errand halts.Stopped = ⊥
 IsRefusedErrand old new errand (halts.Full actor) = HasErrandBack old new errand
 IsRefusedErrand old new errand halts.NoMemory = HasHalted old new halts.NoMemory
+
+-- The fault is that of a range which has at least so many entries; or memory was wanted.
+abbrev pub IsFullFault : {N : Type 0} {G : Ghosts N CommitWorld} → ℕ → ServeFault N G → Type 0
+IsFullFault limit (faults.Full at last message) = IsFullNote at limit last.known
+IsFullFault limit faults.NoMemory = ⊤
+
+-- The list ends so at this fault: the range is full, of whose last entry the actor knows, and it has the use back of the message that the range gave back,
+-- and that of its copy; or memory was wanted.
+abbrev pub EndsAtFault : {C N : Type 0} {G : Ghosts N CommitWorld} → DeskMeaning C → DeskMeaning C → ServeFault N G → Sequel N G → Halt → Type 0
+EndsAtFault old new (faults.Full at last message) sequel halt =
+    (halt ≡ halts.Full (actors.Range at)) × (new ≡ record old { log = record old.log { part = told_copy sequel.copy (told message.note.known (told last.known old.log.part)); stopped = true } })
+EndsAtFault old new faults.NoMemory sequel halt = (halt ≡ halts.NoMemory) × HasHalted old new halts.NoMemory

@@ -60,7 +60,7 @@ IsRefusedLate old new late halts.NoMemory = ⊤
 -- The message that was lost first in the wave comes before those whose replies wait, and is asked for; nothing else was done.
 pub record HasTakenLost {C : Type 0} (old new : DeskMeaning C) (number : ℕ) : Type 0 where
   pub first : old.lost ≡ number ∷ new.lost
-  pub before : All (λ a. number < a.number) old.replies
+  pub before : KeepsTrack old → All (λ a. number < a.number) old.replies
   pub rest : new ≡ record old { lost = new.lost }
   pub track : KeepsTrack old → KeepsTrack new
 
