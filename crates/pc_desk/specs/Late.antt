@@ -1,5 +1,5 @@
 -- What is evaluated late, from the bag; and what is lost. Own profile.
-use Rattle.std.specs.Prelude.{◌≡◌, ℕ, ◌<◌, not, None, Option, Some, List, [], ◌∷◌, All, Contains, filter, ⊤}
+use Rattle.std.specs.Prelude.{◌≡◌, ℕ, ◌<◌, true, not, None, Option, Some, List, [], ◌∷◌, All, Contains, filter, ⊤}
 use Rattle.pc_desk.specs.declared.answered.Answered.{Answered}
 use Rattle.pc_desk.specs.declared.halt.Halt.{Halt}
 use Rattle.pc_desk.specs.declared.halt.Halt.TheVariants as halts

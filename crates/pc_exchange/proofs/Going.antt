@@ -106,7 +106,7 @@ module _ {C : Type 0} (d new : DeskMeaning C) (request : Request) (some : HasLos
       })
       (record { statement = refl; heard = refl; heard_now = refl; later = omega arith })
 
-  later_lost : IsLater (known_of d.log.part.own) (known_of new.log.part.own)
+  abbrev later_lost : IsLater (known_of d.log.part.own) (known_of new.log.part.own)
   later_lost = record {
     entries = some.lost;
     messages = all-of-lost id (verdict_of d.log) request (λ p. IsTrue (is_message p.entry.event)) (λ sent_at number range. refl) (next_number (known_of d.log.part.own)) some.lost some.unheard;
@@ -159,7 +159,7 @@ module _ {C : Type 0} (d new : DeskMeaning C) (request : Request) (some : HasLos
       own_lost ∙ (ap (λ l. d.log.part.own ++ l) (none_lost id (verdict_of d.log) request (next_number (known_of d.log.part.own)) some.lost quiet some.unheard) ∙ append-nil d.log.part.own)
 
 -- a lost sending says nothing that was heard, whatever comes of it later
-pub answered_later : (since mid now : Known) (request : Request) (reply : Reply) → IsLater since mid → next_number since ≤ next_number mid → WasAnswered mid now request reply → WasAnswered since now request reply
+abbrev pub answered_later : (since mid now : Known) (request : Request) (reply : Reply) → IsLater since mid → next_number since ≤ next_number mid → WasAnswered mid now request reply → WasAnswered since now request reply
 answered_later since mid now request reply later low a = record {
   before = a.before;
   later = later-later since mid a.before later a.later;

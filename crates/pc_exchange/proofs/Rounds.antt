@@ -23,7 +23,7 @@ use Rattle.pc_exchange.proofs.HeardKinds.{heard_begun, heard_now_kind, top_below
 use Rattle.pc_exchange.proofs.InTurn.{fate_of, goes_on}
 use Rattle.pc_exchange.proofs.LostTimes.{lost_so_often}
 use Rattle.pc_exchange.proofs.NextTurn.{settles_next}
-use Rattle.pc_exchange.proofs.Rounding.{IsMade, at_finished, at_refused, at_unsure, behind_timely, come_on, ends_refused, ends_settled, goal_reads, may_push, of_conflict, one_finished, one_refused, push_aside, push_timely, pushes_on, recover_aside, resolve_aside, round_same, sends_asks}
+use Rattle.pc_exchange.proofs.Rounding.{IsMade, IsOfConflict, at_finished, at_refused, at_unsure, behind_timely, come_on, ends_refused, ends_settled, goal_reads, may_push, of_conflict, one_finished, one_refused, push_aside, push_timely, pushes_on, recover_aside, resolve_aside, round_same, sends_asks}
 use Rattle.pc_exchange.proofs.SameRange.{more_is_heard, went_on}
 use Rattle.pc_exchange.proofs.Silent.{asks_commits_none, asks_unqueried}
 use Rattle.pc_exchange.proofs.Timely.{IsTimely, IsTurnIn, may_exchange}
@@ -52,7 +52,8 @@ use Rattle.pc_proto.specs.declared.reply.Reply.TheVariants as replies
 use Rattle.pc_proto.specs.declared.request.Request.{Request}
 use Rattle.pc_proto.specs.declared.view.View.{View}
 use Rattle.pc_proto.specs.Replies.{is_conflict}
-use Rattle.pc_proto.specs.Requests.{is_resolve_of}
+use Rattle.pc_proto.specs.Requests.{Recovers, is_resolve_of, round_of}
+use Rattle.pc_world.specs.Tell.Refusal.{WasLost}
 use Rattle.pc_proto.specs.Stamps.{greatest_of, reply_stamps}
 use Rattle.pc_proto.specs.Views.{final_fate}
 use Rattle.pc_push.specs.declared.progress.Progress.{Progress}
