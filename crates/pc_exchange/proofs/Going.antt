@@ -118,8 +118,7 @@ module _ {C : Type 0} (d new : DeskMeaning C) (request : Request) (some : HasLos
   jobs_lost s opened =
       let f = lost_keeps (λ own. ((known_of own).statement ≡ Some s) × (jobs_of own ≡ jobs_of d.log.part.own))
       (λ own sent_at range p.
-      let number = next_number (known_of own) in
-      (
+      let number = next_number (known_of own) in (
         ap (λ (k : Known). k.statement) (known_sent own id sent_at number range request) ∙ p.0,
         jobs_sent own id sent_at number range request ∙ (ap (λ o. left_by_exchange o (jobs_of own)) p.0 ∙ p.1),
       )) (opened, refl) in
@@ -146,8 +145,7 @@ module _ {C : Type 0} (d new : DeskMeaning C) (request : Request) (some : HasLos
       let f = lost_keeps (λ own. ((known_of own).statement ≡ start.statement) × StaysDecided (known_of own) t at)
       (λ own sent_at range p.
       let number = next_number (known_of own) in
-      let k = known_sent own id sent_at number range request in
-      (
+      let k = known_sent own id sent_at number range request in (
         ap (λ (k : Known). k.statement) k ∙ p.0,
         subst (λ (k : Known). StaysDecided k t at) (sym k) (stays_sent number range request (known_of own) (kind_lost start (known_of own) p.0 kind) t at other committed p.1),
       )) (refl, stays) in
