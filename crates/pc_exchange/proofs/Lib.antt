@@ -1,3 +1,4 @@
+pub mod Again
 pub mod Anchored
 pub mod AnsweredAlive
 pub mod Aside
@@ -14,11 +15,15 @@ pub mod Going
 pub mod Growing
 pub mod HeardKinds
 pub mod HeardSince
+pub mod Hearing
 pub mod InTurn
 pub mod Knowing
+pub mod Learned
 pub mod Listed
 pub mod Lists
 pub mod LocalSteps
+pub mod Losing
+pub mod LostTimes
 pub mod Messages
 pub mod NextTurn
 pub mod PastEpochs
@@ -28,6 +33,7 @@ pub mod Recovering
 pub mod Rounding
 pub mod Rounds
 pub mod RowsDecide
+pub mod SameRange
 pub mod ShownStages
 pub mod Silent
 pub mod StagesPast

@@ -1,10 +1,10 @@
 -- How an actor's list breaks off in the middle of what it did: it made some entries, and then its list had ended.
 use Rattle.std.specs.Prelude.{◌≡◌, ◌≤◌, false, true, List, ◌++◌, length, All, Contains, ⊤}
-use Rattle.pc_desk.specs.OwnLog.{verdict_of}
 use Rattle.pc_desk.specs.declared.halt.Halt.{Halt}
 use Rattle.pc_desk.specs.declared.halt.Halt.TheVariants as halts
 use Rattle.pc_desk.specs.Desk.{DeskMeaning, GivesByVerdicts}
 use Rattle.pc_desk.specs.Ending.{EndsEarly}
+use Rattle.pc_desk.specs.OwnLog.{verdict_of}
 use Rattle.pc_history.specs.declared.pair.Pair.{Pair}
 use Rattle.pc_history.specs.declared.view.Known.{Known as KnownEntry}
 use Rattle.pc_history.specs.Parts.{knowledge}
