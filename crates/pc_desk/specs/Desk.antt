@@ -225,6 +225,7 @@ pub record AreLost {C : Type 0} (d : DeskMeaning C) : Type 0 where
   pub rising : IsStrictlySortedBy nat_cmp d.lost
   pub each : All (λ number. (is_losing (d.log.verdict number) ≡ true) × (times_sent number (known_of d.log.part.own) ≡ 1) × (heard_as_number number (known_of d.log.part.own) ≡ 0)) d.lost
   pub behind : All (λ m. All (λ number. number < m.number) d.lost) d.posted
+  pub unanswered : All (λ number. answered_as number d.replies ≡ 0) d.lost
 
 -- The replies are to messages of rising numbers.
 abbrev pub AreInTurn : List Answered → Type 0

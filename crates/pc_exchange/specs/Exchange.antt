@@ -3,6 +3,7 @@ use Rattle.std.specs.Prelude.{◌≡◌, ℕ, ◌+◌, ◌<◌, true, false, Non
 use Rattle.pc_base.specs.declared.actor.ActorId.{ActorId}
 use Rattle.pc_desk.specs.declared.answered.Answered.{Answered}
 use Rattle.pc_desk.specs.Desk.{DeskMeaning, HasHeardFirst, KeepsTrack, MaySendNow}
+use Rattle.pc_desk.specs.Late.{HasTakenLost}
 use Rattle.pc_exchange.specs.Growing.{HasGoneBeside, HasAllBack}
 use Rattle.pc_history.specs.declared.pair.Pair.{Pair}
 use Rattle.pc_history.specs.Own.{pair}
@@ -87,4 +88,10 @@ pub record WasHeardLast {C : Type 0} (old new : DeskMeaning C) (reply : Reply) :
   pub answered : Answered
   pub told : answered.reply ≡ reply
   pub heard : HasHeardFirst old new answered
+  pub back : HasAllBack new
+
+-- The one message that was delivered was lost, which was asked for, and nothing else was done.
+pub record WasLostLast {C : Type 0} (old new : DeskMeaning C) : Type 0 where
+  pub number : ℕ
+  pub taken : HasTakenLost old new number
   pub back : HasAllBack new

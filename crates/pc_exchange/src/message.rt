@@ -1,7 +1,9 @@
-ghost use Rattle.std.specs.Prelude.{◌≡◌, IfErr, IfNone, IfOk, IfSome, OnErr, OnOk, All};
-ghost use Rattle.pc_desk.specs.Desk.{HasHalted};
+ghost use Rattle.std.specs.Prelude.{◌≡◌, ℕ, IfErr, IfNone, IfOk, IfSome, OnErr, OnOk, All};
+ghost use Rattle.pc_desk.specs.Desk.{HasHalted, MayHearNow};
+ghost use Rattle.pc_desk.specs.Ending.{EndsOnly};
 ghost use Rattle.pc_exchange.specs.Ending.{BreaksOff};
-ghost use Rattle.pc_exchange.specs.Exchange.{HasLostAll, HasLostOne, HasOneOut, MayExchangeNow, WasExchanged, WasHeardLast};
+ghost use Rattle.pc_exchange.specs.Exchange.{HasLostAll, HasLostOne, HasOneOut, MayExchangeNow, WasExchanged, WasHeardLast, WasLostLast};
+ghost use Rattle.pc_proto.specs.declared.event.Event.TheVariants as events;
 ghost use Rattle.pc_turns.specs.Order.{IsInBetween};
 
 use pc_base::{NoMemory, TryCopy};
@@ -64,11 +66,13 @@ fn exchange_once<N: Named<CommitWorld>, C: Clock, V: Wire, G: Gate, R: Wait>(
 pub fn hear_one<N: Named<CommitWorld>, C: Clock, V: Wire, G: Gate>(
     desk: &mut Desk<'_, N, C, V, G>,
 ) -> Result<Option<Reply>, Halt>
-    requires { HasOneOut desk.old }
+    requires out { HasOneOut desk.old }
+    requires may { MayHearNow desk.old }
     ensures heard { IfOk result (λ reply. IfSome reply (WasHeardLast desk.old desk.new)) }
+    ensures lost { IfOk result (λ reply. IfNone reply (WasLostLast desk.old desk.new)) }
     ensures clock { desk.new.log.clock ≡ desk.old.log.clock }
     ensures err { IfErr result (HasHalted desk.old desk.new) }
-    ensures ended { IfErr result (BreaksOff (All IsInBetween) desk.old desk.new) }
+    ensures ended { IfErr result (EndsOnly (λ made. (number : ℕ) × (step : ℕ) × (made ≡ events.Hear number step)) desk.old desk.new) }
 {
     if desk.take_lost().is_some() {
         return Ok(None);
