@@ -198,7 +198,7 @@ module _ {C : Type 0} (maker : RoundMaker) (old : DeskMeaning C) (meta : TxnMeta
 pub push_ends_early : (s : Sending) (maker : RoundMaker) (meta : TxnMeta) (q : List (Pair Event)) → AreFrontOfOne s (listed_push maker meta) q → AreFrontOf s (IsPartFor maker meta) q
 push_ends_early s maker meta q one =
     front_weaker s (IsOneMessage (listed_push maker meta) replies.Removed) (IsPartFor maker meta) q
-    (λ xs is. subst (λ l. IsPartFor maker meta l) (sym is.2) (record { push = said is.0 (listed_push maker meta) is.1 replies.Removed; after = []; whole = refl; asked = refl; follows = refl })) (one replies.Removed)
+    (λ xs is. subst (λ l. IsPartFor maker meta l) (sym is.1.1) (record { push = said is.0 (listed_push maker meta) is.1.0 replies.Removed; after = []; whole = refl; asked = refl; follows = refl })) (one replies.Removed)
 
 -- the push was given up
 pub dealt_unpushed : {C : Type 0} (maker : RoundMaker) (old new : DeskMeaning C) (meta : TxnMeta) → HasLostAll old new (listed_push maker meta) → HasDealtWith maker meta old new

@@ -32,17 +32,17 @@ said range request lost reply = record { range = range; request = request; lost 
 
 -- What a message would say, to which range, and what would be heard to it at once.
 abbrev pub Saying : Type 0
-Saying = ℕ × (Request × Reply)
+Saying = ℕ × Request × Reply
 
 abbrev pub would_say : Saying → RoundMessage
-would_say y = said y.0 y.1.0 0 y.1.1
+would_say y = said y.0 y.1 0 y.2
 
 abbrev pub would_be : List Saying → List RoundMessage
 would_be ys = map would_say ys
 
 -- The entry that would send the message.
 abbrev send_for : Saying → Pair Event
-send_for y = pair (entry_of 0 somebody (events.Send 0 y.0 y.1.0)) None
+send_for y = pair (entry_of 0 somebody (events.Send 0 y.0 y.1)) None
 
 -- The one that would hear this reply to the message of this number.
 abbrev hear_for : ℕ → Reply → Pair Event
@@ -51,20 +51,20 @@ hear_for number reply = pair (entry_of 0 somebody (events.Hear number 0)) (Some 
 -- The entries that would make these messages.
 abbrev pub entries_for : List Saying → List (Pair Event)
 entries_for [] = []
-entries_for (y ∷ ys) = send_for y ∷ hear_for 0 y.1.1 ∷ entries_for ys
+entries_for (y ∷ ys) = send_for y ∷ hear_for 0 y.2 ∷ entries_for ys
 
 pub are_entries : (s : Sending) → 1 ≤ s.tries → (ys : List Saying) → AreExchangesIn s (would_be ys) (entries_for ys)
 are_entries s some [] = refl
 are_entries s some (y ∷ ys) = (
-  send_for y ∷ hear_for 0 y.1.1 ∷ [],
+  send_for y ∷ hear_for 0 y.2 ∷ [],
   entries_for ys,
   refl,
   record {
     losses = [];
-    end = send_for y ∷ hear_for 0 y.1.1 ∷ [];
+    end = send_for y ∷ hear_for 0 y.2 ∷ [];
     whole = refl;
     lost = refl;
-    ends = (omega (arith, some), send_for y, hear_for 0 y.1.1, refl, record { number = 0; sends = refl; evaluated_at = 0; hears = refl; told = refl });
+    ends = (omega (arith, some), (send_for y, hear_for 0 y.2, refl, record { number = 0; sends = refl; evaluated_at = 0; hears = refl; told = refl }));
   },
   are_entries s some ys,
 )
@@ -81,8 +81,8 @@ module _ (id : ActorId) (s : Sending) where
 
   ends-mapped : (x : RoundMessage) (reply : Option Reply) (part : List (Pair Event)) → EndsMessage s x reply part → EndsMessage s x reply (map (made_as id) part)
   ends-mapped x None part (none, all) = (ap (map (made_as id)) none, all)
-  ends-mapped x (Some reply) part (few, send, hear, whole, one) =
-      (few, made_as id send, made_as id hear, ap (map (made_as id)) whole, record { number = one.number; sends = one.sends; evaluated_at = one.evaluated_at; hears = one.hears; told = one.told })
+  ends-mapped x (Some reply) part (few, (send, hear, whole, one)) =
+      (few, (made_as id send, made_as id hear, ap (map (made_as id)) whole, record { number = one.number; sends = one.sends; evaluated_at = one.evaluated_at; hears = one.hears; told = one.told }))
 
   -- whoever made the entries, they make the same messages
   exchanges-mapped : (xs : List RoundMessage) (part : List (Pair Event)) → AreExchangesIn s xs part → AreExchangesIn s xs (map (made_as id) part)
@@ -131,7 +131,7 @@ module _ (s : Sending) (range count : ℕ) (request : Request) (reply : Reply) (
           end = send ∷ hear ∷ [];
           whole = refl;
           lost = lost;
-          ends = (few, send, hear, refl, record { number = 0; sends = refl; evaluated_at = 0; hears = refl; told = refl });
+          ends = (few, (send, hear, refl, record { number = 0; sends = refl; evaluated_at = 0; hears = refl; told = refl }));
         });
       }
 
@@ -149,7 +149,7 @@ module _ (s : Sending) (range count : ℕ) (request : Request) (reply : Reply) (
           end = p ∷ hear ∷ [];
           whole = append_assoc losses (p ∷ []) (hear ∷ []);
           lost = lost;
-          ends = (few, p, hear, refl, record { number = number; sends = is; evaluated_at = 0; hears = refl; told = refl });
+          ends = (few, (p, hear, refl, record { number = number; sends = is; evaluated_at = 0; hears = refl; told = refl }));
         });
       }
 

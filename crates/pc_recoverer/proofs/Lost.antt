@@ -131,7 +131,7 @@ module _ (number count : ℕ) (splits : List (List ℕ)) (k now : Known) (s : Ha
   still-found id epoch ts writes (findings.Missing key by) (own, missed) = (own, still-heard (WasMissed id epoch ts writes key by) missed)
 
   still-must : (id : TxnId) (shown locks : List (List ℕ)) → MustSettle k id shown locks → MustSettle now id shown locks
-  still-must id shown locks (inl (t, there, rest)) = absurd (contains_nil t (subst (λ l. Contains l t) none there))
+  still-must id shown locks (inl (t, there, named, all)) = absurd (contains_nil t (subst (λ l. Contains l t) none there))
   still-must id shown locks (inr (others, same)) = inr (subst (λ l. All (λ (t : Txn). t.id ≡ id → ⊥) l) (sym none-now) (All-nil (λ (t : Txn). t.id ≡ id → ⊥)), same)
 
   pub row_still : (q : Request) → goes_beside q ≡ true → MaySendRow splits (actors.Recoverer number) k q → MaySendRow splits (actors.Recoverer number) now q

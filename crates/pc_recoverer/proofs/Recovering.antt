@@ -284,7 +284,7 @@ module _ {C : Type 0} (maker : RoundMaker) (old : DeskMeaning C) (meta : TxnMeta
     ends-deciding finding queried is =
         front_behind s (IsOneMessage request replies.Removed) Whole f.traffic f.made.part q f.made.each
         (λ ys one.
-        subst (λ l. Whole (f.traffic ++ l)) (sym one.2) (subst (λ r. Whole (f.traffic ++ said one.0 r one.1 replies.Removed ∷ [])) (sym is) (would-decide finding f.traffic one.0 one.1 queried))) (one replies.Removed)
+        subst (λ l. Whole (f.traffic ++ l)) (sym one.1.1) (subst (λ r. Whole (f.traffic ++ said one.0 r one.1.0 replies.Removed ∷ [])) (sym is) (would-decide finding f.traffic one.0 one.1.0 queried))) (one replies.Removed)
 
     -- in a query
     ends-querying : (n : ℕ) (w : List ℕ × ℕ) → slice_get f.start.writes n ≡ Some w → WereAllFound maker meta f.start.epoch f.start.ts (take n f.start.writes) f.traffic → request ≡ query_for maker meta f.start.epoch f.start.ts w → AreFrontOf s Whole (f.made.part ++ q)
@@ -311,7 +311,7 @@ module _ {C : Type 0} (maker : RoundMaker) (old : DeskMeaning C) (meta : TxnMeta
           },
         ) in
         ((0, decision-by finding, replies.Removed) ∷ [], subst (λ l. Whole (l ++ said 0 (decision-by finding) 0 replies.Removed ∷ [])) (sym is_first.2) (would-decide finding (f.traffic ++ last ∷ []) 0 0 queried)))
-        (front_behind s (IsOneMessage request replies.Missing) First f.traffic f.made.part q f.made.each (λ ys one. (one.0, one.1, ap (λ l. f.traffic ++ l) one.2)) (one replies.Missing))
+        (front_behind s (IsOneMessage request replies.Missing) First f.traffic f.made.part q f.made.each (λ ys one. (one.0, one.1.0, ap (λ l. f.traffic ++ l) one.1.1)) (one replies.Missing))
 
     ends-found : (n : ℕ) (w : Option (List ℕ × ℕ)) → slice_get m.writes n ≡ w → WereAllFound maker meta f.start.epoch f.start.ts (take n f.start.writes) f.traffic → request ≡ asked_for w m → AreFrontOf s Whole (f.made.part ++ q)
     ends-found n (Some w) at come asked = ends-querying n w (ap (λ l. slice_get l n) (sym (writes-is maker old meta met m d f)) ∙ at) come (asked ∙ query-is maker old meta met m d f w)

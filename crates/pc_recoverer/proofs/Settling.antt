@@ -149,8 +149,10 @@ module _ {C : Type 0} (old : DeskMeaning C) (meta : TxnMeta) (fate : Fate) (lock
       (front_before s f.start.making.back.track.log.tries (IsOneMessage request replies.Removed) Next q
       (λ xs is. (
         left,
-        requests_both xs (would_be left) ∙ (ap (λ l. requests_of l ++ requests_of (would_be left)) is.2 ∙ ap (λ l. request ∷ l) (said_each first.tail)),
-        All-append IsHeardMessage xs (would_be left) (subst (λ l. All IsHeardMessage l) (sym is.2) (heard_alone is.0 request is.1 replies.Removed)) (heard_each first.tail),
+        (
+          requests_both xs (would_be left) ∙ (ap (λ l. requests_of l ++ requests_of (would_be left)) is.1.1 ∙ ap (λ l. request ∷ l) (said_each first.tail)),
+          All-append IsHeardMessage xs (would_be left) (subst (λ l. All IsHeardMessage l) (sym is.1.1) (heard_alone is.0 request is.1.0 replies.Removed)) (heard_each first.tail),
+        ),
       )) it)
 
   module _ (request : Request) (due : finishing_next m ≡ machine.Send request) (next : Resolving) (new : DeskMeaning C) (reply : Reply) (x : WasExchanged d new request reply) (made : next ≡ finishing_after reply m) where

@@ -100,7 +100,7 @@ module _ {C : Type 0} (d new : DeskMeaning C) (request : Request) (reply : Reply
       end = _;
       whole = refl;
       lost = sent_in_vain d.log.part.id (sending_of d.log) message_of (next_number (known_of d.log.part.own)) x.lost x.unheard there;
-      ends = (x.few, _, _, refl, record { number = next_number (known_of d.log.part.own) + length x.lost; sends = refl; evaluated_at = x.evaluated_at; hears = refl; told = refl });
+      ends = (x.few, (_, _, refl, record { number = next_number (known_of d.log.part.own) + length x.lost; sends = refl; evaluated_at = x.evaluated_at; hears = refl; told = refl }));
     });
     later = later_by;
     stays = still_making;

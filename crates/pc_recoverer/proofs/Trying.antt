@@ -1,6 +1,7 @@
 -- A recoverer sends a message again while it is lost: what may be done between two tries, and what they come to.
 use Rattle.std.proofs.Common.{◌≡◌, ℕ, ◌+◌, ◌<◌, ◌≤◌, true, is_some, inl, None, List, [], ◌∷◌, ◌++◌, length, refl, sym, ap, subst, ◌∙◌, arith, length-append}
 use Rattle.std.proofs.lemmas.List.Elements.{All-append, All-cons, All-nil}
+use Rattle.pc_base.specs.declared.actor.ActorId.{ActorId}
 use Rattle.pc_base.specs.declared.actor.ActorId.TheVariants as actors
 use Rattle.pc_desk.specs.declared.halt.Halt.{Halt}
 use Rattle.pc_desk.specs.Desk.{DeskMeaning, MaySendNow, MaySendTo}
@@ -32,7 +33,7 @@ use Rattle.pc_world.specs.Local.{Head}
 use Rattle.pc_world.specs.RangeOf.{GoesTo, IsForOne}
 
 -- before the first try
-pub lost_nothing : {C : Type 0} (d : DeskMeaning C) (request : Request) → HasAllBack d → HasLostSome 0 d d request
+abbrev pub lost_nothing : {C : Type 0} (d : DeskMeaning C) (request : Request) → HasAllBack d → HasLostSome 0 d d request
 lost_nothing d request back = record { lost = []; many = refl; unheard = tt; goes = goes_none d back }
 
 pub lost_nothing_to : {C : Type 0} (range : ℕ) (d : DeskMeaning C) (request : Request) → HasAllBack d → HasLostSomeTo range 0 d d request
@@ -93,7 +94,7 @@ module _ {C : Type 0} (old mid : DeskMeaning C) (request : Request) (count : ℕ
   }
 
   -- it is lost once more
-  pub lost_more : (new : DeskMeaning C) (range : ℕ) → WasLostOnce range mid new request → HasLostSome (count + 1) old new request
+  abbrev pub lost_more : (new : DeskMeaning C) (range : ℕ) → WasLostOnce range mid new request → HasLostSome (count + 1) old new request
   lost_more new range once =
       let next = next_number (known_of mid.log.part.own) in
       let first = next_number (known_of old.log.part.own) in
@@ -110,10 +111,10 @@ module _ {C : Type 0} (old mid : DeskMeaning C) (request : Request) (count : ℕ
       }
 
   -- or heard at last
-  pub heard_at_last : (new : DeskMeaning C) (range : ℕ) (reply : Reply) → count < old.log.tries → WasHeardOnce range mid new request reply → WasExchanged old new request reply
+  abbrev pub heard_at_last : (new : DeskMeaning C) (range : ℕ) (reply : Reply) → count < old.log.tries → WasHeardOnce range mid new request reply → WasExchanged old new request reply
   heard_at_last new range reply few once =
       let first = next_number (known_of old.log.part.own) in
-      let F = λ id n. l.lost ++ (sent_pair id once.sent_at n range request ∷ heard_pair id once.heard_at n once.evaluated_by once.evaluated_at reply ∷ []) in
+      let F : ActorId → ℕ → List (Pair Event) = λ id n. l.lost ++ (sent_pair id once.sent_at n range request ∷ heard_pair id once.heard_at n once.evaluated_by once.evaluated_at reply ∷ []) in
       let numbered : next_number (known_of mid.log.part.own) ≡ first + length l.lost = next-is ∙ ap (λ n. first + n) (sym l.many) in
       record {
         lost = l.lost;
@@ -131,7 +132,7 @@ module _ {C : Type 0} (old mid : DeskMeaning C) (request : Request) (count : ℕ
       }
 
   -- or its tries are used up
-  pub lost_all : count ≡ old.log.tries → HasLostAll old mid request
+  abbrev pub lost_all : count ≡ old.log.tries → HasLostAll old mid request
   lost_all all = record { lost = l.lost; unheard = l.unheard; all = l.many ∙ all; goes = l.goes }
 
   -- ---- where its list ends between two tries, or in one

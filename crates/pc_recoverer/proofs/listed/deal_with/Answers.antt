@@ -9,8 +9,8 @@ use Rattle.pc_recoverer.proofs.Breaking.{breaks_weaker}
 use Rattle.pc_recoverer.proofs.Dealing.{dealt_alone, dealt_recovered, dealt_settled, may_push, may_recover, may_settle, push_ends_early, recovered_ends_early, recovery_ends_early, settling_ends_early}
 use Rattle.pc_recoverer.proofs.Traffic.{if_err, recoverer_in_round, on_ok}
 use Rattle.pc_recoverer.specs.Broken.{AreFrontOf, AreFrontOfOne, BreaksOffIn}
-use Rattle.pc_recoverer.specs.Exchanges.{requests_of}
-use Rattle.pc_recoverer.specs.InRound.{HasDealtWith, HasSettled}
+use Rattle.pc_recoverer.specs.Exchanges.{AreDoneInTurn}
+use Rattle.pc_recoverer.specs.InRound.{HasDealtWith, HasSettled, sending_of}
 use Rattle.pc_recoverer.specs.Round.{IsPartFor, listed_push}
 use Rattle.pc_recoverer.specs.Settled.{settling_of}
 use Rattle.pc_recoverer.proofs.listed.deal_with.Goals as goal
@@ -60,14 +60,14 @@ returns-clause-ok g c =
 pub returns-in-Status-clause-ended : goal.returns-in-Status-clause-ended
 returns-in-Status-clause-ended g c =
     let x = subst (λ h. WasExchanged c.args.desk.now c.exchange.new.desk (requests.Push h (whos.Recoverer c.args.maker.number) c.args.maker.level c.args.maker.reading goals.Abort) c.in_ok-reply.reply) c.in-Ok.ensures c.in_ok-reply.ensures.ok in
-    if_err c.settle.result (BreaksOffIn (AreFrontOf (λ xs. requests_of xs ≡ settling_of c.args.meta.now c.in-Status.view)) c.exchange.new.desk c.settle.new.desk) (BreaksOffIn (AreFrontOf (IsPartFor c.args.maker c.args.meta.now)) c.args.desk.now c.settle.new.desk)
+    if_err c.settle.result (BreaksOffIn (AreFrontOf (sending_of c.exchange.new.desk.log) (AreDoneInTurn (settling_of c.args.meta.now c.in-Status.view))) c.exchange.new.desk c.settle.new.desk) (BreaksOffIn (AreFrontOf (sending_of c.args.desk.now.log) (IsPartFor c.args.maker c.args.meta.now)) c.args.desk.now c.settle.new.desk)
     (λ halt. settling_ends_early c.args.maker c.args.desk.now c.args.meta.now c.requires c.exchange.new.desk c.in_ok-reply.reply x c.in-Status.view c.settle.new.desk halt c.in-Status.is) c.settle.ensures.ended
 
 pub returns-in-Unsure-clause-ended : goal.returns-in-Unsure-clause-ended
 returns-in-Unsure-clause-ended g c =
     let x = subst (λ h. WasExchanged c.args.desk.now c.exchange.new.desk (requests.Push h (whos.Recoverer c.args.maker.number) c.args.maker.level c.args.maker.reading goals.Abort) c.in_ok-reply.reply) c.in-Ok.ensures c.in_ok-reply.ensures.ok in
     let view = c.in_ok-view-in-Unsure.view in
-    if_err c.settle-in-Unsure.result (BreaksOffIn (AreFrontOf (λ xs. requests_of xs ≡ settling_of c.args.meta.now view)) c.recover.new.desk c.settle-in-Unsure.new.desk) (BreaksOffIn (AreFrontOf (IsPartFor c.args.maker c.args.meta.now)) c.args.desk.now c.settle-in-Unsure.new.desk)
+    if_err c.settle-in-Unsure.result (BreaksOffIn (AreFrontOf (sending_of c.recover.new.desk.log) (AreDoneInTurn (settling_of c.args.meta.now view))) c.recover.new.desk c.settle-in-Unsure.new.desk) (BreaksOffIn (AreFrontOf (sending_of c.args.desk.now.log) (IsPartFor c.args.maker c.args.meta.now)) c.args.desk.now c.settle-in-Unsure.new.desk)
     (λ halt. recovered_ends_early c.args.maker c.args.desk.now c.args.meta.now c.requires c.exchange.new.desk c.in_ok-reply.reply x c.in-Unsure.met view c.recover.new.desk c.settle-in-Unsure.new.desk halt c.in-Unsure.is c.in_ok-view-in-Unsure.ensures.ok) c.settle-in-Unsure.ensures.ended
 
 pub returns-in_err-view-in-Unsure-clause-ended : goal.returns-in_err-view-in-Unsure-clause-ended
@@ -82,5 +82,5 @@ returns-in_err-reply-clause-ended g c =
     let p = err_from_is_err_and c.from_residual.result c.from_residual.ensures.1 in
     let push = listed_push c.args.maker c.args.meta.now in
     rw (p.1, p.2)
-    (breaks_weaker c.args.desk.now c.exchange.new.desk (AreFrontOfOne push) (AreFrontOf (IsPartFor c.args.maker c.args.meta.now)) c.in_err-reply.field-0.0 (push_ends_early c.args.maker c.args.meta.now)
-    (subst (λ h. BreaksOffIn (AreFrontOfOne (requests.Push h (whos.Recoverer c.args.maker.number) c.args.maker.level c.args.maker.reading goals.Abort)) c.args.desk.now c.exchange.new.desk c.in_err-reply.field-0.0) c.in-Ok.ensures c.in_err-reply.ensures.ended))
+    (breaks_weaker c.args.desk.now c.exchange.new.desk (AreFrontOfOne (sending_of c.args.desk.now.log) push) (AreFrontOf (sending_of c.args.desk.now.log) (IsPartFor c.args.maker c.args.meta.now)) c.in_err-reply.field-0.0 (push_ends_early (sending_of c.args.desk.now.log) c.args.maker c.args.meta.now)
+    (subst (λ h. BreaksOffIn (AreFrontOfOne (sending_of c.args.desk.now.log) (requests.Push h (whos.Recoverer c.args.maker.number) c.args.maker.level c.args.maker.reading goals.Abort)) c.args.desk.now c.exchange.new.desk c.in_err-reply.field-0.0) c.in-Ok.ensures c.in_err-reply.ensures.ended))

@@ -6,7 +6,7 @@ use Rattle.pc_proto.specs.declared.request.Request.TheVariants as requests
 use Rattle.pc_recoverer.proofs.Traffic.{if_err, recoverer_in_round, on_ok}
 use Rattle.pc_recoverer.proofs.Visiting.{has_visited, listing_ends_early, may_list, may_push_listed, visit_ends_early}
 use Rattle.pc_recoverer.specs.Broken.{AreFrontOf, BreaksOffIn, IsOneMessageTo}
-use Rattle.pc_recoverer.specs.InRound.{HasDealtWithEach, HasVisited, MayPushEach}
+use Rattle.pc_recoverer.specs.InRound.{HasDealtWithEach, HasVisited, MayPushEach, sending_of}
 use Rattle.pc_recoverer.specs.Round.{ArePartsFor, IsPartOf}
 use Rattle.pc_recoverer.proofs.visit.visit.Goals as goal
 
@@ -35,13 +35,13 @@ pub returns-clause-ended : goal.returns-clause-ended
 returns-clause-ended g c =
     let d = c.list_records.new.desk in
     let new = c.deal_with_each.new.desk in
-    if_err c.deal_with_each.result (BreaksOffIn (AreFrontOf (ArePartsFor c.args.maker c.as_slice.result.now)) d new) (BreaksOffIn (AreFrontOf (IsPartOf c.args.maker c.args.range)) c.args.desk.now new)
+    if_err c.deal_with_each.result (BreaksOffIn (AreFrontOf (sending_of d.log) (ArePartsFor c.args.maker c.as_slice.result.now)) d new) (BreaksOffIn (AreFrontOf (sending_of c.args.desk.now.log) (IsPartOf c.args.maker c.args.range)) c.args.desk.now new)
     (λ halt breaks.
-    visit_ends_early c.args.maker c.args.range c.args.desk.now d c.in_ok-metas.metas c.requires.round c.in_ok-metas.ensures.ok new halt (subst (λ l. BreaksOffIn (AreFrontOf (ArePartsFor c.args.maker l)) d new halt) c.as_slice.ensures breaks)) c.deal_with_each.ensures.ended
+    visit_ends_early c.args.maker c.args.range c.args.desk.now d c.in_ok-metas.metas c.requires.round c.in_ok-metas.ensures.ok new halt (subst (λ l. BreaksOffIn (AreFrontOf (sending_of d.log) (ArePartsFor c.args.maker l)) d new halt) c.as_slice.ensures breaks)) c.deal_with_each.ensures.ended
 
 pub returns-in_err-metas-clause-ended : goal.returns-in_err-metas-clause-ended
 returns-in_err-metas-clause-ended g c =
     let p = err_from_is_err_and c.from_residual.result c.from_residual.ensures.1 in
     rw (p.1, p.2)
-    (breaks_weaker c.args.desk.now c.list_records.new.desk (AreFrontOf (IsOneMessageTo c.args.range requests.Records (replies.Listed []))) (AreFrontOf (IsPartOf c.args.maker c.args.range)) c.in_err-metas.field-0.0 (listing_ends_early c.args.maker c.args.range)
+    (breaks_weaker c.args.desk.now c.list_records.new.desk (AreFrontOf (sending_of c.args.desk.now.log) (IsOneMessageTo c.args.range requests.Records (replies.Listed []))) (AreFrontOf (sending_of c.args.desk.now.log) (IsPartOf c.args.maker c.args.range)) c.in_err-metas.field-0.0 (listing_ends_early (sending_of c.args.desk.now.log) c.args.maker c.args.range)
     (c.in_err-metas.ensures.ended []))
