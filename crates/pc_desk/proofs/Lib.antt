@@ -16,5 +16,5 @@ pub mod Ending
 pub mod Stopping
 pub mod WaveSteps
 pub mod Besides
-pub mod Strays
+pub mod StraysLeft
 pub mod InCall

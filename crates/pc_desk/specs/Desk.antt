@@ -11,11 +11,12 @@ use Rattle.pc_desk.specs.declared.answered.Answered.{Answered}
 use Rattle.pc_desk.specs.declared.halt.Halt.{Halt}
 use Rattle.pc_desk.specs.declared.halt.Halt.TheVariants as halts
 use Rattle.pc_desk.specs.Keeping.{KeepsNext}
-use Rattle.pc_desk.specs.OwnLog.{HasEntered, IsOwnLog, LogMeaning, terms_of}
+use Rattle.pc_desk.specs.OwnLog.{HasEntered, IsOwnLog, LogMeaning, terms_of, verdict_of}
 use Rattle.pc_desk.specs.Waiting.{WaitInWave}
 use Rattle.pc_history.specs.declared.view.Known.{Known as KnownEntry}
 use Rattle.pc_history.specs.declared.view.Part.{Part}
 use Rattle.pc_history.specs.declared.pair.Pair.{Pair}
+use Rattle.pc_history.specs.Meanings.{NoteMeaning}
 use Rattle.pc_history.specs.Parts.{gave, named_by, told}
 use Rattle.pc_proto.specs.declared.event.Event.{Event}
 use Rattle.pc_proto.specs.declared.event.Event.TheVariants as events
@@ -23,11 +24,11 @@ use Rattle.pc_proto.specs.declared.reply.Reply.{Reply}
 use Rattle.pc_proto.specs.declared.request.Request.{Request}
 use Rattle.pc_proto.specs.Requests.{is_put}
 use Rattle.pc_proto.specs.Stamps.{request_stamps}
-use Rattle.pc_range.specs.Message.{IsFullNote, evaluation, sending}
+use Rattle.pc_range.specs.Message.{IsEvalNote, IsFullNote, evaluation, sending}
 use Rattle.pc_wire.specs.declared.outbox.Stray.{Stray}
 use Rattle.pc_wire.specs.declared.verdict.Verdict.{Verdict}
 use Rattle.pc_wire.specs.declared.verdict.Verdict.TheVariants as verdicts
-use Rattle.pc_wire.specs.Verdicts.{is_late, is_losing}
+use Rattle.pc_wire.specs.Verdicts.{is_late, is_losing, WireRule}
 use Rattle.pc_world.specs.Exchange.{IsAllowed}
 use Rattle.pc_world.specs.Known.{Known, known_of}
 use Rattle.pc_world.specs.Known.Traffic.{Sent, request_sent}
@@ -68,9 +69,9 @@ pub record DeskMeaning (C : Type 0) : Type 0 where
   pub range_limit : ℕ
 
 -- An actor that has sent nothing, with its new list.
-abbrev pub new_desk : {C : Type 0} → Head → Part Event → ℕ → C → (ℕ → Verdict) → ℕ → Bool → Bool → ℕ → Option ℕ → ℕ → DeskMeaning C
-new_desk head part spare clock verdict tries pipelining beside limit stop range_limit = record {
-  log = record { head = head; part = part; spare = spare; clock = clock; verdict = verdict; tries = tries; pipelining = pipelining; beside = beside; limit = limit; stop = stop; stopped = false };
+abbrev pub new_desk : {C : Type 0} → Head → Part Event → ℕ → C → WireRule → ℕ → Bool → Bool → ℕ → Option ℕ → ℕ → DeskMeaning C
+new_desk head part spare clock wire tries pipelining beside limit stop range_limit = record {
+  log = record { head = head; part = part; spare = spare; clock = clock; wire = wire; tries = tries; pipelining = pipelining; beside = beside; limit = limit; stop = stop; stopped = false };
   sends = 0;
   posted = [];
   later = [];
@@ -129,35 +130,50 @@ pub record IsDesk {C : Type 0} (splits : List (List ℕ)) (log : LogMeaning C) (
   pub same : splits ≡ log.head.splits
   pub rising : AreRising log.head.splits
   pub few : length log.head.splits ≤ 31
-  pub ready : All (IsReadyToGo log.part.id log.head.splits log.verdict) waiting
+  pub ready : All (IsReadyToGo log.part.id log.head.splits (verdict_of log)) waiting
 
--- A message in the bag: the number under which it stands, its sender, and what contracts see of it.
+-- A message in the bag: the number under which it stands, its sender, what contracts see of it, and what is told of its first evaluation, if there was one.
 pub record LateMessage : Type 0 where
   pub key : ℕ
   pub sender : ActorId
   pub posted : Posted
+  pub first : List (KnownEntry Event)
 
-abbrev pub late_as : ℕ → ActorId → Posted → LateMessage
-late_as key sender posted = record { key = key; sender = sender; posted = posted }
+abbrev pub late_as : ℕ → ActorId → Posted → List (KnownEntry Event) → LateMessage
+late_as key sender posted first = record { key = key; sender = sender; posted = posted; first = first }
 
--- The message in the bag may go: it stands under its number, and goes to a range that is there, which may evaluate it.
-pub record IsReadyLate (id : ActorId) (splits : List (List ℕ)) (l : LateMessage) : Type 0 where
+-- What the note of a first evaluation tells, if there is one.
+abbrev pub first_told : Option (NoteMeaning Head Event) → List (KnownEntry Event)
+first_told None = []
+first_told (Some note) = note.known
+
+-- What is told is nothing, or an evaluation of the actor's message.
+abbrev pub TellsFirst : ActorId → Posted → List (KnownEntry Event) → Type 0
+TellsFirst id m [] = ⊤
+TellsFirst id m (k ∷ ks) = (step : ℕ) × (reply : Reply) × IsEvalNote id m.number m.range step reply (k ∷ ks)
+
+-- The message in the bag may go: it stands under its number, and goes to a range that is there, which may evaluate it; with that it is evaluated as often as
+-- its verdict says.
+pub record IsReadyLate (id : ActorId) (splits : List (List ℕ)) (verdict : ℕ → Verdict) (l : LateMessage) : Type 0 where
   pub numbered : l.key ≡ l.posted.number
   pub whose : l.sender ≡ id
   pub there : l.posted.range ≤ length splits
   pub use_left : 1 ≤ l.posted.uses
   pub below : AllBelowGreatest (request_stamps l.posted.request)
+  pub tells : TellsFirst id l.posted l.first
+  pub counted : length l.first + 1 ≡ uses_by (verdict l.posted.number)
 
 -- Each message in the bag may go.
 abbrev pub IsBag : {C : Type 0} → LogMeaning C → List LateMessage → Type 0
-IsBag log late = All (IsReadyLate log.part.id log.head.splits) late
+IsBag log late = All (IsReadyLate log.part.id log.head.splits (verdict_of log)) late
 
--- The reply is that of an evaluation which the actor knows, of a message that it sent.
+-- The reply is that of an evaluation which the actor knows, of a message that it sent and that is not lost.
 pub record IsAnsweredBy {C : Type 0} (log : LogMeaning C) (a : Answered) : Type 0 where
   pub range : ℕ
   pub place : ℕ
   pub request : Request
   pub said : request_sent a.number (known_of log.part.own).sent ≡ Some request
+  pub unlost : is_losing (verdict_of log a.number) ≡ false
   pub knows : Contains log.part.known (record { entry = evaluation a.step range log.part.id a.number a.reply; place = place; uses = 0 })
 
 -- How many uses an entry with this event may have been given: where it sends a message, as many as its verdict lets it be evaluated.
@@ -189,20 +205,21 @@ pub record WasEvaluatedAt {C : Type 0} (log : LogMeaning C) (m : Posted) (step :
   pub place : ℕ
   pub knows : Contains log.part.known (record { entry = evaluation step m.range log.part.id m.number reply; place = place; uses = 0 })
 
--- The message waits in the bag.
+-- The message waits in the bag, with some uses.
 pub record IsLate (bag : List (ℕ × Stray Posted)) (m : Posted) : Type 0 where
   pub due : ℕ
-  pub there : Contains bag (m.number, straying due m)
+  pub uses : ℕ
+  pub there : Contains bag (m.number, straying due (posting m.number m.range m.request uses))
 
 -- The message is evaluated as its verdict has it, though nobody hears its reply: never, where the verdict drops it; else it waits in the bag, or the actor
 -- knows an evaluation of it.
 abbrev pub IsDropped : {C : Type 0} → DeskMeaning C → Posted → Type 0
-IsDropped d m = (d.log.verdict m.number ≡ verdicts.LoseRequest) ⊎ IsLate d.bag m ⊎ ((step : ℕ) × WasEvaluatedAt d.log m step)
+IsDropped d m = (verdict_of d.log m.number ≡ verdicts.LoseRequest) ⊎ IsLate d.bag m ⊎ ((step : ℕ) × WasEvaluatedAt d.log m step)
 
 -- Nobody hears a reply to the message: its verdict loses it, or it was set aside and delivered as a stray.
 pub record IsUnheard {C : Type 0} (d : DeskMeaning C) (m : Posted) : Type 0 where
   pub one : IsOneSent (known_of d.log.part.own).sent m
-  pub why : (is_losing (d.log.verdict m.number) ≡ true) ⊎ (is_put m.request ≡ true)
+  pub why : (is_losing (verdict_of d.log m.number) ≡ true) ⊎ (is_put m.request ≡ true)
   pub dropped : IsDropped d m
 
 -- The verdict has the message evaluated twice.
@@ -210,20 +227,22 @@ abbrev pub is_repeating : Verdict → Bool
 is_repeating (verdicts.Repeat later) = true
 is_repeating _ = false
 
--- Of a message that is evaluated twice and does not wait for its first evaluation, the copy waits in the bag, or the actor knows two evaluations.
+-- Of a message that is evaluated twice and does not wait for its first evaluation, the actor knows two evaluations; or it knows one, and the copy waits in
+-- the bag.
 abbrev pub IsRepeatedOrLate : {C : Type 0} → DeskMeaning C → Posted → Type 0
-IsRepeatedOrLate d m = IsLate d.bag m ⊎ ((one other : ℕ) × (one < other) × WasEvaluatedAt d.log m one × WasEvaluatedAt d.log m other)
+IsRepeatedOrLate d m = (IsLate d.bag m × ((step : ℕ) × WasEvaluatedAt d.log m step)) ⊎ ((one other : ℕ) × (one < other) × WasEvaluatedAt d.log m one × WasEvaluatedAt d.log m other)
 
--- What is in the bag was sent; its verdict holds it, or repeats it.
+-- What is in the bag was sent, and waits nowhere else to be evaluated; its verdict holds it, or repeats it.
 pub record IsOfBag {C : Type 0} (d : DeskMeaning C) (e : ℕ × Stray Posted) : Type 0 where
   pub one : IsOneSent (known_of d.log.part.own).sent e.1.message
   pub number : e.0 ≡ e.1.message.number
-  pub late : is_late (d.log.verdict e.0) ≡ true
+  pub late : is_late (verdict_of d.log e.0) ≡ true
+  pub gone : posted_as e.0 d.posted + posted_as e.0 d.later ≡ 0
 
--- The numbers of messages that were lost and are not asked for yet: they rise, and each was sent, lost by its verdict, and not heard.
+-- The numbers of messages that were lost and are not asked for yet: they rise, and each was sent, lost by its verdict, and not heard, and no reply to it waits.
 pub record AreLost {C : Type 0} (d : DeskMeaning C) : Type 0 where
   pub rising : IsStrictlySortedBy nat_cmp d.lost
-  pub each : All (λ number. (is_losing (d.log.verdict number) ≡ true) × (times_sent number (known_of d.log.part.own) ≡ 1) × (heard_as_number number (known_of d.log.part.own) ≡ 0)) d.lost
+  pub each : All (λ number. (is_losing (verdict_of d.log number) ≡ true) × (times_sent number (known_of d.log.part.own) ≡ 1) × (heard_as_number number (known_of d.log.part.own) ≡ 0)) d.lost
   pub behind : All (λ m. All (λ number. number < m.number) d.lost) d.posted
   pub unanswered : All (λ number. answered_as number d.replies ≡ 0) d.lost
 
@@ -248,7 +267,7 @@ pub record KeepsTrack {C : Type 0} (d : DeskMeaning C) : Type 0 where
   pub unheard : List Posted
   pub each_unheard : All (IsUnheard d) unheard
   pub stages : (number : ℕ) → posted_as number d.posted + (posted_as number d.later + posted_as number unheard) + answered_as number d.replies + heard_as_number number (known_of d.log.part.own) ≡ times_sent number (known_of d.log.part.own)
-  pub repeated : (m : Posted) → IsOneSent (known_of d.log.part.own).sent m → is_repeating (d.log.verdict m.number) ≡ true → posted_as m.number d.posted + posted_as m.number d.later ≡ 0 → IsRepeatedOrLate d m
+  pub repeated : (m : Posted) → IsOneSent (known_of d.log.part.own).sent m → is_repeating (verdict_of d.log m.number) ≡ true → posted_as m.number d.posted + posted_as m.number d.later ≡ 0 → IsRepeatedOrLate d m
   pub late : All (IsOfBag d) d.bag
   pub lost : AreLost d
   pub posted : All (λ m. request_sent m.number (known_of d.log.part.own).sent ≡ Some m.request) d.posted
@@ -257,7 +276,7 @@ pub record KeepsTrack {C : Type 0} (d : DeskMeaning C) : Type 0 where
   pub answered : All (IsAnsweredBy d.log) d.replies
   pub turn : WaitInTurn d.replies d.posted
   pub wave : WaitInWave d.log.beside d.log.part.own d.posted d.replies
-  pub given : GivesByVerdicts d.log.verdict d.log.part
+  pub given : GivesByVerdicts (verdict_of d.log) d.log.part
 
 -- The message of the least number was taken from those that wait, and nothing else was done.
 pub record HasTakenFirst {C : Type 0} (old new : DeskMeaning C) (m : Posted) : Type 0 where
@@ -296,7 +315,7 @@ pub record HasSentNext {C : Type 0} (old new : DeskMeaning C) (number : ℕ) (re
   pub next : number ≡ old.sends + 1
   pub sent : LogMeaning C
   pub entered : HasEntered old.log sent (events.Send number range request)
-  pub noted : new.log ≡ record sent { part = gave (length sent.part.own - 1) (uses_by (old.log.verdict number)) sent.part }
+  pub noted : new.log ≡ record sent { part = gave (length sent.part.own - 1) (uses_by (verdict_of old.log number)) sent.part }
   pub track : KeepsTrack new
   pub way : (other : ℕ) → is_on_way other new ≡ (number == other || is_on_way other old)
   pub replies : new.replies ≡ old.replies
@@ -321,10 +340,10 @@ pub record EndsWithSend {C : Type 0} (l : LogMeaning C) (number range : ℕ) (re
 -- The message waits in the outbox now, with as many uses of the entry in which it was sent, which is the actor's last, as its verdict lets it be
 -- evaluated.
 pub record HasPosted {C : Type 0} (old new : DeskMeaning C) (number range : ℕ) (request : Request) : Type 0 where
-  pub log : new.log ≡ record old.log { part = gave (length old.log.part.own - 1) (uses_by (old.log.verdict number)) old.log.part }
+  pub log : new.log ≡ record old.log { part = gave (length old.log.part.own - 1) (uses_by (verdict_of old.log number)) old.log.part }
   pub rest : new ≡ record old { log = new.log; posted = new.posted }
   pub counts : (n : ℕ) → posted_as n new.posted ≡ posted_as n old.posted + cond (number == n) 1 0
-  pub all : (m : Posted) → Contains new.posted m → Contains old.posted m ⊎ (posting number range request (uses_by (old.log.verdict number)) ≡ m)
+  pub all : (m : Posted) → Contains new.posted m → Contains old.posted m ⊎ (posting number range request (uses_by (verdict_of old.log number)) ≡ m)
 
 -- The actor made this event, which sends and hears nothing, and did nothing else.
 pub record HasDone {C : Type 0} (old new : DeskMeaning C) (event : Event) : Type 0 where

@@ -1,9 +1,10 @@
 -- How an actor's list ends before its work does: where it has as many entries as it may have, or a range has, or at its stated stop; and what
 -- becomes of its messages then.
 use Rattle.std.specs.Prelude.{◌≡◌, ℕ, ◌<◌, true, false, ◌⊎◌, Some, List, [], ◌∷◌, ◌++◌, length, map, is_some, All, Contains, IsTrue, ⊤}
+use Rattle.pc_desk.specs.OwnLog.{verdict_of}
 use Rattle.pc_desk.specs.declared.halt.Halt.{Halt}
 use Rattle.pc_desk.specs.declared.halt.Halt.TheVariants as halts
-use Rattle.pc_desk.specs.Desk.{DeskMeaning, KeepsTrack, Posted, as_sent}
+use Rattle.pc_desk.specs.Desk.{DeskMeaning, KeepsTrack, Posted, as_sent, is_repeating}
 use Rattle.pc_desk.specs.Refused.{WasGivenBack}
 use Rattle.pc_history.specs.declared.pair.Pair.{Pair}
 use Rattle.pc_history.specs.declared.view.Known.{Known as KnownEntry}
@@ -34,9 +35,27 @@ pub record KnowsEvaluation (part : Part Event) (number : ℕ) : Type 0 where
 abbrev pub all_waiting : {C : Type 0} → DeskMeaning C → List Posted
 all_waiting d = (d.posted ++ d.later) ++ map (λ e. e.1.message) d.bag
 
+-- The actor knows two evaluations of its message of this number.
+pub record KnowsTwo (part : Part Event) (number : ℕ) : Type 0 where
+  pub one : KnownEntry Event
+  pub other : KnownEntry Event
+  pub later : one.entry.step < other.entry.step
+  pub knows_one : Contains part.known one
+  pub knows_other : Contains part.known other
+  pub one_is : Evaluates part.id number one.entry.event
+  pub other_is : Evaluates part.id number other.entry.event
+
+-- The message waits to be evaluated, or the actor knows two evaluations of it.
+abbrev pub IsRepeatedOrWaits : {C : Type 0} → DeskMeaning C → ℕ → Type 0
+IsRepeatedOrWaits d number = WaitsStill (all_waiting d) number ⊎ KnowsTwo d.log.part number
+
 -- The message was heard, or it waits to be evaluated, or the actor knows an evaluation of it, or its verdict has it never evaluated.
+abbrev pub IsSomewhere : {C : Type 0} → DeskMeaning C → Sent → Type 0
+IsSomewhere d m = IsTrue (is_heard (known_of d.log.part.own).heard m) ⊎ WaitsStill (all_waiting d) m.number ⊎ KnowsEvaluation d.log.part m.number ⊎ (verdict_of d.log m.number ≡ verdicts.LoseRequest)
+
+-- So it is; and of one that is evaluated twice both evaluations are known, or one waits.
 abbrev pub IsNotLost : {C : Type 0} → DeskMeaning C → Sent → Type 0
-IsNotLost d m = IsTrue (is_heard (known_of d.log.part.own).heard m) ⊎ WaitsStill (all_waiting d) m.number ⊎ KnowsEvaluation d.log.part m.number ⊎ (d.log.verdict m.number ≡ verdicts.LoseRequest)
+IsNotLost d m = IsSomewhere d m × (is_repeating (verdict_of d.log m.number) ≡ true → IsRepeatedOrWaits d m.number)
 
 -- What waits was sent, and no reply to it was heard.
 pub record WaitsUnheard (k : Known) (m : Posted) : Type 0 where
@@ -55,10 +74,9 @@ pub record IsAtStop {C : Type 0} (d : DeskMeaning C) : Type 0 where
   pub each : All (IsNotLost d) (known_of d.log.part.own).sent
   pub waits : All (WaitsUnheard (known_of d.log.part.own)) (d.posted ++ d.later)
 
--- The message is spent: its range, which is full, refused it, so it is never evaluated, and no reply to it was heard.
+-- The message is spent: its range, which is full, refused it, so it is not evaluated any more.
 pub record IsSpent {C : Type 0} (d : DeskMeaning C) (m : Sent) : Type 0 where
   pub refused : WasGivenBack d.range_limit d.log.part m
-  pub unheard : is_heard (known_of d.log.part.own).heard m ≡ false
 
 -- Where the request puts a write, a call is open.
 abbrev pub PutsInCall : Known → Request → Type 0

@@ -1,9 +1,18 @@
 -- What is evaluated late, from the bag; and what is lost. Own profile.
-use Rattle.std.specs.Prelude.{◌≡◌, ℕ, ◌<◌, not, List, [], ◌∷◌, All, Contains, filter}
+use Rattle.std.specs.Prelude.{◌≡◌, ℕ, ◌<◌, true, not, List, [], ◌∷◌, All, Contains, filter, ⊤}
 use Rattle.pc_desk.specs.declared.answered.Answered.{Answered}
-use Rattle.pc_desk.specs.Desk.{DeskMeaning, KeepsTrack, Posted}
+use Rattle.pc_desk.specs.declared.halt.Halt.{Halt}
+use Rattle.pc_desk.specs.declared.halt.Halt.TheVariants as halts
+use Rattle.pc_desk.specs.declared.late.Late.{Late}
+use Rattle.pc_desk.specs.Desk.{DeskMeaning, KeepsTrack, Posted, first_told}
+use Rattle.pc_desk.specs.OwnLog.{IsOwnLog}
+use Rattle.pc_history.specs.declared.named.Named.{Ghosts}
 use Rattle.pc_history.specs.declared.view.Known.{Known as KnownEntry}
+use Rattle.pc_history.specs.Parts.{told}
 use Rattle.pc_proto.specs.declared.event.Event.{Event}
+use Rattle.pc_proto.specs.declared.reply.Reply.{Reply}
+use Rattle.pc_range.specs.declared.commit_world.CommitWorld.{CommitWorld}
+use Rattle.pc_range.specs.Message.{ComesAfter, IsFullNote, evaluation}
 use Rattle.pc_wire.specs.declared.outbox.Stray.{Stray}
 use Rattle.pc_wire.specs.Outbox.{is_due_by}
 
@@ -17,6 +26,31 @@ pub record HasDeliveredDue {C : Type 0} (old new : DeskMeaning C) : Type 0 where
   pub rest : new ≡ record old { log = new.log; bag = not_due old.sends old.bag }
   pub more : (k : KnownEntry Event) → Contains old.log.part.known k → Contains new.log.part.known k
   pub track : KeepsTrack new
+
+-- The message was evaluated late, after its first evaluation, if there was one, which the actor knows too; nobody hears the reply.
+pub record HasEvaluatedLate {C N : Type 0} {G : Ghosts N CommitWorld} (old new : DeskMeaning C) (late : Late N G) : Type 0 where
+  pub step : ℕ
+  pub reply : Reply
+  pub place : ℕ
+  pub behind : ComesAfter step (first_told late.first)
+  pub rest :
+      new ≡ record old {
+        log = record old.log {
+          part = told (record { entry = evaluation step late.message.range old.log.part.id late.message.number reply; place = place; uses = 0 } ∷ []) (told (first_told late.first) old.log.part);
+        };
+      }
+  pub log : IsOwnLog new.log
+
+-- The message was not evaluated: its range is full, of whose last entry the actor knows, and it has the message's use back; or memory was wanted.
+pub record HasLateBack {C N : Type 0} {G : Ghosts N CommitWorld} (old new : DeskMeaning C) (late : Late N G) : Type 0 where
+  pub last : List (KnownEntry Event)
+  pub full : IsFullNote late.message.range old.range_limit last
+  pub rest : new ≡ record old { log = record old.log { part = told late.message.note.known (told last (told (first_told late.first) old.log.part)); stopped = true } }
+
+abbrev pub IsRefusedLate : {C N : Type 0} {G : Ghosts N CommitWorld} → DeskMeaning C → DeskMeaning C → Late N G → Halt → Type 0
+IsRefusedLate old new late halts.Stopped = ⊥
+IsRefusedLate old new late (halts.Full actor) = HasLateBack old new late
+IsRefusedLate old new late halts.NoMemory = ⊤
 
 -- The message that was lost first in the wave comes before those whose replies wait, and is asked for; nothing else was done.
 pub record HasTakenLost {C : Type 0} (old new : DeskMeaning C) (number : ℕ) : Type 0 where

@@ -17,3 +17,4 @@ pub mod Late
 pub mod TakenWave
 pub mod Ending
 pub mod Rest
+pub mod Left

@@ -13,10 +13,11 @@ use Rattle.pc_history.specs.Closed.{IsSound, StandsInHistory}
 use Rattle.pc_history.specs.Parts.{IsCausedFor, IsLocalFor, acted, knowledge, named_by, told}
 use Rattle.pc_proto.specs.declared.event.Event.{Event}
 use Rattle.pc_wire.specs.declared.verdict.Verdict.{Verdict}
+use Rattle.pc_wire.specs.Verdicts.{WireRule, verdict_by}
 use Rattle.pc_world.specs.Local.{Head, IsActorOf}
 use Rattle.pc_world.specs.Run.{protocol, spends}
 
--- What the actor stored and knows, and for how many more entries it has room; its clock, what becomes of its message of each number, how often in a
+-- What the actor stored and knows, and for how many more entries it has room; its clock, by what its wire goes, how often in a
 -- row it sends a request to which it hears no reply, whether its writes are pipelined, and whether the evaluations of a wave go beside each other; how
 -- many entries it may have; at which it stops, if that is stated; and whether it has stopped.
 pub record LogMeaning (C : Type 0) : Type 0 where
@@ -24,7 +25,7 @@ pub record LogMeaning (C : Type 0) : Type 0 where
   pub part : Part Event
   pub spare : ℕ
   pub clock : C
-  pub verdict : ℕ → Verdict
+  pub wire : WireRule
   pub tries : ℕ
   pub pipelining : Bool
   pub beside : Bool
@@ -32,9 +33,13 @@ pub record LogMeaning (C : Type 0) : Type 0 where
   pub stop : Option ℕ
   pub stopped : Bool
 
+-- What becomes of the actor's message of each number.
+abbrev pub verdict_of : {C : Type 0} → LogMeaning C → ℕ → Verdict
+verdict_of l = verdict_by l.wire
+
 -- By what the list's messages go.
 abbrev pub terms_of : {C : Type 0} → LogMeaning C → Terms
-terms_of l = record { verdict = l.verdict; tries = l.tries; pipelining = l.pipelining }
+terms_of l = record { verdict = verdict_of l; tries = l.tries; pipelining = l.pipelining }
 
 -- The actor is a session or a recoverer.
 abbrev pub IsNoRange : ActorId → Type 0

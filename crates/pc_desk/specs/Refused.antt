@@ -25,8 +25,8 @@ pub record WasGivenBack (limit : ℕ) (part : Part Event) (m : Sent) : Type 0 wh
   pub full : KnowsFull m.range limit part.known
   pub back : HasUseBack part m
 
--- The fault is that of the message's range, which has at least so many entries and gives this message of the sender back; or memory was wanted.
+-- The fault is that of the message's range, which has at least so many entries and gives this message of the sender back, with a use; or memory was wanted.
 abbrev pub GivesBack : {N : Type 0} {G : Ghosts N CommitWorld} → ℕ → ActorId → Posted → ServeFault N G → Type 0
 GivesBack limit sender m (faults.Full at last message) =
-    (at ≡ m.range) × IsFullNote m.range limit last.known × (message.sender ≡ sender) × (posting message.number message.range message.request (uses_left message.note.known) ≡ m)
+    (at ≡ m.range) × IsFullNote m.range limit last.known × (message.sender ≡ sender) × (posting message.number message.range message.request m.uses ≡ m) × (1 ≤ uses_left message.note.known)
 GivesBack limit sender m faults.NoMemory = ⊤

@@ -27,6 +27,7 @@ ghost use Rattle.pc_world.specs.Stamps.{AllBelowGreatest};
 use crate::answered::Answered;
 use crate::errand::uses_of;
 use crate::halt::Halt;
+use crate::late::Late;
 use crate::own_log::OwnLog;
 use crate::rest::Rest;
 use pc_base::{Entry, NoMemory, TryCopy, TxnId};
@@ -50,10 +51,12 @@ pub struct Desk<'a, N: Named<CommitWorld>, C: Clock, V: Wire, G> {
     pub(crate) ranges: &'a Ranges<'a, N, G>,
     /// How many messages were sent.
     pub(crate) sends: u64,
-    /// The messages that wait for the next wave, and the bag of those that are late.
+    /// The messages that wait for the next wave.
     pub(crate) outbox: Outbox<Message<N>>,
     /// Messages that were set aside until a wave waits for them.
     pub(crate) later: Outbox<Message<N>>,
+    /// The bag of those that are evaluated late.
+    pub(crate) late: Outbox<Late<N>>,
     pub(crate) replies: VecDeque<Answered>,
     /// The numbers of the messages of the last wave that were lost, until they are asked for.
     pub(crate) lost: VecDeque<u64>,
@@ -61,7 +64,7 @@ pub struct Desk<'a, N: Named<CommitWorld>, C: Clock, V: Wire, G> {
 
 impl<'a, N: Named<CommitWorld>, C: Clock, V: Wire, G> Model for Desk<'a, N, C, V, G> {
     ghost use Rattle.std.specs.Prelude.{◌≡◌, ℕ, map};
-    ghost use Rattle.pc_desk.specs.Desk.{DeskMeaning, IsBag, IsDesk, late_as, posting, straying, waiting_as};
+    ghost use Rattle.pc_desk.specs.Desk.{DeskMeaning, IsBag, IsDesk, first_told, late_as, posting, straying, waiting_as};
     ghost use Rattle.pc_history.specs.Parts.{uses_left};
 
     ghost Value = { DeskMeaning C };
@@ -71,7 +74,7 @@ impl<'a, N: Named<CommitWorld>, C: Clock, V: Wire, G> Model for Desk<'a, N, C, V
       sends = d.sends;
       posted = map (λ e. posting e.1.message.number e.1.message.range e.1.message.request (uses_left e.1.message.note.known)) d.outbox.waiting;
       later = map (λ e. posting e.1.message.number e.1.message.range e.1.message.request (uses_left e.1.message.note.known)) d.later.waiting;
-      bag = map (λ e. (e.0, straying e.1.due (posting e.1.message.number e.1.message.range e.1.message.request (uses_left e.1.message.note.known)))) d.outbox.bag;
+      bag = map (λ e. (e.0, straying e.1.due (posting e.1.message.message.number e.1.message.message.range e.1.message.message.request (uses_left e.1.message.message.note.known)))) d.late.bag;
       replies = d.replies.items;
       lost = d.lost.items;
       range_limit = d.ranges.now.limit;
@@ -80,7 +83,7 @@ impl<'a, N: Named<CommitWorld>, C: Clock, V: Wire, G> Model for Desk<'a, N, C, V
     ghost invariant = { λ d.
         IsDesk d.ranges.now.splits d.log (map (λ e. waiting_as e.0 e.1.message.sender e.1.verdict (posting e.1.message.number e.1.message.range e.1.message.request (uses_left e.1.message.note.known))) d.outbox.waiting)
         × IsDesk d.ranges.now.splits d.log (map (λ e. waiting_as e.0 e.1.message.sender e.1.verdict (posting e.1.message.number e.1.message.range e.1.message.request (uses_left e.1.message.note.known))) d.later.waiting)
-        × IsBag d.log (map (λ e. late_as e.0 e.1.message.sender (posting e.1.message.number e.1.message.range e.1.message.request (uses_left e.1.message.note.known))) d.outbox.bag) };
+        × IsBag d.log (map (λ e. late_as e.0 e.1.message.message.sender (posting e.1.message.message.number e.1.message.message.range e.1.message.message.request (uses_left e.1.message.message.note.known)) (first_told e.1.message.first)) d.late.bag) };
 }
 
 impl<'a, N: Named<CommitWorld>, C: Clock, V: Wire, G: Gate> Desk<'a, N, C, V, G> {
@@ -119,6 +122,7 @@ impl<'a, N: Named<CommitWorld>, C: Clock, V: Wire, G: Gate> Desk<'a, N, C, V, G>
             sends: 0,
             outbox: Outbox::new(alloc),
             later: Outbox::new(alloc),
+            late: Outbox::new(alloc),
             replies: VecDeque::new(alloc),
             lost: VecDeque::new(alloc),
         }
@@ -428,7 +432,10 @@ impl<'a, N: Named<CommitWorld>, C: Clock + Drop, V: Wire + Drop, G> Desk<'a, N, 
         ensures rest { IsRestOf self.entry result.1 }
         ensures ready { All (IsReadyLeft self.entry.log.part.id self.entry.log.head.splits) result.1 }
     {
-        (self.log.into_actor(), Rest::of(self.outbox, self.later))
+        (
+            self.log.into_actor(),
+            Rest::of(self.outbox, self.later, self.late),
+        )
     }
 }
 

@@ -1,14 +1,14 @@
 ghost use Rattle.std.specs.Prelude.{◌≡◌, ℕ, ◌+◌, ◌≤◌, [], true, length, IfErr, IfNone, IfOk, IfSome, OnErr, OnOk};
 ghost use Rattle.pc_desk.specs.declared.halt.Halt.TheVariants as halts;
-ghost use Rattle.pc_desk.specs.Desk.{DeskMeaning, HasDelivered, HasHalted, HasKept, HasTaken, KeepsTrack, Posted, uses_by, with_late};
+ghost use Rattle.pc_desk.specs.Desk.{DeskMeaning, HasDelivered, HasHalted, HasKept, HasTaken, IsReadyLate, IsReadyToGo, KeepsTrack, Posted, late_as, waiting_as, with_late};
 ghost use Rattle.pc_desk.specs.Ending.{EndsOnly, PostsInCall, PutsInCall};
-ghost use Rattle.pc_desk.specs.Errand.{HasPassedFirst, HasSetOutFirst, IsErrandOf, due_by, held_by, is_not_now, lost_by, with_copy};
+ghost use Rattle.pc_desk.specs.Errand.{HasPassedFirst, HasSetOutFirst, IsErrandOf, IsItsCopy, MayBeKept, due_by, held_by, is_not_now, lost_by, with_copy};
 ghost use Rattle.pc_desk.specs.Evaluating.{HasEvaluated, HasTakenReply, IsRefusedErrand, told_copy};
-ghost use Rattle.pc_desk.specs.OwnLog.{IsOwnLog};
+ghost use Rattle.pc_desk.specs.OwnLog.{IsOwnLog, verdict_of};
 ghost use Rattle.pc_desk.specs.Refused.{GivesBack};
 ghost use Rattle.pc_desk.specs.Waiting.{IsNewest};
 ghost use Rattle.pc_desk.specs.Wave.{MayGo, posted_of};
-ghost use Rattle.pc_history.specs.Parts.{told, uses_left, with_uses, without_uses};
+ghost use Rattle.pc_history.specs.Parts.{told, with_uses, without_uses};
 ghost use Rattle.pc_range.specs.Message.{ComesAfter};
 ghost use Rattle.pc_world.specs.Known.{known_of};
 
@@ -16,6 +16,7 @@ use crate::answered::Answered;
 use crate::desk::Desk;
 use crate::errand::{Errand, Sequel, due_by};
 use crate::halt::Halt;
+use crate::late::Late;
 use pc_base::{ActorId, NoMemory};
 use pc_clock::Clock;
 use pc_history::{Named, Note};
@@ -109,7 +110,7 @@ impl<'a, N: Named<CommitWorld>, C: Clock, V: Wire, G: Gate> Desk<'a, N, C, V, G>
         verdict: Verdict,
         message: Message<N>,
     ) -> Result<Option<Errand<N>>, Halt>
-        requires uses { uses_by verdict ≤ uses_left message.note.known }
+        requires ready { IsReadyToGo self.old.log.part.id self.old.log.head.splits (verdict_of self.old.log) (waiting_as message.number message.sender verdict (posted_of message)) }
         ensures some { IfOk result (λ errand. IfSome errand (IsErrandOf verdict message.entry)) }
         ensures none { IfOk result (λ errand. IfNone errand (is_not_now verdict ≡ true)) }
         ensures bag { OnOk result (self.new ≡ record self.old { bag = held_by verdict (posted_of message.entry) self.old.bag }) }
@@ -134,13 +135,18 @@ impl<'a, N: Named<CommitWorld>, C: Clock, V: Wire, G: Gate> Desk<'a, N, C, V, G>
 
     /// Puts a message into the bag, which is late by so many sends.
     fn hold(&mut self, message: Message<N>, sends: u32) -> Result<(), Halt>
+        requires ready { IsReadyLate self.old.log.part.id self.old.log.head.splits (verdict_of self.old.log) (late_as message.number message.sender (posted_of message) []) }
         ensures ok { OnOk result (self.new ≡ record self.old { bag = with_late (due_by message.number sends) (posted_of message.entry) self.old.bag }) }
         ensures clock { self.new.log.clock ≡ self.old.log.clock }
         ensures err { IfErr result (HasHalted self.old self.new) }
         ensures memory { IfErr result (λ halt. halt ≡ halts.NoMemory) }
     {
         let number = message.number;
-        match self.outbox.stray(number, due_by(number, sends), message) {
+        let late = Late {
+            message,
+            first: None,
+        };
+        match self.late.stray(number, due_by(number, sends), late) {
             Ok(()) => Ok(()),
             Err(NoMemory) => Err(self.want_memory()),
         }
@@ -154,6 +160,7 @@ impl<'a, N: Named<CommitWorld>, C: Clock, V: Wire, G: Gate> Desk<'a, N, C, V, G>
         last: Note<CommitWorld, N>,
     ) -> Result<Note<CommitWorld, N>, Halt>
         requires may { MayGo self.old errand.message }
+        requires copy { IsItsCopy (verdict_of self.old.log) errand.message errand.sequel.copy }
         ensures ok { IfOk result (HasEvaluated self.old self.new errand.entry) }
         ensures after { (step : ℕ) → IfOk result (λ n. ComesAfter step n.known → ComesAfter step last.known) }
         ensures clock { self.new.log.clock ≡ self.old.log.clock }
@@ -173,30 +180,41 @@ impl<'a, N: Named<CommitWorld>, C: Clock, V: Wire, G: Gate> Desk<'a, N, C, V, G>
         msg: ReplyMsg<N>,
         sequel: Sequel<N>,
     ) -> Result<Note<CommitWorld, N>, Halt>
+        requires copy { MayBeKept self.old.log sequel.copy msg.note.known }
         ensures ok { OnOk result (HasTakenReply self.old self.new (record { number = msg.number; step = msg.step; reply = msg.reply }) (without_uses 0 msg.note.known) sequel.entry) }
         ensures copy { IfOk result (λ n. n.known ≡ with_uses 0 msg.note.known) }
         ensures clock { self.new.log.clock ≡ self.old.log.clock }
         ensures err { IfErr result (HasHalted self.old self.new) }
         ensures memory { IfErr result (λ halt. halt ≡ halts.NoMemory) }
     {
-        let last = if sequel.is_heard {
+        let mut last = if sequel.is_heard {
             self.keep_noted(msg)?
         } else {
             self.drop_noted(msg)?
         };
-        match self.keep_copy(sequel.copy) {
+        match self.keep_copy(sequel.copy, &mut last) {
             Ok(()) => Ok(last),
             Err(NoMemory) => Err(self.want_memory()),
         }
     }
 
-    /// Puts the copy of a message into the bag, if there is one.
-    pub(crate) fn keep_copy(&mut self, copy: Option<Stray<Message<N>>>) -> Result<(), NoMemory>
+    /// Puts the copy of a message into the bag, if there is one, beside the note of its first evaluation.
+    pub(crate) fn keep_copy(
+        &mut self,
+        copy: Option<Stray<Message<N>>>,
+        first: &mut Note<CommitWorld, N>,
+    ) -> Result<(), NoMemory>
+        requires copy { MayBeKept self.old.log copy first.old.known }
         ensures ok { OnOk result (self.new ≡ record self.old { bag = with_copy copy.entry self.old.bag }) }
+        ensures note { OnOk result (with_uses 0 first.new.known ≡ with_uses 0 first.old.known) }
         ensures refused { OnErr result (self.new ≡ self.old) }
     {
         match copy {
-            Some(Stray { due, message }) => self.outbox.stray(message.number, due, message),
+            Some(Stray { due, message }) => {
+                let first = Some(first.again(0)?);
+                self.late
+                    .stray(message.number, due, Late { message, first })
+            }
             None => Ok(()),
         }
     }

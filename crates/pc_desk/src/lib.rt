@@ -8,6 +8,8 @@ mod desk;
 mod errand;
 mod evaluating;
 mod halt;
+mod late;
+mod left;
 mod own_log;
 mod rest;
 mod strays;

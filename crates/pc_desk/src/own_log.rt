@@ -1,7 +1,7 @@
 ghost use Rattle.std.specs.Prelude.{◌≡◌, ℕ, ◌+◌, ◌-◌, ◌<◌, ◌≤◌, ◌^◌, true, false, length, IfErr, IfOk, IfSome, OnErr, OnOk, Some};
 ghost use Rattle.pc_desk.specs.Commits.{IsCommitPlace};
 ghost use Rattle.pc_desk.specs.Keeping.{ReadsEach};
-ghost use Rattle.pc_desk.specs.OwnLog.{HasEntered, HasMadeEntry, IsNoRange, IsHalt, IsOwnLog, IsReady, LogMeaning, MayEnter, Took};
+ghost use Rattle.pc_desk.specs.OwnLog.{HasEntered, HasMadeEntry, IsNoRange, IsHalt, IsOwnLog, IsReady, LogMeaning, MayEnter, Took, verdict_of};
 ghost use Rattle.pc_desk.specs.Waves.{KeepsWavesNext};
 ghost use Rattle.pc_history.specs.Own.{entries_of};
 ghost use Rattle.pc_history.specs.Parts.{gave, named_by, newcomer, noted};
@@ -59,7 +59,7 @@ impl<N: Named<CommitWorld>, C: Clock, V: Wire> Model for OwnLog<N, C, V> {
       part = l.actor.part;
       spare = l.actor.spare;
       clock = l.clock;
-      verdict = V.rule l.wire;
+      wire = V.rule l.wire;
       tries = l.tries;
       pipelining = l.pipelining;
       beside = l.beside;
@@ -73,7 +73,7 @@ impl<N: Named<CommitWorld>, C: Clock, V: Wire> Model for OwnLog<N, C, V> {
       part = l.actor.part;
       spare = l.actor.spare;
       clock = l.clock;
-      verdict = V.rule l.wire;
+      wire = V.rule l.wire;
       tries = l.tries;
       pipelining = l.pipelining;
       beside = l.beside;
@@ -109,7 +109,7 @@ impl<N: Named<CommitWorld>, C: Clock, V: Wire> OwnLog<N, C, V> {
           part = actor.part;
           spare = actor.spare;
           clock = clock;
-          verdict = V.rule wire;
+          wire = V.rule wire;
           tries = tries;
           pipelining = pipelining;
           beside = beside;
@@ -148,7 +148,7 @@ impl<N: Named<CommitWorld>, C: Clock, V: Wire> OwnLog<N, C, V> {
 
     /// What becomes of the message of this number.
     pub fn verdict(&mut self, number: u64) -> Verdict
-        ensures given { result ≡ self.old.verdict number }
+        ensures given { result ≡ verdict_of self.old number }
         ensures same { self.new ≡ self.old }
     {
         self.wire.verdict(number)

@@ -1,10 +1,15 @@
-ghost use Rattle.std.specs.Prelude.{◌≡◌, ℕ, ◌∷◌, ◌≤◌, [], ◌++◌, map, All, IfErr, IfNone, IfSome, OnOk};
-ghost use Rattle.pc_desk.specs.Desk.{posting};
-ghost use Rattle.pc_desk.specs.Rest.{AreServedLeft, HasOnlyLearnt, IsFirstOf, IsReadyLeft, StopsAt, comes_before, left_as, stray_left_as};
+ghost use Rattle.std.specs.Prelude.{◌≡◌, ◌≤◌, [], ◌++◌, map, All, IfErr, IfNone, IfOk, IfSome, OnOk};
+ghost use Rattle.pc_desk.specs.Desk.{TellsFirst, first_told, posting};
+ghost use Rattle.pc_desk.specs.Left.{IsFirstOf, left_of};
+ghost use Rattle.pc_desk.specs.Refused.{GivesBack};
+ghost use Rattle.pc_desk.specs.Rest.{AreServedLeft, HasOnlyLearnt, IsReadyLeft, KnowsTimes, MayBeServedFor, StopsAt, WasEvaluatedNow, comes_before, left_as, stray_left_as, times_known};
+ghost use Rattle.pc_desk.specs.Wave.{posted_of};
 ghost use Rattle.pc_history.specs.Parts.{told, uses_left};
 
 use crate::errand::{copy_of, uses_of};
-use pc_history::{Actor, Named};
+use crate::late::Late;
+use crate::left::Left;
+use pc_history::{Actor, Named, Note};
 use pc_range::{CommitWorld, Gate, Message, Ranges, ReplyMsg, ServeFault};
 use pc_wire::Outbox;
 use std::marker::Model;
@@ -16,46 +21,65 @@ pub struct Rest<N: Named<CommitWorld>> {
     outbox: Outbox<Message<N>>,
     /// What was set aside.
     later: Outbox<Message<N>>,
+    /// What is evaluated late.
+    late: Outbox<Late<N>>,
 }
 
 impl<N: Named<CommitWorld>> Model for Rest<N> {
     ghost use Rattle.std.specs.Prelude.{◌++◌, List, map};
     ghost use Rattle.pc_desk.specs.Rest.{LeftMessage, left_as, stray_left_as};
-    ghost use Rattle.pc_desk.specs.Desk.{posting};
+    ghost use Rattle.pc_desk.specs.Desk.{first_told, posting};
     ghost use Rattle.pc_history.specs.Parts.{uses_left};
 
     ghost Value = { List LeftMessage };
 
     ghost view = { λ r.
         map (λ e. left_as e.0 e.1.message.sender e.1.verdict (posting e.1.message.number e.1.message.range e.1.message.request (uses_left e.1.message.note.known))) (r.outbox.waiting ++ r.later.waiting)
-        ++ map (λ e. stray_left_as e.0 e.1.message.sender (posting e.1.message.number e.1.message.range e.1.message.request (uses_left e.1.message.note.known))) r.outbox.bag };
+        ++ map (λ e. stray_left_as e.0 e.1.message.message.sender (posting e.1.message.message.number e.1.message.message.range e.1.message.message.request (uses_left e.1.message.message.note.known)) (first_told e.1.message.first)) r.late.bag };
 }
 
 impl<N: Named<CommitWorld>> Rest<N> {
-    pub(crate) fn of(outbox: Outbox<Message<N>>, later: Outbox<Message<N>>) -> Rest<N>
+    pub(crate) fn of(
+        outbox: Outbox<Message<N>>,
+        later: Outbox<Message<N>>,
+        late: Outbox<Late<N>>,
+    ) -> Rest<N>
         ensures { result ≡ map (λ e. left_as e.0 e.1.message.sender e.1.verdict (posting e.1.message.number e.1.message.range e.1.message.request (uses_left e.1.message.note.known))) (outbox.waiting ++ later.waiting)
-            ++ map (λ e. stray_left_as e.0 e.1.message.sender (posting e.1.message.number e.1.message.range e.1.message.request (uses_left e.1.message.note.known))) outbox.bag }
+            ++ map (λ e. stray_left_as e.0 e.1.message.message.sender (posting e.1.message.message.number e.1.message.message.range e.1.message.message.request (uses_left e.1.message.message.note.known)) (first_told e.1.message.first)) late.bag }
     {
-        Rest { outbox, later }
+        Rest {
+            outbox,
+            later,
+            late,
+        }
     }
 
-    /// Takes the message of the least number, with how often it is to be evaluated.
-    fn take_first(&mut self) -> Option<(u32, Message<N>)>
-        ensures first { IfSome result (λ r. IsFirstOf self.old self.new r.0 r.1.sender (posting r.1.number r.1.range r.1.request (uses_left r.1.note.known))) }
+    /// Takes the message of the least number.
+    fn take_first(&mut self) -> Option<Left<N>>
+        ensures first { IfSome result (λ l. IsFirstOf self.old self.new (left_of l)) }
         ensures none { IfNone result (self.old ≡ []) }
     {
         let waiting = self.outbox.first_from(0);
         let aside = self.later.first_from(0);
-        let stray = self.outbox.first_stray();
+        let stray = self.late.first_stray();
         if comes_before(stray, waiting) && comes_before(stray, aside) {
-            return Some((1, self.outbox.take_due(u64::MAX)?));
+            let Late { message, first } = self.late.take_stray()?;
+            return Some(Left {
+                times: 1,
+                message,
+                first,
+            });
         }
         let (verdict, message) = if comes_before(aside, waiting) {
             self.later.take_first()?
         } else {
             self.outbox.take_first()?
         };
-        Some((uses_of(verdict), message))
+        Some(Left {
+            times: uses_of(verdict),
+            message,
+            first: None,
+        })
     }
 }
 
@@ -82,62 +106,107 @@ pub fn deliver_rest<N: Named<CommitWorld>, G: Gate, R: Wait>(
 ) -> Result<(), ServeFault<N>>
     requires { All (IsReadyLeft actor.old.part.id ranges.now.splits) rest }
     ensures same { HasOnlyLearnt actor.old actor.new }
-    ensures all { OnOk result (AreServedLeft actor.old.part actor.new.part rest) }
+    ensures all { OnOk result (AreServedLeft actor.new.part rest) }
     ensures stopped { IfErr result (StopsAt ranges.now.limit rest actor.new.part) }
 {
     let mut rest = rest;
-    while let Some((times, message)) = rest.take_first() {
-        evaluate(rt, times, message, actor, ranges)?;
+    while let Some(left) = rest.take_first() {
+        evaluate(rt, left, actor, ranges)?;
     }
     Ok(())
 }
 
-/// Has the message's range evaluate it so often, twice at most. Where its range refuses it, the actor has back what uses it has beside that one.
+/// Has the message's range evaluate it as often as is left of it, twice at most. Where its range refuses it, the actor has back what uses it has beside
+/// that one.
 fn evaluate<N: Named<CommitWorld>, G: Gate, R: Wait>(
     rt: &R,
-    times: u32,
-    message: Message<N>,
+    left: Left<N>,
     actor: &mut Actor<CommitWorld, N>,
     ranges: &Ranges<'_, N, G>,
 ) -> Result<(), ServeFault<N>>
-    requires { times ≤ uses_left message.note.known }
+    requires ready { IsReadyLeft actor.old.part.id ranges.now.splits (left_of left) }
     ensures same { HasOnlyLearnt actor.old actor.new }
+    ensures all { OnOk result (KnowsTimes actor.new.part (posted_of left.entry.message) (times_known (left_of left.entry))) }
+    ensures err { IfErr result (GivesBack ranges.now.limit actor.old.part.id (posted_of left.entry.message)) }
 {
+    let Left {
+        times,
+        message,
+        first,
+    } = left;
+    if let Some(first) = first {
+        return evaluate_again(rt, first, message, actor, ranges);
+    }
     match times {
         0 => Ok(()),
-        1 => evaluate_once(rt, message, actor, ranges),
+        1 => {
+            evaluate_once(rt, message, None, actor, ranges)?;
+            Ok(())
+        }
         _ => evaluate_twice(rt, message, actor, ranges),
     }
 }
 
-/// Has the message's range evaluate it. The actor takes the note of the evaluation.
+/// Has the message's range evaluate it after what a note tells of, if one is given. The actor takes the note of the evaluation. Gives a copy of that.
 fn evaluate_once<N: Named<CommitWorld>, G: Gate, R: Wait>(
     rt: &R,
+    message: Message<N>,
+    after: Option<Note<CommitWorld, N>>,
+    actor: &mut Actor<CommitWorld, N>,
+    ranges: &Ranges<'_, N, G>,
+) -> Result<Note<CommitWorld, N>, ServeFault<N>>
+    requires may { MayBeServedFor actor.old.part.id ranges.now.splits message }
+    ensures same { HasOnlyLearnt actor.old actor.new }
+    ensures ok { IfOk result (λ n. WasEvaluatedNow actor.new.part (posted_of message.entry) (first_told after.entry) n.known) }
+    ensures err { IfErr result (GivesBack ranges.now.limit actor.old.part.id (posted_of message.entry)) }
+{
+    let mut reply = ranges.serve(rt, message, after)?;
+    let note = reply.note.again(0)?;
+    learn(actor, reply);
+    Ok(note)
+}
+
+/// Has the message's range evaluate it, after its first evaluation, of which the note tells.
+fn evaluate_again<N: Named<CommitWorld>, G: Gate, R: Wait>(
+    rt: &R,
+    first: Note<CommitWorld, N>,
     message: Message<N>,
     actor: &mut Actor<CommitWorld, N>,
     ranges: &Ranges<'_, N, G>,
 ) -> Result<(), ServeFault<N>>
-    requires { 1 ≤ uses_left message.note.known }
+    requires may { MayBeServedFor actor.old.part.id ranges.now.splits message }
+    requires tells { TellsFirst actor.old.part.id (posted_of message) first.known }
     ensures same { HasOnlyLearnt actor.old actor.new }
+    ensures all { OnOk result (KnowsTimes actor.new.part (posted_of message.entry) 2) }
+    ensures err { IfErr result (GivesBack ranges.now.limit actor.old.part.id (posted_of message.entry)) }
 {
-    let reply = ranges.serve(rt, message, None)?;
-    learn(actor, reply);
+    let mut first = first;
+    let copy = first.again(0)?;
+    actor.take(first);
+    evaluate_once(rt, message, Some(copy), actor, ranges)?;
     Ok(())
 }
 
 /// Has the message's range evaluate it twice. Where it is refused at first, the actor has its second use back.
 fn evaluate_twice<N: Named<CommitWorld>, G: Gate, R: Wait>(
     rt: &R,
-    mut message: Message<N>,
+    message: Message<N>,
     actor: &mut Actor<CommitWorld, N>,
     ranges: &Ranges<'_, N, G>,
 ) -> Result<(), ServeFault<N>>
-    requires { 2 ≤ uses_left message.note.known }
+    requires may { MayBeServedFor actor.old.part.id ranges.now.splits message }
+    requires uses { 2 ≤ uses_left message.note.known }
     ensures same { HasOnlyLearnt actor.old actor.new }
+    ensures all { OnOk result (KnowsTimes actor.new.part (posted_of message.entry) 2) }
+    ensures err { IfErr result (GivesBack ranges.now.limit actor.old.part.id (posted_of message.entry)) }
 {
+    let mut message = message;
     let copy = copy_of(&mut message)?;
-    match evaluate_once(rt, copy, actor, ranges) {
-        Ok(()) => evaluate_once(rt, message, actor, ranges),
+    match evaluate_once(rt, copy, None, actor, ranges) {
+        Ok(first) => {
+            evaluate_once(rt, message, Some(first), actor, ranges)?;
+            Ok(())
+        }
         Err(fault) => {
             actor.take(message.note);
             Err(fault)

@@ -2,12 +2,15 @@ ghost use Rattle.std.specs.Prelude.{◌≡◌, ◌≤◌, [], true, is_some, len
 ghost use Rattle.pc_desk.specs.Aside.{HasDropped, HasDroppedFirst};
 ghost use Rattle.pc_desk.specs.Desk.{HasHalted, KeepsTrack};
 ghost use Rattle.pc_desk.specs.Ending.{EndsOnly};
-ghost use Rattle.pc_desk.specs.Late.{HasDeliveredDue};
+ghost use Rattle.pc_desk.specs.Late.{HasDeliveredDue, HasEvaluatedLate, IsRefusedLate};
+ghost use Rattle.pc_desk.specs.Wave.{MayGo};
 ghost use Rattle.pc_world.specs.Known.{known_of};
 
 use crate::desk::Desk;
 use crate::errand::Errand;
 use crate::halt::Halt;
+use crate::late::Late;
+use pc_base::NoMemory;
 use pc_clock::Clock;
 use pc_history::{Named, Note};
 use pc_range::{CommitWorld, Gate};
@@ -80,13 +83,40 @@ impl<'a, N: Named<CommitWorld>, C: Clock, V: Wire, G: Gate> Desk<'a, N, C, V, G>
         ensures err { IfErr result (HasHalted self.old self.new) }
         ensures ended { IfErr result (EndsOnly (λ made. ⊥) self.old self.new) }
     {
-        if self.outbox.first_stray().is_none() {
+        if self.late.first_stray().is_none() {
             return Ok(());
         }
         let mut last = self.note_last()?;
-        while let Some(message) = self.outbox.take_due(self.sends) {
-            last = self.evaluate(rt, Errand::unheard(message), last)?;
+        while let Some(late) = self.late.take_due(self.sends) {
+            last = self.evaluate_late(rt, late, last)?;
         }
         Ok(())
+    }
+
+    /// Has the message's range evaluate it, and drops the reply: after its first evaluation, if there was one, or else after what the note tells of. Gives a
+    /// note of the evaluation.
+    fn evaluate_late<R: Wait>(
+        &mut self,
+        rt: &R,
+        late: Late<N>,
+        last: Note<CommitWorld, N>,
+    ) -> Result<Note<CommitWorld, N>, Halt>
+        requires may { MayGo self.old late.message }
+        ensures ok { OnOk result (HasEvaluatedLate self.old self.new late.entry) }
+        ensures clock { self.new.log.clock ≡ self.old.log.clock }
+        ensures err { IfErr result (HasHalted self.old self.new) }
+        ensures refused { IfErr result (IsRefusedLate self.old self.new late.entry) }
+    {
+        let Late { message, first } = late;
+        match first {
+            Some(mut first) => match first.again(0) {
+                Ok(copy) => {
+                    self.log.take(first);
+                    self.evaluate(rt, Errand::unheard(message), copy)
+                }
+                Err(NoMemory) => Err(self.want_memory()),
+            },
+            None => self.evaluate(rt, Errand::unheard(message), last),
+        }
     }
 }

@@ -2,15 +2,13 @@
 use Rattle.std.specs.Prelude.{ℕ}
 use Rattle.pc_ends.specs.declared.session_wire.SessionWire.{SessionWire}
 use Rattle.pc_ends.specs.declared.session_wire.SessionWire.TheVariants as wires
-use Rattle.pc_wire.specs.declared.verdict.Verdict.{Verdict}
-use Rattle.pc_wire.specs.declared.verdict.Verdict.TheVariants as verdicts
-use Rattle.pc_wire.specs.Verdicts.{listed_verdict, periodic_verdict}
+use Rattle.pc_wire.specs.Verdicts.{WireRule, listed_rule, periodic_rule, quiet_rule}
 
--- What becomes of the send of each number, counted from 1.
-abbrev pub session_verdict : SessionWire → ℕ → Verdict
-session_verdict (wires.Quiet quiet) number = verdicts.Deliver
-session_verdict (wires.Listed listed) number = listed_verdict listed.list number
-session_verdict (wires.Periodic periodic) number = periodic_verdict periodic.period periodic.verdict number
+-- By what its verdicts are given.
+abbrev pub session_rule : SessionWire → WireRule
+session_rule (wires.Quiet quiet) = quiet_rule
+session_rule (wires.Listed listed) = listed_rule listed.list
+session_rule (wires.Periodic periodic) = periodic_rule periodic.period periodic.verdict
 
 -- How many verdicts were losing ones.
 abbrev pub session_faults : SessionWire → ℕ

@@ -1,5 +1,6 @@
 ghost use Rattle.std.specs.Prelude.{◌≡◌, ℕ, IfOk};
-ghost use Rattle.pc_ends.specs.SessionWire.{session_faults, session_verdict};
+ghost use Rattle.pc_ends.specs.SessionWire.{session_faults, session_rule};
+ghost use Rattle.pc_wire.specs.Verdicts.{verdict_by};
 ghost use Rattle.pc_work.specs.Accepted.{IsWireWithin};
 ghost use Rattle.pc_work.specs.Wire.{wire_rule};
 
@@ -17,7 +18,7 @@ pub enum SessionWire {
 }
 
 impl Wire for SessionWire {
-    ghost rule = { session_verdict };
+    ghost rule = { session_rule };
 
     ghost faults = { session_faults };
 
@@ -33,7 +34,7 @@ impl Wire for SessionWire {
 /// The wire of this work, over which nothing was sent yet.
 pub(crate) fn wire_for(alloc: Global, stated: &WireWork) -> Result<SessionWire, NoMemory>
     requires { IsWireWithin stated.now }
-    ensures { IfOk result (λ wire. (number : ℕ) → session_verdict wire number ≡ wire_rule stated.now number) }
+    ensures { IfOk result (λ wire. (number : ℕ) → verdict_by (session_rule wire) number ≡ wire_rule stated.now number) }
 {
     match stated {
         WireWork::Quiet => Ok(SessionWire::Quiet(Quiet::new())),

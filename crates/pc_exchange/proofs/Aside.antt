@@ -13,8 +13,10 @@ use Rattle.pc_coord.specs.Coordination.{Coordination}
 use Rattle.pc_call.specs.Finished.{KnowsFate, MayBeCommittedFirst, MayBeSettledAfter}
 use Rattle.pc_coord.specs.declared.job.Job.{Job}
 use Rattle.pc_coord.specs.Knows.{left_for}
+use Rattle.pc_coord.specs.Ranged.{WentToOneRange}
 use Rattle.pc_exchange.proofs.Coordinator.{IsCountedBy}
-use Rattle.pc_exchange.proofs.Knowing.{lasting_kept, open_kept, reads_kept, with_exchange}
+use Rattle.pc_exchange.proofs.Knowing.{lasting_kept, lasting_sent, open_kept, open_sent, reads_kept, reads_sent}
+use Rattle.pc_exchange.proofs.Learned.{with_exchange, with_sent}
 use Rattle.pc_exchange.specs.Aside.{IsAside, IsLaterAside, IsOfRoundOrJob, MayGoOnBeside, lasting_of}
 use Rattle.pc_exchange.proofs.Told.{fate_committed}
 use Rattle.pc_exchange.specs.Jobs.{IsFinishable}
@@ -55,7 +57,6 @@ aside_none session k = record {
   heard_now = sym (append-nil k.heard_now);
   sent_aside = All-nil (λ (m : Sent). IsAside session k m.request);
   heard_aside = All-nil (λ (h : Heard). IsAside session k h.request);
-  sent_heard = All-nil (λ (m : Sent). IsTrue (is_heard k.heard m));
   sent_first = All-nil (λ (m : Sent). length k.sent + 1 ≤ m.number);
   heard_first = All-nil (λ (h : Heard). length k.sent + 1 ≤ h.number);
   sent_numbers = All-nil (λ (m : Sent). m.number ≤ length k.sent);
@@ -127,9 +128,6 @@ aside_on session start k ts number range step request reply l is next =
       heard_now = longer k.heard_now start.heard_now l.heard_more h l.heard_now;
       sent_aside = All-push (λ (m : Sent). IsAside session start m.request) l.sent_more m l.sent_aside is;
       heard_aside = All-push (λ (h : Heard). IsAside session start h.request) l.heard_more h l.heard_aside is;
-      sent_heard = All-push (λ (m : Sent). IsTrue (is_heard (k.heard ++ h ∷ []) m)) l.sent_more m
-          (All-weaker (λ (m : Sent). IsTrue (is_heard k.heard m)) (λ (m : Sent). IsTrue (is_heard (k.heard ++ h ∷ []) m)) (λ m was. list_any-append (λ (x : Heard). x.number == m.number) k.heard (h ∷ []) ∙ ap (λ b. b || list_any (λ (x : Heard). x.number == m.number) (h ∷ [])) was) l.sent_more l.sent_heard)
-          (any_last_of (λ (x : Heard). x.number == number) k.heard h (eq-eqb number number refl));
       sent_first = All-push (λ (m : Sent). length start.sent + 1 ≤ m.number) l.sent_more m l.sent_first (omega (arith, len, next));
       heard_first = All-push (λ (h : Heard). length start.sent + 1 ≤ h.number) l.heard_more h l.heard_first (omega (arith, len, next));
       sent_numbers = All-push (λ (m : Sent). m.number ≤ n) l.sent_more m (All-weaker (λ (m : Sent). m.number ≤ length k.sent) (λ (m : Sent). m.number ≤ n) (λ x at. omega (arith, at, long)) l.sent_more l.sent_numbers) low;
@@ -139,6 +137,51 @@ aside_on session start k ts number range step request reply l is next =
       heard_low = All-push (λ (h : Heard). All (λ ts. ts ≤ after.top) (request_stamps h.request)) l.heard_more h
           (All-weaker (λ (h : Heard). All (λ ts. ts ≤ k.top) (request_stamps h.request)) (λ (h : Heard). All (λ ts. ts ≤ after.top) (request_stamps h.request)) (λ h. raised (request_stamps h.request)) l.heard_more l.heard_low) stamps;
       high = omega (arith, high);
+      top = omega (arith, top);
+      below = omega (arith, below);
+    }
+
+-- one message more that was sent, of which nothing was heard
+pub aside_sent : (session : ℕ) (start k : Known) (ts number range : ℕ) (request : Request) → IsLaterAside session start k ts → IsAside session start request → number ≡ next_number k
+    → IsLaterAside session start (with_sent number range request k) ts
+aside_sent session start k ts number range request l is next =
+    let m : Sent = record { number = number; range = range; request = request } in
+    let n = length (k.sent ++ m ∷ []) in
+    let long : length (k.sent ++ m ∷ []) ≡ length k.sent + 1 = length-append k.sent (m ∷ []) in
+    let low : number ≤ n = omega (arith, long, next) in
+    let top = l.top in
+    let below = l.below in
+    let after = with_sent number range request k in
+    let kind = kind_now session start k ts l request is.kind in
+    let len : length k.sent ≡ length start.sent + length l.sent_more = ap length l.sent ∙ length-append start.sent l.sent_more in
+    let up : k.top ≤ after.top = omega arith in
+    let stamps : All (λ ts. ts ≤ after.top) (request_stamps request) = (fold-low (request_stamps request) 0 after.top (omega arith)).1 in
+    let raised : (xs : List ℕ) → All (λ ts. ts ≤ k.top) xs → All (λ ts. ts ≤ after.top) xs = λ xs. All-weaker (λ ts. ts ≤ k.top) (λ ts. ts ≤ after.top) (λ t at. omega (arith, at, up)) xs in
+    record {
+      sent_more = l.sent_more ++ m ∷ [];
+      heard_more = l.heard_more;
+      statement = l.statement;
+      begun = l.begun;
+      is_open = l.is_open;
+      txns = record {
+        first = open_sent number range request k kind (λ t opened. is.other t (sym l.txns.first ∙ opened)) ∙ l.txns.first;
+        reads = reads_sent number range request k kind ∙ l.txns.reads;
+      };
+      lasting = lasting_sent number range request k kind ∙ l.lasting;
+      sent = longer k.sent start.sent l.sent_more m l.sent;
+      sent_now = longer k.sent_now start.sent_now l.sent_more m l.sent_now;
+      heard = l.heard;
+      heard_now = l.heard_now;
+      sent_aside = All-push (λ (m : Sent). IsAside session start m.request) l.sent_more m l.sent_aside is;
+      heard_aside = l.heard_aside;
+      sent_first = All-push (λ (m : Sent). length start.sent + 1 ≤ m.number) l.sent_more m l.sent_first (omega (arith, len, next));
+      heard_first = l.heard_first;
+      sent_numbers = All-push (λ (m : Sent). m.number ≤ n) l.sent_more m (All-weaker (λ (m : Sent). m.number ≤ length k.sent) (λ (m : Sent). m.number ≤ n) (λ x at. omega (arith, at, long)) l.sent_more l.sent_numbers) low;
+      heard_numbers = All-weaker (λ (h : Heard). h.number ≤ length k.sent) (λ (h : Heard). h.number ≤ n) (λ x at. omega (arith, at, long)) l.heard_more l.heard_numbers;
+      sent_low = All-push (λ (m : Sent). All (λ ts. ts ≤ after.top) (request_stamps m.request)) l.sent_more m
+          (All-weaker (λ (m : Sent). All (λ ts. ts ≤ k.top) (request_stamps m.request)) (λ (m : Sent). All (λ ts. ts ≤ after.top) (request_stamps m.request)) (λ m. raised (request_stamps m.request)) l.sent_more l.sent_low) stamps;
+      heard_low = All-weaker (λ (h : Heard). All (λ ts. ts ≤ k.top) (request_stamps h.request)) (λ (h : Heard). All (λ ts. ts ≤ after.top) (request_stamps h.request)) (λ h. raised (request_stamps h.request)) l.heard_more l.heard_low;
+      high = l.high;
       top = omega (arith, top);
       below = omega (arith, below);
     }
@@ -273,9 +316,9 @@ module _ (session : ℕ) (start k : Known) (ts : ℕ) (l : IsLaterAside session 
       unqueried = λ x held. let t = counted.held x held in subst (λ id. is_query_of id request ≡ false) (sym t.2) (is.unqueried t.0 t.1);
     }
 
-    -- may go on
-    pub goes_on_beside : MayGoOnBeside c start k ts
-    goes_on_beside =
+    -- may go on, whether messages may be lost or not
+    pub goes_on_beside : (loses : Bool) → (loses ≡ false → All (λ m. IsTrue (is_heard k.heard m)) l.sent_more) → (loses ≡ true → WentToOneRange k) → MayGoOnBeside loses c start k ts
+    goes_on_beside loses all_heard one_range =
         let clock = counted.clock in
         let below = counted.below in
         let high = l.high in
@@ -295,8 +338,8 @@ module _ (session : ℕ) (start k : Known) (ts : ℕ) (l : IsLaterAside session 
             heard_now = l.heard_now;
             sent_beside = All-weaker (λ (m : Sent). IsAside session start m.request) (λ (m : Sent). IsBeside c start m.request) (λ m is. is_beside m.request is) l.sent_more l.sent_aside;
             heard_beside = All-weaker (λ (h : Heard). IsAside session start h.request) (λ (h : Heard). IsBeside c start h.request) (λ h is. is_beside h.request is) l.heard_more l.heard_aside;
-            sent_heard = λ quiet. All-weaker (λ (m : Sent). IsTrue (is_heard k.heard m)) (λ (m : Sent). (goes_beside m.request ≡ true) ⊎ IsTrue (is_heard k.heard m)) (λ m was. inr was) l.sent_more l.sent_heard;
-            one_range = λ lossy. let e : false ≡ true = lossy in absurd cc;
+            sent_heard = λ quiet. All-weaker (λ (m : Sent). IsTrue (is_heard k.heard m)) (λ (m : Sent). (goes_beside m.request ≡ true) ⊎ IsTrue (is_heard k.heard m)) (λ m was. inr was) l.sent_more (all_heard quiet);
+            one_range = one_range;
             sent_first = l.sent_first;
             heard_first = l.heard_first;
             sent_numbers = l.sent_numbers;

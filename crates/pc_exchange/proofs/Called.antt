@@ -1,6 +1,7 @@
 -- What was sent in the open call, and heard at all, was heard in it; and what was not heard was set aside.
-use Rattle.std.proofs.Common.{◌≡◌, ℕ, zero, suc, ◌+◌, ◌≤◌, nat_lt, Bool, true, false, ◌||◌, ◌==◌, inl, inr, All, Contains, List, [], ◌∷◌, ◌++◌, length, Option, None, Some, refl, sym, ap, subst, ◌∙◌, arith, length-append}
+use Rattle.std.proofs.Common.{◌≡◌, ℕ, zero, suc, ◌+◌, ◌≤◌, ◌⊎◌, nat_lt, Bool, true, false, ◌||◌, ◌==◌, inl, inr, All, Contains, List, [], ◌∷◌, ◌++◌, length, Option, None, Some, refl, sym, ap, subst, ◌∙◌, arith, length-append}
 use Rattle.std.proofs.lemmas.Bool.{eq-eqb, eqb-true}
+use Rattle.std.proofs.lemmas.Bool.Decides.{nat_tests}
 use Rattle.std.proofs.lemmas.List.{append-nil}
 use Rattle.std.proofs.lemmas.List.Elements.{All-contains, All-head, All-nil, All-push, All-tail, All-weaker, Contains-append_cases, Contains-append_left, Contains-push}
 use Rattle.std.proofs.lemmas.List.Folds.{list_any-append}
@@ -9,10 +10,11 @@ use Rattle.std.specs.Option.{option_to_list}
 use Rattle.pc_base.specs.declared.actor.ActorId.{ActorId}
 use Rattle.pc_base.specs.declared.actor.ActorId.TheVariants as actors
 use Rattle.pc_base.specs.declared.entry.Entry.{Entry}
-use Rattle.pc_desk.proofs.Counting.{any_counts, none_beyond}
-use Rattle.pc_desk.proofs.Turns.{put_aside}
-use Rattle.pc_desk.specs.Desk.{DeskMeaning, answered_as, heard_as_number, posted_as, times_sent}
-use Rattle.pc_desk.specs.OwnLog.{IsNoRange}
+use Rattle.pc_desk.proofs.Counting.{any_counts, counted_once, none_beyond}
+use Rattle.pc_desk.proofs.Turns.{counted_has}
+use Rattle.pc_desk.specs.Desk.{DeskMeaning, IsOneSent, IsUnheard, Posted, WasSetAside, answered_as, as_sent, heard_as_number, posted_as, times_sent}
+use Rattle.pc_desk.specs.Keeping.{LosesNothing}
+use Rattle.pc_desk.specs.OwnLog.{IsNoRange, verdict_of}
 use Rattle.pc_exchange.proofs.HeardKinds.{history_of, is_run, known_there}
 use Rattle.pc_exchange.specs.Growing.{HasAllBack}
 use Rattle.pc_follows.specs.WaveOrder.{IsHeardOrPut}
@@ -24,6 +26,8 @@ use Rattle.pc_proto.specs.declared.event.Event.{Event}
 use Rattle.pc_proto.specs.declared.event.Event.TheVariants as events
 use Rattle.pc_proto.specs.declared.reply.Reply.{Reply}
 use Rattle.pc_proto.specs.declared.request.Request.{Request}
+use Rattle.pc_proto.specs.Requests.{is_put}
+use Rattle.pc_wire.specs.Verdicts.{is_losing}
 use Rattle.pc_world.proofs.Knowing.{known_other, known_same}
 use Rattle.pc_world.proofs.Prefixes.{run_induction}
 use Rattle.pc_world.specs.After.{known_at}
@@ -183,15 +187,40 @@ module _ {C : Type 0} (d : DeskMeaning C) (back : HasAllBack d) where
   abbrev known : Known
   known = known_of d.log.part.own
 
-  -- How often the message waits aside, or was a stray.
+  -- How often the message waits aside, or stands among those that nobody hears of.
   abbrev times_aside : Sent → ℕ
-  times_aside m = posted_as m.number d.later + posted_as m.number back.track.dropped
+  times_aside m = posted_as m.number d.later + posted_as m.number back.track.unheard
 
-  -- where no message is on its way, each that was sent was heard, or is a put that was set aside
-  pub heard_or_put : (m : Sent) → Contains known.sent m → IsHeardOrPut known.heard m
-  heard_or_put m there = by (times_aside m) refl
+  -- what stands under its number is it
+  it-is : (m : Sent) → Contains known.sent m → (p : Posted) → IsOneSent known.sent p → p.number ≡ m.number → as_sent p ≡ m
+  it-is m there p one same =
+      counted_once (λ (x : Sent). x.number == m.number) known.sent (as_sent p) m (back.track.once m.number) one there (eq-eqb p.number m.number same) (eq-eqb m.number m.number refl)
+
+  aside-or-lost : (m : Sent) → Contains known.sent m → 1 ≤ times_aside m → (is_put m.request ≡ true) ⊎ (is_losing (verdict_of d.log m.number) ≡ true)
+  aside-or-lost m there some = by (nat_lt 0 (posted_as m.number d.later)) refl
     where
-      by : (n : ℕ) → times_aside m ≡ n → IsHeardOrPut known.heard m
+      put : (p : Posted) → IsOneSent known.sent p → p.number ≡ m.number → is_put p.request ≡ true → is_put m.request ≡ true
+      put p one same is = sym (ap (λ (x : Sent). is_put x.request) (it-is m there p one same)) ∙ is
+
+      by : (b : Bool) → nat_lt 0 (posted_as m.number d.later) ≡ b → (is_put m.request ≡ true) ⊎ (is_losing (verdict_of d.log m.number) ≡ true)
+      by true is =
+          let f = counted_has (λ (p : Posted). p.number) m.number d.later (grind (arith, nat_tests)) in
+          let aside = All-contains (WasSetAside known.sent) d.later f.0 back.track.aside f.1 in
+          inl (put f.0 aside.one f.2 aside.puts)
+      by false is =
+          let none : posted_as m.number d.later ≡ 0 = grind (arith, nat_tests) in
+          let f = counted_has (λ (p : Posted). p.number) m.number back.track.unheard (omega (arith, none, some)) in
+          let u = All-contains (IsUnheard d) back.track.unheard f.0 back.track.each_unheard f.1 in
+          elim u.why [
+            | inl lost ↦ inr (subst (λ n. is_losing (verdict_of d.log n) ≡ true) f.2 lost)
+            | inr puts ↦ inl (put f.0 u.one f.2 puts)
+          ]
+
+  -- where no message is on its way, each that was sent was heard, or is a put that was set aside, or was lost
+  heard-or-lost : (m : Sent) → Contains known.sent m → IsHeardOrPut known.heard m ⊎ (is_losing (verdict_of d.log m.number) ≡ true)
+  heard-or-lost m there = by (times_aside m) refl
+    where
+      by : (n : ℕ) → times_aside m ≡ n → IsHeardOrPut known.heard m ⊎ (is_losing (verdict_of d.log m.number) ≡ true)
       by zero is =
           let sent : list_any (λ (x : Sent). x.number == m.number) known.sent ≡ true = there-passes m.number known.sent m there refl in
           let some : nat_lt 0 (times_sent m.number known) ≡ true = sym (any_counts (λ (x : Sent). x.number == m.number) known.sent) ∙ sent in
@@ -199,22 +228,36 @@ module _ {C : Type 0} (d : DeskMeaning C) (back : HasAllBack d) where
           let none : posted_as m.number d.posted ≡ 0 = ap (posted_as m.number) back.posted in
           let no : answered_as m.number d.replies ≡ 0 = ap (answered_as m.number) back.replies in
           let count : heard_as_number m.number known ≡ times_sent m.number known = omega (arith, stages, none, no, is) in
-          inl (any_counts (λ (h : Heard). h.number == m.number) known.heard ∙ (ap (nat_lt 0) count ∙ some))
-      by (suc n) is = inr (put_aside d back.track m there (omega (arith, is)))
+          inl (inl (any_counts (λ (h : Heard). h.number == m.number) known.heard ∙ (ap (nat_lt 0) count ∙ some)))
+      by (suc n) is = elim (aside-or-lost m there (omega (arith, is))) [
+        | inl put ↦ inl (inr put)
+        | inr lost ↦ inr lost
+      ]
 
-  pub all_heard_ever : All (IsHeardOrPut known.heard) known.sent
-  all_heard_ever = all_from_contains (IsHeardOrPut known.heard) known.sent heard_or_put
-
-  -- and what was sent in the open call in it
-  pub all_heard_in_call : All (IsHeardOrPut known.heard_now) known.sent_now
-  all_heard_in_call =
-      let log = back.track.log in
-      let a : Since known = subst Since (known_there d.log log) (since d.log.head d.log.part.id log.client (history_of d.log log) (is_run d.log log)) in
-      all_from_contains (IsHeardOrPut known.heard_now) known.sent_now (λ m there. elim (heard_or_put m (a.among m there)) [
-        | inl heard ↦ inl (All-contains (λ m. is_heard known.heard m ≡ true → is_heard known.heard_now m ≡ true) known.sent_now m a.now there heard)
-        | inr put ↦ inr put
-      ])
+  pub all_heard_or_lost : All (λ m. IsHeardOrPut known.heard m ⊎ (is_losing (verdict_of d.log m.number) ≡ true)) known.sent
+  all_heard_or_lost = all_from_contains (λ m. IsHeardOrPut known.heard m ⊎ (is_losing (verdict_of d.log m.number) ≡ true)) known.sent heard-or-lost
 
   -- no message has the next number
   pub next_unsent : times_sent (next_number known) known ≡ 0
   next_unsent = none_beyond (λ (x : Sent). x.number) (length known.sent) (next_number known) known.sent back.track.numbers (omega arith)
+
+  module _ (quiet : LosesNothing (verdict_of d.log)) where
+    -- where nothing is lost, it was heard, or is a put that was set aside
+    pub heard_or_put : (m : Sent) → Contains known.sent m → IsHeardOrPut known.heard m
+    heard_or_put m there = elim (heard-or-lost m there) [
+      | inl heard ↦ heard
+      | inr lost ↦ absurd (let e : false ≡ true = sym (quiet m.number) ∙ lost in cc e)
+    ]
+
+    pub all_heard_ever : All (IsHeardOrPut known.heard) known.sent
+    all_heard_ever = all_from_contains (IsHeardOrPut known.heard) known.sent heard_or_put
+
+    -- and what was sent in the open call in it
+    pub all_heard_in_call : All (IsHeardOrPut known.heard_now) known.sent_now
+    all_heard_in_call =
+        let log = back.track.log in
+        let a : Since known = subst Since (known_there d.log log) (since d.log.head d.log.part.id log.client (history_of d.log log) (is_run d.log log)) in
+        all_from_contains (IsHeardOrPut known.heard_now) known.sent_now (λ m there. elim (heard_or_put m (a.among m there)) [
+          | inl heard ↦ inl (All-contains (λ m. is_heard known.heard m ≡ true → is_heard known.heard_now m ≡ true) known.sent_now m a.now there heard)
+          | inr put ↦ inr put
+        ])

@@ -1,5 +1,5 @@
 -- What a coordinator has in common with what its session knows, where it may be told of messages beside it.
-use Rattle.std.proofs.Common.{◌≡◌, ℕ, ◌≤◌, true, false, Option, Some, None, refl, sym, ap, ◌∙◌, subst}
+use Rattle.std.proofs.Common.{◌≡◌, ℕ, ◌≤◌, Bool, true, Option, Some, None, refl, sym, ap, ◌∙◌, subst}
 use Rattle.pc_call.specs.Serving.{IsOpenIn}
 use Rattle.pc_coord.proofs.Knowing.{rests}
 use Rattle.pc_coord.specs.Coordination.{Coordination, next_at, next_of}
@@ -25,12 +25,12 @@ open-as k x y t is named held =
     (t, ap (λ b. first_if b k.txns) is.is_open ∙ ap (first_if true) is.first, sym (ap (λ (x : OpenTxn). x.id) same) ∙ named)
 
 -- where a conflict's round is due
-pub counted_met : (c : Coordination) (k : Known) (number : ℕ) (conflict : Reply) (reader : Option ℕ) → Knows false c k → next_of c ≡ nexts.Conflict number conflict reader → IsCountedBy c k
-counted_met c k number conflict reader knows next = by c.due refl next
+pub counted_met : (loses : Bool) (c : Coordination) (k : Known) (number : ℕ) (conflict : Reply) (reader : Option ℕ) → Knows loses c k → next_of c ≡ nexts.Conflict number conflict reader → IsCountedBy c k
+counted_met loses c k number conflict reader knows next = by c.due refl next
   where
     by : (due : Due) → c.due ≡ due → next_at c.pipelining c.txn due ≡ nexts.Conflict number conflict reader → IsCountedBy c k
     by (dues.Call call) is next =
-        let at = subst (KnowsAt false c k) is knows.stands in
+        let at = subst (KnowsAt loses c k) is knows.stands in
         record {
           clock = at.counted.clock;
           begun = at.counted.begun;
@@ -41,9 +41,9 @@ counted_met c k number conflict reader knows next = by c.due refl next
     by (dues.Tell answer) is next = absurd cc
 
 -- where no statement is open
-pub counted_closed : (c : Coordination) (k : Known) → Knows false c k → k.statement ≡ None → IsCountedBy c k
-counted_closed c k knows closed =
-    let r = rests false c k knows closed in
+pub counted_closed : (loses : Bool) (c : Coordination) (k : Known) → Knows loses c k → k.statement ≡ None → IsCountedBy c k
+counted_closed loses c k knows closed =
+    let r = rests loses c k knows closed in
     record { clock = r.counted.clock; begun = r.counted.begun; below = r.counted.below; held = λ x has. by c.txn r.held x has }
   where
     by : (txn : Option OpenTxn) → IsHeld txn k → (x : OpenTxn) → txn ≡ Some x → (t : Txn) × (open_txn k ≡ Some t) × (x.id ≡ t.id)

@@ -5,9 +5,9 @@ use Rattle.std.proofs.lemmas.List.Elements.{All-append, All-cons, All-contains, 
 use Rattle.pc_base.specs.declared.entry.Entry.{Entry}
 use Rattle.pc_desk.specs.declared.halt.Halt.{Halt}
 use Rattle.pc_desk.specs.declared.halt.Halt.TheVariants as halts
-use Rattle.pc_desk.specs.Desk.{DeskMeaning, GivesOnce, KeepsTrack}
+use Rattle.pc_desk.specs.Desk.{DeskMeaning, GivesByVerdicts, KeepsTrack}
 use Rattle.pc_desk.specs.Ending.{EndsBy, EndsEarly, EndsOnly, HasEnded, HasMadeLast, IsAtFullRange, IsAtOwnEnd}
-use Rattle.pc_desk.specs.OwnLog.{LogMeaning}
+use Rattle.pc_desk.specs.OwnLog.{LogMeaning, verdict_of}
 use Rattle.pc_exchange.proofs.Growing.{grows_both, grows_none}
 use Rattle.pc_exchange.specs.Ending.{BreaksOff, HasBrokenOff, IsEndedBy}
 use Rattle.pc_exchange.specs.Growing.{HasGoneBeside, HasGrownBy}
@@ -40,7 +40,7 @@ module _ {C : Type 0} (old mid new : DeskMeaning C) (part : List (Pair Event)) (
         known = λ k there. ended.known k (grown.known k there);
         rest = ended_rest ended;
         limit = ended.limit ∙ limit;
-        given = subst GivesOnce (sym (ap (λ (l : LogMeaning C). l.part) ended.rest)) (record { each = track.given.each; once = track.given.once });
+        given = subst (λ (l : LogMeaning C). GivesByVerdicts (verdict_of l) l.part) (sym ended.rest) (record { each = track.given.each; within = track.given.within });
         within = subst (λ (l : LogMeaning C). length l.part.own ≤ l.limit) (sym ended.rest) track.log.within;
         end = early ended.end;
       }

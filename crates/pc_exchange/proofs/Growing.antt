@@ -1,11 +1,12 @@
 -- An actor's own list grows by entries, one behind another.
-use Rattle.std.proofs.Common.{◌≡◌, ℕ, ◌+◌, ◌<◌, ◌≤◌, false, cond, inl, inr, All, Contains, List, [], ◌∷◌, ◌++◌, refl, sym, ap, subst, ◌∙◌, arith}
+use Rattle.std.proofs.Common.{◌≡◌, ℕ, ◌+◌, ◌<◌, ◌≤◌, false, cond, inl, inr, All, Contains, List, [], ◌∷◌, ◌++◌, map, refl, sym, ap, subst, ◌∙◌, arith}
 use Rattle.std.proofs.lemmas.List.{append-nil, append_assoc, map-append}
 use Rattle.std.proofs.lemmas.List.Elements.{All-append, All-contains, All-cons, All-nil, All-weaker, Contains-append_cases, Contains-append_left, Contains-append_right}
 use Rattle.pc_base.specs.declared.entry.Entry.{Entry}
 use Rattle.pc_desk.proofs.Making.{added, own_after}
+use Rattle.pc_desk.specs.Desk.{DeskMeaning}
 use Rattle.pc_desk.specs.OwnLog.{HasEntered, LogMeaning}
-use Rattle.pc_exchange.specs.Growing.{HasGrownBy}
+use Rattle.pc_exchange.specs.Growing.{HasAllBack, HasGoneBeside, HasGrownBy}
 use Rattle.pc_history.proofs.Callers.{knows-known, knows-own}
 use Rattle.pc_history.specs.declared.pair.Pair.{Pair}
 use Rattle.pc_history.specs.declared.view.Known.{Known as KnownEntry}
@@ -16,6 +17,7 @@ use Rattle.pc_lists.proofs.Lists.{all_from_contains, contains_head, contains_in_
 use Rattle.pc_proto.specs.declared.event.Event.{Event}
 use Rattle.pc_turns.specs.Clients.{RisesFrom}
 use Rattle.pc_turns.specs.Laws.{AreAboveKnown}
+use Rattle.pc_turns.specs.Order.{IsInBetween}
 use Rattle.pc_world.specs.Run.{protocol, spends}
 
 -- The entry has a greater step than each of these.
@@ -102,3 +104,19 @@ grows_else {C} old new given known same more =
       known = λ k there. subst (λ l. Contains l k) (sym (ap (λ (l : LogMeaning C). l.part.known) same)) (more k there);
       rest = same ∙ sym (ap F same);
     }
+
+-- ---- a desk that goes on so
+
+-- by nothing
+pub goes_none : {C : Type 0} (d : DeskMeaning C) → HasAllBack d → HasGoneBeside d d []
+goes_none d back = record { grown = grows_none d.log; within = All-nil IsInBetween; back = back; limit = refl; later = refl }
+
+-- by these entries and then by those
+pub goes_both : {C : Type 0} (a b d : DeskMeaning C) (p q : List (Pair Event)) → HasGoneBeside a b p → HasGoneBeside b d q → HasGoneBeside a d (p ++ q)
+goes_both a b d p q x y = record {
+  grown = grows_both a.log b.log d.log p q x.grown y.grown;
+  within = subst (All IsInBetween) (sym (map-append (λ (r : Pair Event). r.entry.event) p q)) (All-append IsInBetween (map (λ r. r.entry.event) p) (map (λ r. r.entry.event) q) x.within y.within);
+  back = y.back;
+  limit = y.limit ∙ x.limit;
+  later = y.later ∙ x.later;
+}

@@ -1,3 +1,4 @@
+pub mod Again
 pub mod Anchored
 pub mod AnsweredAlive
 pub mod Aside
@@ -14,11 +15,14 @@ pub mod Going
 pub mod Growing
 pub mod HeardKinds
 pub mod HeardSince
+pub mod Hearing
 pub mod InTurn
 pub mod Knowing
+pub mod Learned
 pub mod Listed
 pub mod Lists
 pub mod LocalSteps
+pub mod Losing
 pub mod Messages
 pub mod NextTurn
 pub mod PastEpochs

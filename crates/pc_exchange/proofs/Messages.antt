@@ -159,3 +159,10 @@ jobs_then own id sent_at heard_at number range by evaluated request reply =
     let start : Duty = record { known = nothing_known; jobs = [] } in
     ap (λ (d : Duty). d.jobs) (fold-append duty_after start own (sent_pair id sent_at number range request ∷ heard_pair id heard_at number by evaluated reply ∷ []))
     ∙ ap (λ (k : Known). left_by_exchange k.statement (jobs_of own)) (duty-known own start)
+
+-- and one sending alone
+pub jobs_sent : (own : List (Pair Event)) (id : ActorId) (sent_at number range : ℕ) (request : Request) → jobs_of (own ++ sent_pair id sent_at number range request ∷ []) ≡ left_by_exchange (known_of own).statement (jobs_of own)
+jobs_sent own id sent_at number range request =
+    let start : Duty = record { known = nothing_known; jobs = [] } in
+    ap (λ (d : Duty). d.jobs) (fold-append duty_after start own (sent_pair id sent_at number range request ∷ []))
+    ∙ ap (λ (k : Known). left_by_exchange k.statement (jobs_of own)) (duty-known own start)

@@ -6,7 +6,8 @@ use Rattle.std.proofs.lemmas.List.Elements.{All-push, All-weaker, Contains-appen
 use Rattle.std.specs.Option.{option_map_or}
 use Rattle.pc_base.specs.declared.span.Span.{Span}
 use Rattle.pc_base.specs.declared.transaction.TxnId.{TxnId}
-use Rattle.pc_exchange.proofs.Knowing.{txn_kept, with_exchange}
+use Rattle.pc_exchange.proofs.Knowing.{txn_kept, txn_stays}
+use Rattle.pc_exchange.proofs.Learned.{with_exchange, with_sent}
 use Rattle.pc_exchange.specs.Aside.{IsOfRoundOrJob}
 use Rattle.pc_exchange.specs.Told.{StaysDecided, StillDecides}
 use Rattle.pc_lists.proofs.Anywhere.{any_kept, any_weaker}
@@ -100,3 +101,30 @@ module _ (number range step : ℕ) (request : Request) (reply : Reply) (k : Know
   pub stays_on : StaysDecided k t ts → StaysDecided later t ts
   stays_on (inl d) = inl (decides_on d)
   stays_on (inr shown) = inr (any_kept (ShowsFate t.id (fates.Committed t.epoch ts)) k.heard (it_heard ∷ []) shown)
+
+-- also where the message was sent, and nothing was heard of it
+module _ (number range : ℕ) (request : Request) (k : Known) (kind : IsOfRoundOrJob k request) (t : Txn) (ts : ℕ) (other : is_commit request ≡ true → is_about t.id request ≡ false) (committed : t.committed ≡ Some ts) where
+  abbrev once_sent : Known
+  once_sent = with_sent number range request k
+
+  abbrev it_was_sent : Sent
+  it_was_sent = record { number = number; range = range; request = request }
+
+  decides_sent : StillDecides k t ts → StillDecides once_sent t ts
+  decides_sent d =
+      let S : SentStage → Type 0 = λ s. s.ts ≢ ts → IsLate k.heard s in
+      let R : SentCommit → Type 0 = λ c. c.ts ≢ ts → WasCommitRefused k.heard c in (
+        txn_stays number range request k kind t other d.0,
+        record {
+          may = inr committed;
+          at_write_ts = d.1.at_write_ts;
+          good = record { begun = d.1.good.begun; reads = d.1.good.reads };
+          proved = d.1.proved;
+          stages = All-push (λ (m : Sent). OnStage t.id S m.request) k.sent it_was_sent d.1.stages (no_stage_there k request kind t.id S);
+          commits = All-push (λ (m : Sent). OnCommit t.id R m.request) k.sent it_was_sent d.1.commits (no_commit_there request t.id R other);
+        },
+      )
+
+  pub stays_sent : StaysDecided k t ts → StaysDecided once_sent t ts
+  stays_sent (inl d) = inl (decides_sent d)
+  stays_sent (inr shown) = inr shown

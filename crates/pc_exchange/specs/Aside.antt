@@ -1,8 +1,7 @@
 -- What a session knows after messages of conflicts' rounds and of finishing jobs alone, and how its coordinator stands beside it.
-use Rattle.std.specs.Prelude.{◌≡◌, ℕ, ◌+◌, ◌≤◌, ◌⊎◌, max, true, false, None, Some, List, [], ◌++◌, All, IsTrue, length, map}
+use Rattle.std.specs.Prelude.{◌≡◌, ℕ, ◌+◌, ◌≤◌, ◌⊎◌, max, Bool, true, false, None, Some, List, [], ◌++◌, All, length, map}
 use Rattle.pc_coord.specs.Beside.{IsLaterBeside, KeepsTxns}
 use Rattle.pc_coord.specs.Coordination.{Coordination}
-use Rattle.pc_coord.specs.Ranged.{WentToOneRange}
 use Rattle.pc_proto.specs.declared.request.Request.{Request}
 use Rattle.pc_proto.specs.Requests.{is_about, is_commit}
 use Rattle.pc_proto.specs.Stamps.{request_stamps}
@@ -44,7 +43,6 @@ pub record IsLaterAside (session : ℕ) (start k : Known) (ts : ℕ) : Type 0 wh
   pub heard_now : k.heard_now ≡ start.heard_now ++ heard_more
   pub sent_aside : All (λ m. IsAside session start m.request) sent_more
   pub heard_aside : All (λ h. IsAside session start h.request) heard_more
-  pub one_range : WentToOneRange k
   pub sent_first : All (λ m. length start.sent + 1 ≤ m.number) sent_more
   pub heard_first : All (λ h. length start.sent + 1 ≤ h.number) heard_more
   pub sent_numbers : All (λ m. m.number ≤ length k.sent) sent_more
@@ -55,7 +53,7 @@ pub record IsLaterAside (session : ℕ) (start k : Known) (ts : ℕ) : Type 0 wh
   pub top : start.top ≤ k.top
   pub below : ts ≤ k.top
 
--- The coordinator, whose session knew `start`, may go on beside it: it has to hear of no greater timestamp than this.
-pub record MayGoOnBeside (c : Coordination) (start k : Known) (ts : ℕ) : Type 0 where
-  pub later : IsLaterBeside true c start k
+-- The coordinator, whose session knew `start`, may go on beside it, whether messages may be lost or not: it has to hear of no greater timestamp than this.
+pub record MayGoOnBeside (loses : Bool) (c : Coordination) (start k : Known) (ts : ℕ) : Type 0 where
+  pub later : IsLaterBeside loses c start k
   pub clock : max c.clock ts ≡ k.high

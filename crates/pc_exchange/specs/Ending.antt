@@ -4,6 +4,7 @@ use Rattle.pc_desk.specs.declared.halt.Halt.{Halt}
 use Rattle.pc_desk.specs.declared.halt.Halt.TheVariants as halts
 use Rattle.pc_desk.specs.Desk.{DeskMeaning, GivesByVerdicts}
 use Rattle.pc_desk.specs.Ending.{EndsEarly}
+use Rattle.pc_desk.specs.OwnLog.{verdict_of}
 use Rattle.pc_history.specs.declared.pair.Pair.{Pair}
 use Rattle.pc_history.specs.declared.view.Known.{Known as KnownEntry}
 use Rattle.pc_history.specs.Parts.{knowledge}
@@ -29,7 +30,7 @@ pub record HasBrokenOff {C : Type 0} (Are : List Event → Type 0) (old new : De
         stopped = true;
       }
   pub limit : new.range_limit ≡ old.range_limit
-  pub given : GivesByVerdicts new.log.verdict new.log.part
+  pub given : GivesByVerdicts (verdict_of new.log) new.log.part
   pub within : length new.log.part.own ≤ new.log.limit
   pub end : EndsEarly new
 

@@ -1,9 +1,10 @@
 -- One message that is sent, evaluated and heard, before the next; while nothing is heard of it, it is sent again.
-use Rattle.std.specs.Prelude.{◌≡◌, ℕ, ◌+◌, ◌<◌, true, false, None, Some, List, [], ◌∷◌, ◌++◌, length}
+use Rattle.std.specs.Prelude.{◌≡◌, ℕ, ◌+◌, ◌<◌, true, false, None, Some, List, [], ◌∷◌, length}
 use Rattle.pc_base.specs.declared.actor.ActorId.{ActorId}
 use Rattle.pc_desk.specs.declared.answered.Answered.{Answered}
 use Rattle.pc_desk.specs.Desk.{DeskMeaning, HasHeardFirst, KeepsTrack, MaySendNow}
 use Rattle.pc_desk.specs.Late.{HasTakenLost}
+use Rattle.pc_desk.specs.OwnLog.{verdict_of}
 use Rattle.pc_exchange.specs.Growing.{HasGoneBeside, HasAllBack}
 use Rattle.pc_history.specs.declared.pair.Pair.{Pair}
 use Rattle.pc_history.specs.Own.{pair}
@@ -46,36 +47,42 @@ AreLostSends id verdict request number [] = Unit {0}
 AreLostSends id verdict request number (p ∷ ps) =
     ((sent_at range : ℕ) × (p ≡ sent_pair id sent_at number range request)) × (is_losing (verdict number) ≡ true) × AreLostSends id verdict request (number + 1) ps
 
--- The actor sent this message some times, fewer than its tries, and heard nothing of it; then it sent it again, some range evaluated it, and the actor
--- heard this reply, of the message's kind.
-pub record WasExchanged {C : Type 0} (old new : DeskMeaning C) (request : Request) (reply : Reply) : Type 0 where
+-- The actor sent this message some times, and heard nothing of it.
+pub record HasLostSome {C : Type 0} (old new : DeskMeaning C) (request : Request) : Type 0 where
   pub lost : List (Pair Event)
-  pub unheard : AreLostSends old.log.part.id old.log.verdict request (next_number (known_of old.log.part.own)) lost
-  pub few : length lost < old.log.tries
+  pub unheard : AreLostSends old.log.part.id (verdict_of old.log) request (next_number (known_of old.log.part.own)) lost
+  pub goes : HasGoneBeside old new lost
+
+-- The actor sent this message once more under its next number, some range evaluated it, and the actor heard this reply, of the message's kind.
+pub record WasExchangedOnce {C : Type 0} (old new : DeskMeaning C) (request : Request) (reply : Reply) : Type 0 where
   pub range : ℕ
   pub evaluated_by : ℕ
   pub sent_at : ℕ
   pub evaluated_at : ℕ
   pub heard_at : ℕ
   pub goes :
-      HasGoneBeside old new (lost ++ (
-      sent_pair old.log.part.id sent_at (next_number (known_of old.log.part.own) + length lost) range request
-      ∷ heard_pair old.log.part.id heard_at (next_number (known_of old.log.part.own) + length lost) evaluated_by evaluated_at reply ∷ []))
+      HasGoneBeside old new (
+      sent_pair old.log.part.id sent_at (next_number (known_of old.log.part.own)) range request
+      ∷ heard_pair old.log.part.id heard_at (next_number (known_of old.log.part.own)) evaluated_by evaluated_at reply ∷ [])
   pub kind : MayAnswer request reply
   pub possible : IsPossibleReply request reply
 
+-- The actor sent this message some times, fewer than its tries, and heard nothing of it; then it sent it again, and heard this reply.
+pub record WasExchanged {C : Type 0} (old new : DeskMeaning C) (request : Request) (reply : Reply) : Type 0 where
+  pub before : DeskMeaning C
+  pub some : HasLostSome old before request
+  pub few : length some.lost < old.log.tries
+  pub once : WasExchangedOnce before new request reply
+
 -- The actor sent this message just as often as its tries, and heard nothing of it.
 pub record HasLostAll {C : Type 0} (old new : DeskMeaning C) (request : Request) : Type 0 where
-  pub lost : List (Pair Event)
-  pub unheard : AreLostSends old.log.part.id old.log.verdict request (next_number (known_of old.log.part.own)) lost
-  pub all : length lost ≡ old.log.tries
-  pub goes : HasGoneBeside old new lost
+  pub some : HasLostSome old new request
+  pub all : length some.lost ≡ old.log.tries
 
 -- The actor sent this message once, and heard nothing of it.
 pub record HasLostOne {C : Type 0} (old new : DeskMeaning C) (request : Request) : Type 0 where
-  pub lost : Pair Event
-  pub unheard : AreLostSends old.log.part.id old.log.verdict request (next_number (known_of old.log.part.own)) (lost ∷ [])
-  pub goes : HasGoneBeside old new (lost ∷ [])
+  pub some : HasLostSome old new request
+  pub one : length some.lost ≡ 1
 
 -- One message of the actor was delivered: its reply waits to be heard, or it was lost.
 pub record HasOneOut {C : Type 0} (d : DeskMeaning C) : Type 0 where

@@ -2,6 +2,8 @@
 use Rattle.std.specs.Prelude.{◌≡◌, ℕ, Bool, true, false, cond, List, [], ◌∷◌, ◌++◌, map, drop}
 use Rattle.pc_coord.specs.declared.job.Job.{Job}
 use Rattle.pc_desk.specs.Desk.{DeskMeaning}
+use Rattle.pc_desk.specs.Keeping.{LosesNothing}
+use Rattle.pc_desk.specs.OwnLog.{verdict_of}
 use Rattle.pc_exchange.specs.Aside.{IsLaterAside}
 use Rattle.pc_exchange.specs.Growing.{HasGoneBeside}
 use Rattle.pc_exchange.specs.Jobs.{MayFinishNow}
@@ -43,7 +45,7 @@ pub record IsJobUnderWay {C : Type 0} (old : DeskMeaning C) (job : Job) (m : Res
   pub told : KeepsTold (known_of old.log.part.own) (known_of new.log.part.own)
   pub began : Known
   pub knows : ResolveKnows began (known_of new.log.part.own) m
-  pub waiting : jobs_of new.log.part.own ≡ with_rest (messages_due m) start.waiting
+  pub waiting : LosesNothing (verdict_of old.log) → jobs_of new.log.part.own ≡ with_rest (messages_due m) start.waiting
   pub named : m.id ≡ job.meta.id
 
 -- The machine is that of the job.

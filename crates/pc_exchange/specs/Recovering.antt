@@ -7,6 +7,8 @@ use Rattle.pc_base.specs.declared.transaction.Who.TheVariants as whos
 use Rattle.pc_coord.specs.declared.pusher.Pusher.{Pusher}
 use Rattle.pc_coord.specs.Rounds.{AreAskedOnce, IsBehindPush}
 use Rattle.pc_desk.specs.Desk.{DeskMeaning}
+use Rattle.pc_desk.specs.Keeping.{LosesNothing}
+use Rattle.pc_desk.specs.OwnLog.{verdict_of}
 use Rattle.pc_exchange.specs.Aside.{IsLaterAside}
 use Rattle.pc_exchange.specs.Exchange.{HasLostAll}
 use Rattle.pc_exchange.specs.Growing.{HasGoneBeside}
@@ -103,7 +105,7 @@ pub record RecoversForRound {C : Type 0} (d : DeskMeaning C) (own : TxnId) (hold
       IsLaterAside start.decides.under.start.session (known_of start.decides.old.log.part.own) (known_of new.log.part.own) (max start.decides.ts (last_recovered r.progress))
   pub told : KeepsToldBut holder.id (known_of start.decides.old.log.part.own) (known_of new.log.part.own)
   pub jobs : jobs_of new.log.part.own ≡ jobs_of start.decides.old.log.part.own
-  pub begun : rounds_begun (known_of new.log.part.own) ≡ rounds_begun (known_of d.log.part.own)
+  pub begun : LosesNothing (verdict_of d.log) → rounds_begun (known_of new.log.part.own) ≡ rounds_begun (known_of d.log.part.own)
   pub epoch : ℕ
   pub ts : ℕ
   pub writes : List (List ℕ × ℕ)

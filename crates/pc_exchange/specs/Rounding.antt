@@ -5,6 +5,8 @@ use Rattle.pc_base.specs.declared.transaction.TxnId.{TxnId}
 use Rattle.pc_coord.specs.declared.pusher.Pusher.{Pusher}
 use Rattle.pc_coord.specs.Rounds.{AreAskedOnce, IsBehindPush, IsRefusedRound, IsSettledRound, LeavesRoundOn}
 use Rattle.pc_desk.specs.Desk.{DeskMeaning}
+use Rattle.pc_desk.specs.Keeping.{LosesNothing}
+use Rattle.pc_desk.specs.OwnLog.{verdict_of}
 use Rattle.pc_exchange.specs.Aside.{IsLaterAside}
 use Rattle.pc_exchange.specs.Exchange.{HasLostAll}
 use Rattle.pc_exchange.specs.Growing.{HasGoneBeside}
@@ -84,7 +86,7 @@ pub record IsRoundUnderWay {C : Type 0} (old : DeskMeaning C) (pusher : Pusher) 
   pub holder : m.holder ≡ start.met.holder
   pub key : m.key ≡ start.met.key
   pub aims : m.goal ≡ goal_for start.met.h.request
-  pub begun : rounds_begun (known_of new.log.part.own) ≡ rounds_begun (known_of old.log.part.own) + pushes_sent m.progress
+  pub begun : LosesNothing (verdict_of old.log) → rounds_begun (known_of new.log.part.own) ≡ rounds_begun (known_of old.log.part.own) + pushes_sent m.progress
 
 -- The round of this conflict is over: it was under way, and then one of its requests was lost as often as it may be sent.
 pub record HasLostRound {C : Type 0} (old : DeskMeaning C) (pusher : Pusher) (reading : ℕ) (conflict : Reply) (reader : Option ℕ) (new : DeskMeaning C) (ts : ℕ) : Type 0 where

@@ -1,8 +1,8 @@
-ghost use Rattle.std.specs.Prelude.{◌≡◌, ℕ, IfErr, IfNone, IfOk, IfSome, OnErr, OnOk, All};
+ghost use Rattle.std.specs.Prelude.{◌≡◌, ℕ, IfErr, IfNone, IfOk, IfSome, All};
 ghost use Rattle.pc_desk.specs.Desk.{HasHalted, MayHearNow};
 ghost use Rattle.pc_desk.specs.Ending.{EndsOnly};
 ghost use Rattle.pc_exchange.specs.Ending.{BreaksOff};
-ghost use Rattle.pc_exchange.specs.Exchange.{HasLostAll, HasLostOne, HasOneOut, MayExchangeNow, WasExchanged, WasHeardLast, WasLostLast};
+ghost use Rattle.pc_exchange.specs.Exchange.{HasLostAll, HasLostOne, HasOneOut, MayExchangeNow, WasExchanged, WasExchangedOnce, WasHeardLast, WasLostLast};
 ghost use Rattle.pc_proto.specs.declared.event.Event.TheVariants as events;
 ghost use Rattle.pc_turns.specs.Order.{IsInBetween};
 
@@ -29,7 +29,7 @@ pub fn exchange<N: Named<CommitWorld>, C: Clock, V: Wire, G: Gate, R: Wait>(
     ensures err { IfErr result (HasHalted desk.old desk.new) }
     ensures ended { IfErr result (BreaksOff (All IsInBetween) desk.old desk.new) }
 {
-    for _ in 0..desk.tries() {
+    for _sending in 0..desk.tries() {
         let copy = match request.copy() {
             Ok(copy) => copy,
             Err(NoMemory) => return Err(desk.want_memory()),
@@ -49,7 +49,7 @@ fn exchange_once<N: Named<CommitWorld>, C: Clock, V: Wire, G: Gate, R: Wait>(
     request: Request,
 ) -> Result<Option<Reply>, Halt>
     requires { MayExchangeNow desk.old request }
-    ensures heard { IfOk result (λ reply. IfSome reply (WasExchanged desk.old desk.new request)) }
+    ensures heard { IfOk result (λ reply. IfSome reply (WasExchangedOnce desk.old desk.new request)) }
     ensures lost { IfOk result (λ reply. IfNone reply (HasLostOne desk.old desk.new request)) }
     ensures clock { desk.new.log.clock ≡ desk.old.log.clock }
     ensures err { IfErr result (HasHalted desk.old desk.new) }

@@ -79,7 +79,7 @@ module _ {C : Type 0} (maker : RoundMaker) (old : DeskMeaning C) (meta : TxnMeta
     anchored : anchor_heard meta.id k.heard ≡ Some meta.anchor
     anchored =
         let (place, h, inside, at, is) = heard-it in
-        anchor_is d.log x.goes.back.track.log h (place, inside, at) meta.id meta.anchor (about-it h is) (ap (λ r. is_some (view_in r)) is.told ∙ ap (λ o. is_some o) shows) (ap subject_anchor is.asked)
+        anchor_is d.log x.once.goes.back.track.log h (place, inside, at) meta.id meta.anchor (about-it h is) (ap (λ r. is_some (view_in r)) is.told ∙ ap (λ o. is_some o) shows) (ap subject_anchor is.asked)
 
     shown : Any (WasShown meta.id view) k.heard
     shown = any_weaker (IsExchange (listed_push maker meta) told) (WasShown meta.id view) (λ h is. record { about = about-it h is; told = ap view_in is.told ∙ shows }) k.heard heard-it
@@ -103,7 +103,7 @@ module _ {C : Type 0} (maker : RoundMaker) (old : DeskMeaning C) (meta : TxnMeta
   -- and a record that was met staging may be recovered
   pub may_recover : (view : View) → told ≡ replies.Unsure view → MayRecoverNow maker d meta view
   may_recover view is =
-      let s : IsStagingView view = push_answers meta (name_of maker) maker.level maker.reading goals.Abort (replies.Unsure view) (subst (λ r. IsPossibleReply (listed_push maker meta) r) is x.possible) in
+      let s : IsStagingView view = push_answers meta (name_of maker) maker.level maker.reading goals.Abort (replies.Unsure view) (subst (λ r. IsPossibleReply (listed_push maker meta) r) is x.once.possible) in
       record {
         in_round = making;
         epoch = s.epoch;
@@ -155,7 +155,7 @@ module _ {C : Type 0} (maker : RoundMaker) (old : DeskMeaning C) (meta : TxnMeta
 
   -- nothing follows another reply
   pub dealt_alone : ((view : View) → told ≡ replies.Status view → ⊥) → ((view : View) → told ≡ replies.Unsure view → ⊥) → HasDealtWith maker meta old d
-  dealt_alone none unsure = dealt [] d (made_none d x.goes.back) (follows-none maker meta told none unsure)
+  dealt_alone none unsure = dealt [] d (made_none d x.once.goes.back) (follows-none maker meta told none unsure)
 
   -- ---- its list ends on the way
 

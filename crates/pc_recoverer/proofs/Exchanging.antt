@@ -13,7 +13,7 @@ use Rattle.pc_desk.specs.Desk.{AreInTurn, DeskMeaning, HasDelivered, HasSentNext
 use Rattle.pc_desk.specs.Ending.{EndsOnly}
 use Rattle.pc_desk.specs.Keeping.{KeepsAs}
 use Rattle.pc_desk.specs.Late.{HasDeliveredDue}
-use Rattle.pc_desk.specs.OwnLog.{LogMeaning, terms_of}
+use Rattle.pc_desk.specs.OwnLog.{LogMeaning, terms_of, verdict_of}
 use Rattle.pc_exchange.proofs.Called.{next_unsent}
 use Rattle.pc_exchange.proofs.Growing.{grows_both, grows_else, grows_entered, grows_none}
 use Rattle.pc_exchange.proofs.HeardKinds.{heard_kind, heard_possible}
@@ -160,8 +160,8 @@ module _ {C : Type 0} (old mid late : DeskMeaning C) (request : Request) (number
   id-late : late.log.part.id ≡ old.log.part.id
   id-late = ap (λ (l : LogMeaning C). l.part.id) delivered.own ∙ (ap (λ (l : LogMeaning C). l.part.id) sent.noted ∙ ap (λ (l : LogMeaning C). l.part.id) sent.entered.stored)
 
-  verdict-late : (terms_of late.log).verdict ≡ (terms_of old.log).verdict
-  verdict-late = ap (λ (l : LogMeaning C). (terms_of l).verdict) delivered.own ∙ (ap (λ (l : LogMeaning C). (terms_of l).verdict) sent.noted ∙ ap (λ (l : LogMeaning C). (terms_of l).verdict) sent.entered.stored)
+  verdict-late : verdict_of late.log ≡ verdict_of old.log
+  verdict-late = ap (λ (l : LogMeaning C). verdict_of l) delivered.own ∙ (ap (λ (l : LogMeaning C). verdict_of l) sent.noted ∙ ap (λ (l : LogMeaning C). verdict_of l) sent.entered.stored)
 
   -- it may be heard, as all that a recoverer was answered may
   pub may_hear_it : IsRecoverer old.log.part.id → MayHearNow late
@@ -237,13 +237,17 @@ module _ {C : Type 0} (old mid late : DeskMeaning C) (request : Request) (number
         let there : Contains (known_of new.log.part.own).heard h =
         subst (λ own. Contains (known_of own).heard h) (sym grown-heard.own) (heard_then old.log.part.own old.log.part.id sent.entered.step was.heard.entered.step next sent.range was.heard.range a.step request reply (next_unsent old back)) in
         record {
-          evaluated_by = was.heard.range;
-          sent_at = sent.entered.step;
-          evaluated_at = a.step;
-          heard_at = was.heard.entered.step;
-          goes = goes-heard;
-          kind = heard_kind new.log due.track.log h there;
-          possible = heard_possible new.log due.track.log h there;
+          once = record {
+            range = sent.range;
+            evaluated_by = was.heard.range;
+            sent_at = sent.entered.step;
+            evaluated_at = a.step;
+            heard_at = was.heard.entered.step;
+            goes = goes-heard;
+            kind = heard_kind new.log due.track.log h there;
+            possible = heard_possible new.log due.track.log h there;
+          };
+          there = refl;
         }
 
   module _ (done new : DeskMeaning C) (was : WasLostLast late done) (due : HasDeliveredDue done new) where
@@ -261,8 +265,8 @@ module _ {C : Type 0} (old mid late : DeskMeaning C) (request : Request) (number
     pub was_lost_once : WasLostOnce sent.range old new request
     was_lost_once =
         let next = next_number (known_of old.log.part.own) in
-        let Lost : ℕ → Type 0 = λ number. (is_losing ((terms_of late.log).verdict number) ≡ true) × (times_sent number (known_of late.log.part.own) ≡ 1) × (heard_as_number number (known_of late.log.part.own) ≡ 0) in
-        let loses : is_losing ((terms_of late.log).verdict was.number) ≡ true = (All-contains Lost late.lost was.number delivered.track.lost.each lost-there).0 in
+        let Lost : ℕ → Type 0 = λ number. (is_losing (verdict_of late.log number) ≡ true) × (times_sent number (known_of late.log.part.own) ≡ 1) × (heard_as_number number (known_of late.log.part.own) ≡ 0) in
+        let loses : is_losing (verdict_of late.log was.number) ≡ true = (All-contains Lost late.lost was.number delivered.track.lost.each lost-there).0 in
         record {
           sent_at = sent.entered.step;
           goes = record {
@@ -277,7 +281,7 @@ module _ {C : Type 0} (old mid late : DeskMeaning C) (request : Request) (number
             limit = ap (λ (d : DeskMeaning C). d.range_limit) due.rest ∙ (ap (λ (d : DeskMeaning C). d.range_limit) was.taken.rest ∙ (delivered.limit ∙ sent.limit));
             later = ap (λ (d : DeskMeaning C). d.later) due.rest ∙ (ap (λ (d : DeskMeaning C). d.later) was.taken.rest ∙ (delivered.later ∙ sent.later));
           };
-          loses = sym (ap (λ v. is_losing (v next)) verdict-late) ∙ (sym (ap (λ n. is_losing ((terms_of late.log).verdict n)) (lost-is was.number lost-there ∙ next-is)) ∙ loses);
+          loses = sym (ap (λ v. is_losing (v next)) verdict-late) ∙ (sym (ap (λ n. is_losing (verdict_of late.log n)) (lost-is was.number lost-there ∙ next-is)) ∙ loses);
         }
 
 -- ---- where its list ends once the message was sent

@@ -1,5 +1,5 @@
 -- A recoverer sends messages that are lost: what it knows then, and that it may send them again.
-use Rattle.std.proofs.Common.{◌≡◌, ℕ, zero, suc, true, ◌+◌, ◌≤◌, All, Any, Contains, List, [], ◌∷◌, ◌++◌, length, map, None, Some, inl, inr, refl, sym, ap, ◌∙◌, subst, arith, length-append}
+use Rattle.std.proofs.Common.{◌≡◌, ℕ, true, ◌+◌, ◌≤◌, All, Any, Contains, List, [], ◌∷◌, ◌++◌, length, map, None, Some, inl, inr, refl, sym, ap, ◌∙◌, subst, arith, length-append}
 use Rattle.std.proofs.lemmas.Grind.{fold-append}
 use Rattle.std.proofs.lemmas.List.{append-nil}
 use Rattle.std.proofs.lemmas.List.Elements.{All-head, All-nil, All-tail, All-weaker}
@@ -101,17 +101,6 @@ sent_in_vain id s x number (p ∷ ps) ((step, range, is), loses, more) there =
       record { number = number; range = range; sends = event; goes = λ records. let to = All-head Sends p ps (there records) in sym (ap range_sent event) ∙ ap range_sent to.1; loses = loses },
       sent_in_vain id s x (number + 1) ps more (λ records. All-tail Sends p ps (there records)),
     )
-
--- so they are another's that says the same
-pub in_vain_as : (s : Sending) (x y : RoundMessage) (count : ℕ) (part : List (Pair Event)) → x.request ≡ y.request → x.range ≡ y.range → AreSentInVain s x count part → AreSentInVain s y count part
-in_vain_as s x y zero part same there none = none
-in_vain_as s x y (suc count) part same there (p, rest, whole, one, more) = (
-  p,
-  rest,
-  whole,
-  record { number = one.number; range = one.range; sends = one.sends ∙ ap (events.Send one.number one.range) same; goes = λ records. one.goes (same ∙ records) ∙ there; loses = one.loses },
-  in_vain_as s x y count rest same there more,
-)
 
 -- ---- they may be sent again
 

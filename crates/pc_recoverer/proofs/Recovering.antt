@@ -215,11 +215,11 @@ module _ {C : Type 0} (maker : RoundMaker) (old : DeskMeaning C) (meta : TxnMeta
     decided-on finding queried asked other told kind before = absurd kind
 
     status-by : (finding : Finding) → request ≡ recover_of m finding → IsStatus reply
-    status-by finding asked = recovery_answers m.holder.id (recover_of m finding) reply refl (subst (λ q. IsPossibleReply q reply) asked x.possible)
+    status-by finding asked = recovery_answers m.holder.id (recover_of m finding) reply refl (subst (λ q. IsPossibleReply q reply) asked x.once.possible)
 
     -- once every write was asked for, or one more was
     found-on : (n : ℕ) (w : Option (List ℕ × ℕ)) → slice_get m.writes n ≡ w → WereAllFound maker meta f.start.epoch f.start.ts (take n f.start.writes) f.traffic → request ≡ asked_for w m → To (progress_after w reply n)
-    found-on n (Some w) at come asked = queried-on n w at come asked reply refl (query-answers m w reply (subst (λ q. IsPossibleReply q reply) asked x.possible))
+    found-on n (Some w) at come asked = queried-on n w at come asked reply refl (query-answers m w reply (subst (λ q. IsPossibleReply q reply) asked x.once.possible))
     found-on n None at come asked =
         let all : take n f.start.writes ≡ f.start.writes = past_all f.start.writes n (ap (λ l. slice_get l n) (sym writes-is) ∙ at) in
         decided-on findings.All (subst (λ ws. WereAllFound maker meta f.start.epoch f.start.ts ws f.traffic) all come) asked reply refl (status-by findings.All asked) (progresses.Found n)
@@ -243,7 +243,7 @@ module _ {C : Type 0} (maker : RoundMaker) (old : DeskMeaning C) (meta : TxnMeta
       start = f.start;
       traffic = f.traffic ++ one ∷ [];
       made = made_both old d new f.traffic (one ∷ []) f.made (made_one d new request reply f.made.goes.back x (λ records. absurd (lists_nothing request (recovering_kind request due) records)));
-      knows = knows (actors.Recoverer maker.number) (known_of old.log.part.own) (known_of d.log.part.own) k request f.knows due (was_answered d new request reply f.made.goes.back x) x.possible;
+      knows = knows (actors.Recoverer maker.number) (known_of old.log.part.own) (known_of d.log.part.own) k request f.knows due (was_answered d new request reply f.made.goes.back x) x.once.possible;
       same =
           made
           ∙ (ap (recovering_at (recovering_heard m.progress reply m)) f.same

@@ -161,7 +161,7 @@ module _ {C : Type 0} (old : DeskMeaning C) (meta : TxnMeta) (fate : Fate) (lock
         → IsBeingSettled old meta fate locks next new
     settling_on knows =
         let back = f.made.goes.back in
-        let first : messages_due m ≡ request ∷ messages_due next = (is_first m next request reply due x.kind made).first in
+        let first : messages_due m ≡ request ∷ messages_due next = (is_first m next request reply due x.once.kind made).first in
         let one = message_of d new request reply back x in
         record {
           start = f.start;

@@ -1,13 +1,13 @@
 -- A recoverer in its round goes on by one message after another.
-use Rattle.std.proofs.Common.{◌≡◌, ℕ, ◌+◌, ◌≤◌, List, [], ◌∷◌, ◌++◌, length, map, is_some, IfErr, Any, Option, None, Some, OnOk, Result, Ok, Err, refl, sym, ap, ◌∙◌, subst}
+use Rattle.std.proofs.Common.{◌≡◌, ℕ, ◌≤◌, List, [], ◌∷◌, ◌++◌, length, map, is_some, IfErr, Any, Option, None, Some, OnOk, Result, Ok, Err, refl, sym, ap, ◌∙◌, subst}
 use Rattle.std.specs.Prelude.{IsTrue}
 use Rattle.std.proofs.lemmas.List.{append_assoc, append-nil, map-append}
 use Rattle.pc_desk.specs.declared.halt.Halt.{Halt}
 use Rattle.pc_desk.specs.Desk.{DeskMeaning}
-use Rattle.pc_desk.specs.OwnLog.{LogMeaning, terms_of}
+use Rattle.pc_desk.specs.OwnLog.{LogMeaning, verdict_of}
 use Rattle.pc_exchange.proofs.Going.{answered_by, goes_both, goes_none}
-use Rattle.pc_exchange.specs.Exchange.{HasLostAll, WasExchanged}
-use Rattle.pc_exchange.specs.Growing.{HasAllBack, HasGrownBy}
+use Rattle.pc_exchange.specs.Exchange.{HasLostAll, WasExchanged, heard_pair, sent_pair}
+use Rattle.pc_exchange.specs.Growing.{HasAllBack, HasGoneBeside, HasGrownBy}
 use Rattle.pc_history.specs.declared.pair.Pair.{Pair}
 use Rattle.pc_lists.proofs.Anywhere.{any_behind}
 use Rattle.pc_proto.specs.declared.event.Event.{Event}
@@ -69,7 +69,7 @@ making_later {C} d new part grown back later maker making =
 module _ {C : Type 0} (d new : DeskMeaning C) (request : Request) (reply : Reply) (back : HasAllBack d) (x : WasExchanged d new request reply) where
   -- the message
   abbrev pub message_of : RoundMessage
-  message_of = record { range = x.range; request = request; lost = length x.lost; reply = Some reply }
+  message_of = record { range = x.once.range; request = request; lost = length x.some.lost; reply = Some reply }
 
   pub was_answered : WasAnswered (known_of d.log.part.own) (known_of new.log.part.own) request reply
   was_answered = answered_by d new request reply back x
@@ -86,21 +86,30 @@ module _ {C : Type 0} (d new : DeskMeaning C) (request : Request) (reply : Reply
       let h = (answered (known_of d.log.part.own) (known_of new.log.part.own) request reply was_answered).heard in
       subst (λ l. Any (IsExchange request reply) l) (sym h.in_call) (any_behind (IsExchange request reply) (known_of d.log.part.own).heard_now h.more h.there)
 
+  -- Its last two entries.
+  abbrev once-part : List (Pair Event)
+  once-part =
+      let next = next_number (known_of x.before.log.part.own) in
+      sent_pair x.before.log.part.id x.once.sent_at next x.once.range request ∷ heard_pair x.before.log.part.id x.once.heard_at next x.once.evaluated_by x.once.evaluated_at reply ∷ []
+
+  goes-all : HasGoneBeside d new (x.some.lost ++ once-part)
+  goes-all = goes_both d x.before new x.some.lost once-part x.some.goes x.once.goes
+
   -- the round goes on
   pub still_making : (maker : RoundMaker) → IsMakingRound maker d → IsMakingRound maker new
-  still_making maker making = making_later d new _ x.goes.grown x.goes.back later_by maker making
+  still_making maker making = making_later d new (x.some.lost ++ once-part) goes-all.grown goes-all.back later_by maker making
 
   -- the message was made
-  pub made_one : (request ≡ requests.Records → EachSendsTo x.range request x.lost) → HasMadeTraffic d new (message_of ∷ [])
+  pub made_one : (request ≡ requests.Records → EachSendsTo x.once.range request x.some.lost) → HasMadeTraffic d new (message_of ∷ [])
   made_one there = record {
-    part = _;
-    goes = x.goes;
-    each = exchange_alone (sending_of d.log) message_of _ (record {
-      losses = x.lost;
-      end = _;
+    part = x.some.lost ++ once-part;
+    goes = goes-all;
+    each = exchange_alone (sending_of d.log) message_of (x.some.lost ++ once-part) (record {
+      losses = x.some.lost;
+      end = once-part;
       whole = refl;
-      lost = sent_in_vain d.log.part.id (sending_of d.log) message_of (next_number (known_of d.log.part.own)) x.lost x.unheard there;
-      ends = (x.few, (_, _, refl, record { number = next_number (known_of d.log.part.own) + length x.lost; sends = refl; evaluated_at = x.evaluated_at; hears = refl; told = refl }));
+      lost = sent_in_vain d.log.part.id (sending_of d.log) message_of (next_number (known_of d.log.part.own)) x.some.lost x.some.unheard there;
+      ends = (x.few, (_, _, refl, record { number = next_number (known_of x.before.log.part.own); sends = refl; evaluated_at = x.once.evaluated_at; hears = refl; told = refl }));
     });
     later = later_by;
     stays = still_making;
@@ -113,22 +122,23 @@ module _ {C : Type 0} (d new : DeskMeaning C) (request : Request) (range : ℕ) 
   abbrev pub given_up_of : RoundMessage
   given_up_of = record { range = range; request = request; lost = d.log.tries; reply = None }
 
-  only-sent : HasOnlySent (length x.lost) (known_of d.log.part.own) (known_of new.log.part.own)
+  only-sent : HasOnlySent (length x.some.lost) (known_of d.log.part.own) (known_of new.log.part.own)
   only-sent =
-      subst (λ own. HasOnlySent (length x.lost) (known_of d.log.part.own) (known_of own)) (sym x.goes.grown.own)
-      (lost_behind d.log.part.id (terms_of d.log).verdict request (next_number (known_of d.log.part.own)) x.lost d.log.part.own x.unheard)
+      subst (λ own. HasOnlySent (length x.some.lost) (known_of d.log.part.own) (known_of own)) (sym x.some.goes.grown.own)
+      (lost_behind d.log.part.id (verdict_of d.log) request (next_number (known_of d.log.part.own)) x.some.lost d.log.part.own x.some.unheard)
 
   -- it was made
-  pub made_lost : (request ≡ requests.Records → EachSendsTo range request x.lost) → HasMadeTraffic d new (given_up_of ∷ [])
+  pub made_lost : (request ≡ requests.Records → EachSendsTo range request x.some.lost) → HasMadeTraffic d new (given_up_of ∷ [])
   made_lost there =
       let s = sending_of d.log in
-      let lost = sent_in_vain d.log.part.id s given_up_of (next_number (known_of d.log.part.own)) x.lost x.unheard there in
+      let lost = sent_in_vain d.log.part.id s given_up_of (next_number (known_of d.log.part.own)) x.some.lost x.some.unheard there in
       record {
-        part = x.lost;
-        goes = x.goes;
-        each = exchange_alone s given_up_of x.lost (record { losses = x.lost; end = []; whole = sym (append-nil x.lost); lost = subst (λ n. AreSentInVain s given_up_of n x.lost) x.all lost; ends = (refl, refl) });
+        part = x.some.lost;
+        goes = x.some.goes;
+        each = exchange_alone s given_up_of x.some.lost
+            (record { losses = x.some.lost; end = []; whole = sym (append-nil x.some.lost); lost = subst (λ n. AreSentInVain s given_up_of n x.some.lost) x.all lost; ends = (refl, refl) });
         later = only-sent.later;
-        stays = making_later d new x.lost x.goes.grown x.goes.back only-sent.later;
+        stays = making_later d new x.some.lost x.some.goes.grown x.some.goes.back only-sent.later;
       }
 
 -- ---- none, and several

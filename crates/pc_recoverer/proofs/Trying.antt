@@ -1,16 +1,15 @@
 -- A recoverer sends a message again while it is lost: what may be done between two tries, and what they come to.
 use Rattle.std.proofs.Common.{◌≡◌, ℕ, ◌+◌, ◌<◌, ◌≤◌, true, is_some, inl, None, List, [], ◌∷◌, ◌++◌, length, refl, sym, ap, subst, ◌∙◌, arith, length-append}
 use Rattle.std.proofs.lemmas.List.Elements.{All-append, All-cons, All-nil}
-use Rattle.pc_base.specs.declared.actor.ActorId.{ActorId}
 use Rattle.pc_base.specs.declared.actor.ActorId.TheVariants as actors
 use Rattle.pc_desk.specs.declared.halt.Halt.{Halt}
 use Rattle.pc_desk.specs.Desk.{DeskMeaning, MaySendNow, MaySendTo}
 use Rattle.pc_desk.specs.Ending.{EndsOnly}
 use Rattle.pc_desk.specs.Keeping.{KeepsAs}
-use Rattle.pc_desk.specs.OwnLog.{LogMeaning, terms_of}
+use Rattle.pc_desk.specs.OwnLog.{LogMeaning, terms_of, verdict_of}
 use Rattle.pc_exchange.proofs.Going.{goes_both, goes_none}
-use Rattle.pc_exchange.specs.Exchange.{HasLostAll, WasExchanged, heard_pair, sent_pair}
-use Rattle.pc_exchange.specs.Growing.{HasAllBack, HasGoneBeside}
+use Rattle.pc_exchange.specs.Exchange.{HasLostSome, WasExchanged, sent_pair}
+use Rattle.pc_exchange.specs.Growing.{HasAllBack}
 use Rattle.pc_history.specs.declared.pair.Pair.{Pair}
 use Rattle.pc_proto.specs.declared.event.Event.{Event}
 use Rattle.pc_proto.specs.declared.event.Event.TheVariants as events
@@ -24,7 +23,7 @@ use Rattle.pc_recoverer.proofs.Fronts.{front_lost, front_sent, front_weaker, sai
 use Rattle.pc_recoverer.proofs.Lost.{HasOnlySent, allowed_still, lists_nothing, listing_still, lost_behind, lost_both, sent_in_vain}
 use Rattle.pc_recoverer.specs.Broken.{AreFrontOf, AreFrontOfOne, BreaksOffIn, IsOneMessage, IsOneMessageTo, IsOneSend}
 use Rattle.pc_recoverer.specs.Exchanges.{AreSentInVain, Sending}
-use Rattle.pc_recoverer.specs.InRound.{EachSendsTo, HasLostSome, HasLostSomeTo, IsRecovererInRound, WasExchangedWith, WasHeardOnce, WasLostOnce, WasLostWith, sending_of}
+use Rattle.pc_recoverer.specs.InRound.{EachSendsTo, HasLostSomeTo, IsRecovererInRound, WasExchangedWith, WasHeardOnce, WasLostOnce, sending_of}
 use Rattle.pc_wave.specs.Standing.{goes_beside}
 use Rattle.pc_wire.specs.Verdicts.{is_losing}
 use Rattle.pc_world.specs.Exchange.{IsAllowed, IsPossibleReply}
@@ -33,18 +32,21 @@ use Rattle.pc_world.specs.Local.{Head}
 use Rattle.pc_world.specs.RangeOf.{GoesTo, IsForOne}
 
 -- before the first try
-abbrev pub lost_nothing : {C : Type 0} (d : DeskMeaning C) (request : Request) → HasAllBack d → HasLostSome 0 d d request
-lost_nothing d request back = record { lost = []; many = refl; unheard = tt; goes = goes_none d back }
+abbrev pub lost_nothing : {C : Type 0} (d : DeskMeaning C) (request : Request) → HasAllBack d → HasLostSome d d request
+lost_nothing d request back = record { lost = []; unheard = tt; goes = goes_none d back }
 
-pub lost_nothing_to : {C : Type 0} (range : ℕ) (d : DeskMeaning C) (request : Request) → HasAllBack d → HasLostSomeTo range 0 d d request
-lost_nothing_to range d request back = record { lost = lost_nothing d request back; there = All-nil (λ p. (number : ℕ) × (p.entry.event ≡ events.Send number range request)) }
+abbrev pub lost_nothing_to : {C : Type 0} (range : ℕ) (d : DeskMeaning C) (request : Request) → HasAllBack d → HasLostSomeTo range d d request
+lost_nothing_to range d request back = record { some = lost_nothing d request back; there = All-nil (λ (p : Pair Event). (number : ℕ) × (p.entry.event ≡ events.Send number range request)) }
 
-module _ {C : Type 0} (old mid : DeskMeaning C) (request : Request) (count : ℕ) (l : HasLostSome count old mid request) where
+module _ {C : Type 0} (old mid : DeskMeaning C) (request : Request) (l : HasLostSome old mid request) where
+  -- How often it was lost.
+  abbrev count : ℕ
+  count = length l.lost
+
   only-sent : HasOnlySent count (known_of old.log.part.own) (known_of mid.log.part.own)
   only-sent =
-      subst (λ n. HasOnlySent n (known_of old.log.part.own) (known_of mid.log.part.own)) l.many
-      (subst (λ own. HasOnlySent (length l.lost) (known_of old.log.part.own) (known_of own)) (sym l.goes.grown.own)
-      (lost_behind old.log.part.id (terms_of old.log).verdict request (next_number (known_of old.log.part.own)) l.lost old.log.part.own l.unheard))
+      subst (λ own. HasOnlySent count (known_of old.log.part.own) (known_of own)) (sym l.goes.grown.own)
+      (lost_behind old.log.part.id (verdict_of old.log) request (next_number (known_of old.log.part.own)) l.lost old.log.part.own l.unheard)
 
   next-is : next_number (known_of mid.log.part.own) ≡ next_number (known_of old.log.part.own) + count
   next-is = omega (arith, only-sent.sent)
@@ -55,8 +57,8 @@ module _ {C : Type 0} (old mid : DeskMeaning C) (request : Request) (count : ℕ
   head-is : mid.log.head ≡ old.log.head
   head-is = ap (λ (l : LogMeaning C). l.head) l.goes.grown.rest
 
-  verdict-is : (terms_of mid.log).verdict ≡ (terms_of old.log).verdict
-  verdict-is = ap (λ (l : LogMeaning C). (terms_of l).verdict) l.goes.grown.rest
+  verdict-is : verdict_of mid.log ≡ verdict_of old.log
+  verdict-is = ap (λ (l : LogMeaning C). verdict_of l) l.goes.grown.rest
 
   -- it is in its round still
   pub in_round_still : IsRecovererInRound old → IsRecovererInRound mid
@@ -94,53 +96,33 @@ module _ {C : Type 0} (old mid : DeskMeaning C) (request : Request) (count : ℕ
   }
 
   -- it is lost once more
-  abbrev pub lost_more : (new : DeskMeaning C) (range : ℕ) → WasLostOnce range mid new request → HasLostSome (count + 1) old new request
+  abbrev pub lost_more : (new : DeskMeaning C) (range : ℕ) → WasLostOnce range mid new request → HasLostSome old new request
   lost_more new range once =
       let next = next_number (known_of mid.log.part.own) in
       let first = next_number (known_of old.log.part.own) in
       let p : Pair Event = sent_pair mid.log.part.id once.sent_at next range request in
       let is : p ≡ sent_pair old.log.part.id once.sent_at (first + count) range request =
       ap (λ i. sent_pair i once.sent_at next range request) id-is ∙ ap (λ n. sent_pair old.log.part.id once.sent_at n range request) next-is in
-      let loses : is_losing ((terms_of old.log).verdict (first + count)) ≡ true =
-      sym (ap (λ v. is_losing (v next)) verdict-is ∙ ap (λ n. is_losing ((terms_of old.log).verdict n)) next-is) ∙ once.loses in
+      let loses : is_losing (verdict_of old.log (first + count)) ≡ true =
+      sym (ap (λ v. is_losing (v next)) verdict-is ∙ ap (λ n. is_losing (verdict_of old.log n)) next-is) ∙ once.loses in
       record {
         lost = l.lost ++ p ∷ [];
-        many = length-append l.lost (p ∷ []) ∙ ap (λ n. n + 1) l.many;
-        unheard = lost_both old.log.part.id (terms_of old.log).verdict request first count l.lost (p ∷ []) l.many l.unheard ((once.sent_at, range, is), loses, tt);
+        unheard = lost_both old.log.part.id (verdict_of old.log) request first count l.lost (p ∷ []) refl l.unheard ((once.sent_at, range, is), loses, tt);
         goes = goes_both old mid new l.lost (p ∷ []) l.goes once.goes;
       }
 
+  -- which is one time more
+  pub one_more_lost : (new : DeskMeaning C) (range : ℕ) (once : WasLostOnce range mid new request) → length (lost_more new range once).lost ≡ count + 1
+  one_more_lost new range once = length-append l.lost (sent_pair mid.log.part.id once.sent_at (next_number (known_of mid.log.part.own)) range request ∷ [])
+
   -- or heard at last
   abbrev pub heard_at_last : (new : DeskMeaning C) (range : ℕ) (reply : Reply) → count < old.log.tries → WasHeardOnce range mid new request reply → WasExchanged old new request reply
-  heard_at_last new range reply few once =
-      let first = next_number (known_of old.log.part.own) in
-      let F : ActorId → ℕ → List (Pair Event) = λ id n. l.lost ++ (sent_pair id once.sent_at n range request ∷ heard_pair id once.heard_at n once.evaluated_by once.evaluated_at reply ∷ []) in
-      let numbered : next_number (known_of mid.log.part.own) ≡ first + length l.lost = next-is ∙ ap (λ n. first + n) (sym l.many) in
-      record {
-        lost = l.lost;
-        unheard = l.unheard;
-        few = subst (λ n. n < old.log.tries) (sym l.many) few;
-        range = range;
-        evaluated_by = once.evaluated_by;
-        sent_at = once.sent_at;
-        evaluated_at = once.evaluated_at;
-        heard_at = once.heard_at;
-        goes = subst (λ n. HasGoneBeside old new (F old.log.part.id n)) numbered
-            (subst (λ id. HasGoneBeside old new (F id (next_number (known_of mid.log.part.own)))) id-is (goes_both old mid new l.lost _ l.goes once.goes));
-        kind = once.kind;
-        possible = once.possible;
-      }
-
-  -- or its tries are used up
-  abbrev pub lost_all : count ≡ old.log.tries → HasLostAll old mid request
-  lost_all all = record { lost = l.lost; unheard = l.unheard; all = l.many ∙ all; goes = l.goes }
+  heard_at_last new range reply few was = record { before = mid; some = l; few = few; once = was.once }
 
   -- ---- where its list ends between two tries, or in one
 
   in-vain : (range : ℕ) (reply : Reply) → (request ≡ requests.Records → EachSendsTo range request l.lost) → AreSentInVain (sending_of old.log) (said range request count reply) count l.lost
-  in-vain range reply there =
-      subst (λ n. AreSentInVain (sending_of old.log) (said range request count reply) n l.lost) l.many
-      (sent_in_vain old.log.part.id (sending_of old.log) (said range request count reply) (next_number (known_of old.log.part.own)) l.lost l.unheard there)
+  in-vain range reply there = sent_in_vain old.log.part.id (sending_of old.log) (said range request count reply) (next_number (known_of old.log.part.own)) l.lost l.unheard there
 
   module _ (few : count < old.log.tries) (new : DeskMeaning C) (halt : Halt) where
     abbrev s : Sending
@@ -192,21 +174,17 @@ pub record IsListing (told : Reply) : Type 0 where
 pub listing_answers : (told : Reply) → IsPossibleReply requests.Records told → IsListing told
 listing_answers told possible = record { metas = _; is = possible.is }
 
-module _ {C : Type 0} (range : ℕ) (old mid new : DeskMeaning C) (request : Request) (count : ℕ) (l : HasLostSomeTo range count old mid request) where
+module _ {C : Type 0} (range : ℕ) (old mid new : DeskMeaning C) (request : Request) (l : HasLostSomeTo range old mid request) where
   -- it was lost once more
-  pub lost_more_to : WasLostOnce range mid new request → HasLostSomeTo range (count + 1) old new request
+  abbrev pub lost_more_to : WasLostOnce range mid new request → HasLostSomeTo range old new request
   lost_more_to once =
       let Sends : Pair Event → Type 0 = λ p. (number : ℕ) × (p.entry.event ≡ events.Send number range request) in
       let p = sent_pair mid.log.part.id once.sent_at (next_number (known_of mid.log.part.own)) range request in
       record {
-        lost = lost_more old mid request count l.lost new range once;
-        there = All-append Sends l.lost.lost (p ∷ []) l.there (All-cons Sends p [] (next_number (known_of mid.log.part.own), refl) (All-nil Sends));
+        some = lost_more old mid request l.some new range once;
+        there = All-append Sends l.some.lost (p ∷ []) l.there (All-cons Sends p [] (next_number (known_of mid.log.part.own), refl) (All-nil Sends));
       }
 
   -- or heard at last
-  pub heard_at_last_to : (reply : Reply) → count < old.log.tries → WasHeardOnce range mid new request reply → WasExchangedWith range old new request reply
-  heard_at_last_to reply few once = record { exchanged = heard_at_last old mid request count l.lost new range reply few once; there = refl; before = l.there }
-
--- or its tries are used up
-pub lost_all_to : {C : Type 0} (range : ℕ) (old mid : DeskMeaning C) (request : Request) (count : ℕ) → HasLostSomeTo range count old mid request → count ≡ old.log.tries → WasLostWith range old mid request
-lost_all_to range old mid request count l all = record { lost = lost_all old mid request count l.lost all; there = l.there }
+  pub heard_at_last_to : (reply : Reply) → length l.some.lost < old.log.tries → WasHeardOnce range mid new request reply → WasExchangedWith range old new request reply
+  heard_at_last_to reply few was = record { exchanged = heard_at_last old mid request l.some new range reply few was; there = was.there; before = l.there }

@@ -108,7 +108,7 @@ module _ {C : Type 0} (maker : RoundMaker) (range : ℕ) (old d : DeskMeaning C)
   listing = message_of old d requests.Records (replies.Listed metas) making.back x.exchanged
 
   made-it : HasMadeTraffic old d (listing ∷ [])
-  made-it = made_one old d requests.Records (replies.Listed metas) making.back x.exchanged (λ records. subst (λ r. EachSendsTo r requests.Records x.exchanged.lost) (sym x.there) x.before)
+  made-it = made_one old d requests.Records (replies.Listed metas) making.back x.exchanged (λ records. subst (λ r. EachSendsTo r requests.Records x.exchanged.some.lost) (sym x.there) x.before)
 
   -- what it lists may be pushed
   pub may_push_listed : MayPushEach maker d metas

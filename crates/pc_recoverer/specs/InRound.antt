@@ -1,11 +1,11 @@
 -- A recoverer in its round, and what it does there.
-use Rattle.std.specs.Prelude.{◌≡◌, ℕ, ◌+◌, ◌≤◌, true, is_some, length, Some, List, [], ◌∷◌, All, Any, IsTrue}
+use Rattle.std.specs.Prelude.{◌≡◌, ℕ, ◌+◌, ◌≤◌, true, is_some, Some, List, [], ◌∷◌, All, Any, IsTrue}
 use Rattle.pc_base.specs.declared.actor.ActorId.{ActorId}
 use Rattle.pc_base.specs.declared.actor.ActorId.TheVariants as actors
 use Rattle.pc_base.specs.declared.transaction.TxnId.{TxnId}
 use Rattle.pc_desk.specs.Desk.{DeskMeaning, HasSentNext}
-use Rattle.pc_desk.specs.OwnLog.{LogMeaning, terms_of}
-use Rattle.pc_exchange.specs.Exchange.{AreLostSends, HasLostAll, WasExchanged, heard_pair, sent_pair}
+use Rattle.pc_desk.specs.OwnLog.{LogMeaning, verdict_of}
+use Rattle.pc_exchange.specs.Exchange.{HasLostAll, HasLostSome, WasExchanged, WasExchangedOnce, sent_pair}
 use Rattle.pc_exchange.specs.Growing.{HasAllBack, HasGoneBeside}
 use Rattle.pc_history.specs.declared.pair.Pair.{Pair}
 use Rattle.pc_proto.specs.declared.call.Call.TheVariants as calls
@@ -26,8 +26,7 @@ use Rattle.pc_recoverer.specs.Recovered.{IsDecision}
 use Rattle.pc_recoverer.specs.Round.{ArePartsFor, ArePartsOf, IsPartFor, IsPartOf}
 use Rattle.pc_recoverer.specs.Settled.{settling_of}
 use Rattle.pc_wire.specs.Verdicts.{is_losing}
-use Rattle.pc_world.specs.Answering.{MayAnswer}
-use Rattle.pc_world.specs.Exchange.{IsLater, IsPossibleReply}
+use Rattle.pc_world.specs.Exchange.{IsLater}
 use Rattle.pc_world.specs.Known.{known_of, next_number}
 use Rattle.pc_world.specs.Known.Traffic.{Heard}
 use Rattle.pc_world.specs.Send.Push.{ListsRecord}
@@ -56,49 +55,34 @@ pub record HasOneAway {C : Type 0} (d : DeskMeaning C) : Type 0 where
 
 -- The recoverer sent this message once, to this range, and heard this reply.
 pub record WasHeardOnce {C : Type 0} (range : ℕ) (old new : DeskMeaning C) (request : Request) (reply : Reply) : Type 0 where
-  pub evaluated_by : ℕ
-  pub sent_at : ℕ
-  pub evaluated_at : ℕ
-  pub heard_at : ℕ
-  pub goes :
-      HasGoneBeside old new (
-      sent_pair old.log.part.id sent_at (next_number (known_of old.log.part.own)) range request
-      ∷ heard_pair old.log.part.id heard_at (next_number (known_of old.log.part.own)) evaluated_by evaluated_at reply ∷ [])
-  pub kind : MayAnswer request reply
-  pub possible : IsPossibleReply request reply
+  pub once : WasExchangedOnce old new request reply
+  pub there : once.range ≡ range
 
 -- The recoverer sent this message once, to this range, and its verdict lost it.
 pub record WasLostOnce {C : Type 0} (range : ℕ) (old new : DeskMeaning C) (request : Request) : Type 0 where
   pub sent_at : ℕ
   pub goes : HasGoneBeside old new (sent_pair old.log.part.id sent_at (next_number (known_of old.log.part.own)) range request ∷ [])
-  pub loses : is_losing ((terms_of old.log).verdict (next_number (known_of old.log.part.own))) ≡ true
+  pub loses : is_losing (verdict_of old.log (next_number (known_of old.log.part.own))) ≡ true
 
 -- Each of these entries sends this to this range.
 abbrev pub EachSendsTo : ℕ → Request → List (Pair Event) → Type 0
 EachSendsTo range request part = All (λ p. (number : ℕ) × (p.entry.event ≡ events.Send number range request)) part
 
--- The recoverer sent this message so often, and heard nothing of it.
-pub record HasLostSome {C : Type 0} (count : ℕ) (old new : DeskMeaning C) (request : Request) : Type 0 where
-  pub lost : List (Pair Event)
-  pub many : length lost ≡ count
-  pub unheard : AreLostSends old.log.part.id (terms_of old.log).verdict request (next_number (known_of old.log.part.own)) lost
-  pub goes : HasGoneBeside old new lost
-
--- It sent it to this range.
-pub record HasLostSomeTo {C : Type 0} (range count : ℕ) (old new : DeskMeaning C) (request : Request) : Type 0 where
-  pub lost : HasLostSome count old new request
-  pub there : EachSendsTo range request lost.lost
+-- The recoverer sent this message to this range some times, and heard nothing of it.
+pub record HasLostSomeTo {C : Type 0} (range : ℕ) (old new : DeskMeaning C) (request : Request) : Type 0 where
+  pub some : HasLostSome old new request
+  pub there : EachSendsTo range request some.lost
 
 -- The recoverer sent this message to this range, some times in vain, and heard this reply.
 pub record WasExchangedWith {C : Type 0} (range : ℕ) (old new : DeskMeaning C) (request : Request) (reply : Reply) : Type 0 where
   pub exchanged : WasExchanged old new request reply
-  pub there : exchanged.range ≡ range
-  pub before : EachSendsTo range request exchanged.lost
+  pub there : exchanged.once.range ≡ range
+  pub before : EachSendsTo range request exchanged.some.lost
 
 -- The recoverer sent this message to this range as often as its tries, and heard nothing of it.
 pub record WasLostWith {C : Type 0} (range : ℕ) (old new : DeskMeaning C) (request : Request) : Type 0 where
   pub lost : HasLostAll old new request
-  pub there : EachSendsTo range request lost.lost
+  pub there : EachSendsTo range request lost.some.lost
 
 -- The recoverer is in this round, no message of it is on its way, and it began no transaction.
 pub record IsMakingRound {C : Type 0} (maker : RoundMaker) (d : DeskMeaning C) : Type 0 where
@@ -109,7 +93,7 @@ pub record IsMakingRound {C : Type 0} (maker : RoundMaker) (d : DeskMeaning C) :
 
 -- What becomes of the messages of this list, and how often in a row it sends one that is lost.
 abbrev pub sending_of : {C : Type 0} → LogMeaning C → Sending
-sending_of l = record { verdict = (terms_of l).verdict; tries = l.tries }
+sending_of l = record { verdict = verdict_of l; tries = l.tries }
 
 -- The recoverer exchanged these messages, and did nothing else: it is in its round still.
 pub record HasMadeTraffic {C : Type 0} (old new : DeskMeaning C) (traffic : List RoundMessage) : Type 0 where

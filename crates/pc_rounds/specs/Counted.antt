@@ -1,5 +1,6 @@
 -- A recoverer that makes so many rounds and no more: how it stands between its turns, and what each turn makes. Own profile.
 use Rattle.std.specs.Prelude.{◌≡◌, ℕ, ◌+◌, ◌<◌, ◌≤◌, ◌⊎◌, Bool, false, true, List, ◌++◌, length, All, Contains, ⊤}
+use Rattle.pc_desk.specs.OwnLog.{verdict_of}
 use Rattle.pc_base.specs.declared.actor.ActorId.TheVariants as actors
 use Rattle.pc_desk.specs.Desk.{GivesByVerdicts}
 use Rattle.pc_desk.specs.Ending.{EndsEarly}
@@ -52,7 +53,7 @@ pub record GoesInRounds {C : Type 0} (r : CountedMeaning C) : Type 0 where
   pub whose : All (λ p. p.entry.actor ≡ actors.Recoverer r.recoverer.number) (entries_made r)
   pub asks : All (λ p. AsksOnlyRounds p.entry.event) (entries_made r)
   pub within : length (entries_made r) ≤ r.recoverer.desk.log.limit
-  pub given : GivesByVerdicts r.recoverer.desk.log.verdict r.recoverer.desk.log.part
+  pub given : GivesByVerdicts (verdict_of r.recoverer.desk.log) r.recoverer.desk.log.part
   pub few : r.made ≤ r.rounds
   pub goes : r.recoverer.desk.log.stopped ≡ false → GoesOnInRounds r
   pub ends : r.recoverer.desk.log.stopped ≡ true → HasEndedInRounds r
@@ -65,7 +66,7 @@ pub record IsSameCounted {C : Type 0} (old new : CountedMeaning C) : Type 0 wher
   pub head : new.recoverer.desk.log.head ≡ old.recoverer.desk.log.head
   pub limit : new.recoverer.desk.log.limit ≡ old.recoverer.desk.log.limit
   pub stop : new.recoverer.desk.log.stop ≡ old.recoverer.desk.log.stop
-  pub verdict : new.recoverer.desk.log.verdict ≡ old.recoverer.desk.log.verdict
+  pub verdict : new.recoverer.desk.log.wire ≡ old.recoverer.desk.log.wire
   pub tries : new.recoverer.desk.log.tries ≡ old.recoverer.desk.log.tries
   pub range_limit : new.recoverer.desk.range_limit ≡ old.recoverer.desk.range_limit
 

@@ -1,5 +1,6 @@
 -- The recoverers of a workload, each with its rounds: how they go on, and what they leave.
 use Rattle.std.specs.Prelude.{◌≡◌, ℕ, ◌+◌, ◌≤◌, Bool, false, IfSome, Some, List, length, slice_get}
+use Rattle.pc_desk.specs.OwnLog.{verdict_of}
 use Rattle.pc_base.specs.declared.actor.ActorId.{ActorId}
 use Rattle.pc_base.specs.declared.actor.ActorId.TheVariants as actors
 use Rattle.pc_closing.specs.Leaving.{Leaver}
@@ -24,7 +25,7 @@ pub record IsRecovererIn {C : Type 0} (work : Workload) (index : ℕ) (r : Count
   pub head : r.recoverer.desk.log.head ≡ head_in_work work
   pub limit : r.recoverer.desk.log.limit ≡ work.limit
   pub stop : r.recoverer.desk.log.stop ≡ recoverer.stop
-  pub wire : (number : ℕ) → r.recoverer.desk.log.verdict number ≡ wire_rule recoverer.wire number
+  pub wire : (number : ℕ) → (verdict_of r.recoverer.desk.log) number ≡ wire_rule recoverer.wire number
   pub tries : r.recoverer.desk.log.tries ≡ work.tries
   pub range_limit : r.recoverer.desk.range_limit ≡ work.limit
 

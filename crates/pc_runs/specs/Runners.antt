@@ -4,7 +4,7 @@ use Rattle.pc_base.specs.declared.actor.ActorId.{ActorId}
 use Rattle.pc_base.specs.declared.actor.ActorId.TheVariants as actors
 use Rattle.pc_closing.specs.Leaving.{Leaver}
 use Rattle.pc_desk.specs.Keeping.{EachAfter, KeepsEach}
-use Rattle.pc_desk.specs.OwnLog.{terms_of}
+use Rattle.pc_desk.specs.OwnLog.{terms_of, verdict_of}
 use Rattle.pc_desk.specs.Waves.{KeepsWavesEach}
 use Rattle.pc_script.specs.Clocks.{clock_rule}
 use Rattle.pc_script.specs.Steps.{KeepsWork}
@@ -35,7 +35,7 @@ pub record IsRunnerIn {C : Type 0} (work : Workload) (index : ℕ) (s : Scripted
   pub beside : s.session.desk.log.beside ≡ is_none work.turns
   pub limit : s.session.desk.log.limit ≡ work.limit
   pub stop : s.session.desk.log.stop ≡ session.stop
-  pub wire : (number : ℕ) → s.session.desk.log.verdict number ≡ wire_rule session.wire number
+  pub wire : (number : ℕ) → (verdict_of s.session.desk.log) number ≡ wire_rule session.wire number
   pub tries : s.session.desk.log.tries ≡ work.tries
   pub range_limit : s.session.desk.range_limit ≡ work.limit
 

@@ -1,5 +1,6 @@
 -- A session with its script: its own list says where the script stands.
 use Rattle.std.specs.Prelude.{◌≡◌, ℕ, ◌≤◌, false, true, Option, List, [], length, All}
+use Rattle.pc_desk.specs.OwnLog.{verdict_of}
 use Rattle.pc_base.specs.declared.actor.ActorId.{ActorId}
 use Rattle.pc_base.specs.declared.actor.ActorId.TheVariants as actors
 use Rattle.pc_desk.specs.Desk.{GivesByVerdicts}
@@ -51,7 +52,7 @@ pub record IsScripted {C : Type 0} (s : ScriptedMeaning C) : Type 0 where
   pub id : s.session.desk.log.part.id ≡ actors.Session (own_number s)
   pub whose : All (λ p. p.entry.actor ≡ actors.Session (own_number s)) (own_list s)
   pub within : length (own_list s) ≤ s.session.desk.log.limit
-  pub given : GivesByVerdicts s.session.desk.log.verdict s.session.desk.log.part
+  pub given : GivesByVerdicts (verdict_of s.session.desk.log) s.session.desk.log.part
   pub asks : AskInOrder s.at.reruns s.script (own_list s)
   pub goes : s.session.desk.log.stopped ≡ false → GoesOnInScript s
   pub ends : s.session.desk.log.stopped ≡ true → EndsEarly s.session.desk

@@ -1,5 +1,6 @@
 -- A session in one of its calls, and what it does there.
 use Rattle.std.specs.Prelude.{◌≡◌, ℕ, ◌⊎◌, ◌&&◌, ◌||◌, not, Bool, true, false, Option, None, Some, List, [], ◌∷◌, ◌++◌, All, IsTrue, ⊤}
+use Rattle.pc_desk.specs.OwnLog.{verdict_of}
 use Rattle.pc_call.specs.Outbox.{has_waited}
 use Rattle.pc_coord.specs.Coordination.{SendsNoMore, awaits_number, Coordination}
 use Rattle.pc_coord.specs.declared.due.Due.{Due}
@@ -81,7 +82,7 @@ LeavesStrays call due = ⊥
 -- that it is written.
 abbrev pub IsHeardOrAway : {C : Type 0} → SessionMeaning C → Sent → Type 0
 IsHeardOrAway s m =
-    IsTrue (is_heard (session_knows s).heard_now m) ⊎ (is_on_way m.number s.desk ≡ true) ⊎ (is_losing (s.desk.log.verdict m.number) ≡ true)
+    IsTrue (is_heard (session_knows s).heard_now m) ⊎ (is_on_way m.number s.desk ≡ true) ⊎ (is_losing (verdict_of s.desk.log m.number) ≡ true)
     ⊎ ((waits_aside m.number s.desk ≡ true) × (s.coordinator.due ≡ dues.Tell answers.Written) × MayStayUnheard s.coordinator.pipelining (session_knows s) m)
 
 -- What was set aside in the open call, which are puts of the open epoch: each put that the coordinator has wait in the outbox, unless the call rolls its

@@ -1,5 +1,6 @@
 -- A session between its calls.
 use Rattle.std.specs.Prelude.{◌≡◌, ℕ, ◌≤◌, ◌==◌, Bool, false, is_some, None, List, [], map, All, true, ◌⊎◌}
+use Rattle.pc_desk.specs.OwnLog.{verdict_of}
 use Rattle.std.specs.List.{list_any}
 use Rattle.pc_base.specs.declared.actor.ActorId.TheVariants as actors
 use Rattle.pc_call.specs.Outbox.{has_waited}
@@ -54,7 +55,7 @@ pub record IsAtRest {C : Type 0} (s : SessionMeaning C) : Type 0 where
   pub posted : s.desk.posted ≡ []
   pub replies : s.desk.replies ≡ []
   pub lost : s.desk.lost ≡ []
-  pub heard : All (λ m. IsHeardOrPut (session_knows s).heard m ⊎ (is_losing (s.desk.log.verdict m.number) ≡ true)) (session_knows s).sent
+  pub heard : All (λ m. IsHeardOrPut (session_knows s).heard m ⊎ (is_losing (verdict_of s.desk.log m.number) ≡ true)) (session_knows s).sent
   pub aside : (number : ℕ) → waits_aside number s.desk ≡ has_waited number s.coordinator.later
   pub closed : (session_knows s).statement ≡ None
   pub handed : s.coordinator.job ≡ None

@@ -18,6 +18,13 @@ pub record IsFirstWaiting {M : Type 0} (verdict : Verdict) (message : M) (waitin
   pub whole : waiting ≡ (number, record { verdict = verdict; message = message }) ∷ rest
   pub rises : All (λ e. number < e.0) rest
 
+-- The first stray is this message; these are the others, of greater numbers.
+pub record IsFirstStray {M : Type 0} (message : M) (bag rest : List (ℕ × Stray M)) : Type 0 where
+  pub number : ℕ
+  pub due : ℕ
+  pub whole : bag ≡ (number, record { due = due; message = message }) ∷ rest
+  pub rises : All (λ e. number < e.0) rest
+
 -- The stray is due once so many messages were sent.
 abbrev pub is_due_by : {M : Type 0} → ℕ → ℕ × Stray M → Bool
 is_due_by sent e = nat_le e.1.due sent

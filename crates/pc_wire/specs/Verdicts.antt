@@ -23,6 +23,20 @@ is_late verdicts.LoseReply = false
 abbrev pub faults_after : Verdict → ℕ → ℕ
 faults_after verdict faults = cond (is_losing verdict) (min (faults + 1) (2 ^ 64 - 1)) faults
 
+-- By what a wire gives its verdicts: a list, or one for each so many sends; else it delivers each message.
+pub record WireRule : Type 0 where
+  pub listed : Option (List Verdict)
+  pub periodic : Option (ℕ × Verdict)
+
+abbrev pub quiet_rule : WireRule
+quiet_rule = record { listed = None; periodic = None }
+
+abbrev pub listed_rule : List Verdict → WireRule
+listed_rule list = record { listed = Some list; periodic = None }
+
+abbrev pub periodic_rule : ℕ → Verdict → WireRule
+periodic_rule period verdict = record { listed = None; periodic = Some (period, verdict) }
+
 -- What contracts see of a wire with a list of verdicts.
 pub record ListedWire : Type 0 where
   pub list : List Verdict
@@ -46,3 +60,12 @@ listed_verdict list number = cond (number == 0) verdicts.Deliver (or_deliver (sl
 -- The verdict for each message whose number is a multiple of the period; the others are delivered.
 abbrev pub periodic_verdict : ℕ → Verdict → ℕ → Verdict
 periodic_verdict period verdict number = cond (number % period == 0) verdict verdicts.Deliver
+
+abbrev pub verdict_if : Option (List Verdict) → Option (ℕ × Verdict) → ℕ → Verdict
+verdict_if (Some list) periodic number = listed_verdict list number
+verdict_if None (Some (period, verdict)) number = periodic_verdict period verdict number
+verdict_if None None number = verdicts.Deliver
+
+-- The verdict that the rule gives on the send of each number.
+abbrev pub verdict_by : WireRule → ℕ → Verdict
+verdict_by rule number = verdict_if rule.listed rule.periodic number

@@ -29,7 +29,9 @@ impl Listed {
 }
 
 impl Wire for Listed {
-    ghost rule = { λ wire. listed_verdict wire.list };
+    ghost use Rattle.pc_wire.specs.Verdicts.{listed_rule};
+
+    ghost rule = { λ wire. listed_rule wire.list };
 
     ghost faults = { λ wire. wire.faults };
 

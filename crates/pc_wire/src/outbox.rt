@@ -4,7 +4,7 @@ ghost use Rattle.std.specs.List.Sorted.{IsStrictlySortedBy};
 ghost use Rattle.std.specs.Map.{keys_of, lookup, remove_entry};
 ghost use Rattle.std.specs.Option.{option_map};
 ghost use Rattle.std.specs.Ordering.{nat_cmp};
-ghost use Rattle.pc_wire.specs.Outbox.{IsFirstWaiting, after_due, first_from, is_due_by};
+ghost use Rattle.pc_wire.specs.Outbox.{IsFirstStray, IsFirstWaiting, after_due, first_from, is_due_by};
 
 use crate::verdict::Verdict;
 use pc_base::NoMemory;
@@ -119,6 +119,16 @@ impl<M: Drop> Outbox<M> {
     {
         let (number, _) = self.bag.first_key_value()?;
         Some(*number)
+    }
+
+    /// Takes the stray of the least number.
+    pub fn take_stray(&mut self) -> Option<M>
+        ensures taken { IfSome result (λ message. IsFirstStray message self.old.bag self.new.bag) }
+        ensures waiting { self.new.waiting ≡ self.old.waiting }
+        ensures none { IfNone result (self.old.bag ≡ []) }
+    {
+        let (_, stray) = self.bag.pop_first()?;
+        Some(stray.message)
     }
 
     /// Takes the stray of the least number among those that are due once so many messages were sent.

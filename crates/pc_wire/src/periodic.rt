@@ -1,5 +1,4 @@
 ghost use Rattle.std.specs.Prelude.{◌≡◌, ◌≤◌};
-ghost use Rattle.pc_wire.specs.Verdicts.{periodic_verdict};
 
 use crate::verdict::Verdict;
 use crate::wire::{Wire, count_after};
@@ -38,7 +37,9 @@ impl Periodic {
 }
 
 impl Wire for Periodic {
-    ghost rule = { λ wire. periodic_verdict wire.period wire.verdict };
+    ghost use Rattle.pc_wire.specs.Verdicts.{periodic_rule};
+
+    ghost rule = { λ wire. periodic_rule wire.period wire.verdict };
 
     ghost faults = { λ wire. wire.faults };
 

@@ -12,9 +12,9 @@ impl Quiet {
 }
 
 impl Wire for Quiet {
-    ghost use Rattle.pc_wire.specs.declared.verdict.Verdict.TheVariants.{Deliver};
+    ghost use Rattle.pc_wire.specs.Verdicts.{quiet_rule};
 
-    ghost rule = { λ wire number. Deliver };
+    ghost rule = { λ wire. quiet_rule };
 
     ghost faults = { λ wire. 0 };
 
