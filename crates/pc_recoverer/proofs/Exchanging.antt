@@ -17,7 +17,7 @@ use Rattle.pc_desk.specs.OwnLog.{LogMeaning, terms_of, verdict_of}
 use Rattle.pc_exchange.proofs.Called.{next_unsent}
 use Rattle.pc_exchange.proofs.Growing.{grows_both, grows_else, grows_entered, grows_none}
 use Rattle.pc_exchange.proofs.HeardKinds.{heard_kind, heard_possible}
-use Rattle.pc_exchange.proofs.Knowing.{heard_then}
+use Rattle.pc_exchange.proofs.Learned.{heard_then}
 use Rattle.pc_exchange.specs.Exchange.{HasOneOut, WasHeardLast, WasLostLast, heard_pair, sent_pair}
 use Rattle.pc_exchange.specs.Growing.{HasAllBack, HasGoneBeside, HasGrownBy}
 use Rattle.pc_follows.specs.WaveOrder.{IsHearing}

@@ -5,7 +5,8 @@ use Rattle.std.proofs.lemmas.List.{append_assoc, append-nil, map-append}
 use Rattle.pc_desk.specs.declared.halt.Halt.{Halt}
 use Rattle.pc_desk.specs.Desk.{DeskMeaning}
 use Rattle.pc_desk.specs.OwnLog.{LogMeaning, verdict_of}
-use Rattle.pc_exchange.proofs.Going.{answered_by, goes_both, goes_none}
+use Rattle.pc_exchange.proofs.Going.{answered_by}
+use Rattle.pc_exchange.proofs.Growing.{goes_both, goes_none}
 use Rattle.pc_exchange.specs.Exchange.{HasLostAll, WasExchanged, heard_pair, sent_pair}
 use Rattle.pc_exchange.specs.Growing.{HasAllBack, HasGoneBeside, HasGrownBy}
 use Rattle.pc_history.specs.declared.pair.Pair.{Pair}

@@ -7,7 +7,7 @@ use Rattle.pc_desk.specs.Desk.{DeskMeaning, MaySendNow, MaySendTo}
 use Rattle.pc_desk.specs.Ending.{EndsOnly}
 use Rattle.pc_desk.specs.Keeping.{KeepsAs}
 use Rattle.pc_desk.specs.OwnLog.{LogMeaning, terms_of, verdict_of}
-use Rattle.pc_exchange.proofs.Going.{goes_both, goes_none}
+use Rattle.pc_exchange.proofs.Growing.{goes_both, goes_none}
 use Rattle.pc_exchange.specs.Exchange.{HasLostSome, WasExchanged, sent_pair}
 use Rattle.pc_exchange.specs.Growing.{HasAllBack}
 use Rattle.pc_history.specs.declared.pair.Pair.{Pair}
@@ -48,16 +48,16 @@ module _ {C : Type 0} (old mid : DeskMeaning C) (request : Request) (l : HasLost
       subst (λ own. HasOnlySent count (known_of old.log.part.own) (known_of own)) (sym l.goes.grown.own)
       (lost_behind old.log.part.id (verdict_of old.log) request (next_number (known_of old.log.part.own)) l.lost old.log.part.own l.unheard)
 
-  next-is : next_number (known_of mid.log.part.own) ≡ next_number (known_of old.log.part.own) + count
+  pub next-is : next_number (known_of mid.log.part.own) ≡ next_number (known_of old.log.part.own) + count
   next-is = omega (arith, only-sent.sent)
 
-  id-is : mid.log.part.id ≡ old.log.part.id
+  pub id-is : mid.log.part.id ≡ old.log.part.id
   id-is = ap (λ (l : LogMeaning C). l.part.id) l.goes.grown.rest
 
   head-is : mid.log.head ≡ old.log.head
   head-is = ap (λ (l : LogMeaning C). l.head) l.goes.grown.rest
 
-  verdict-is : verdict_of mid.log ≡ verdict_of old.log
+  pub verdict-is : verdict_of mid.log ≡ verdict_of old.log
   verdict-is = ap (λ (l : LogMeaning C). verdict_of l) l.goes.grown.rest
 
   -- it is in its round still
