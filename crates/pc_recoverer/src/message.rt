@@ -37,15 +37,14 @@ pub(crate) fn exchange<N: Named<CommitWorld>, C: Clock, V: Wire, G: Gate, R: Wai
     ensures err { IfErr result (HasHalted desk.old desk.new) }
     ensures ended { IfErr result (BreaksOffIn (AreFrontOfOne (sending_of desk.old.log) request) desk.old desk.new) }
 {
-    for _ in 0..desk.tries() {
+    for _sending in 0..desk.tries() {
         let copy = match request.copy() {
             Ok(copy) => copy,
             Err(NoMemory) => return Err(desk.want_memory()),
         };
         desk.send(copy)?;
-        let reply = hear_reply(desk, rt)?;
-        if reply.is_some() {
-            return Ok(reply);
+        if let Some(reply) = hear_reply(desk, rt)? {
+            return Ok(Some(reply));
         }
     }
     Ok(None)
@@ -66,7 +65,7 @@ pub(crate) fn list_records<N: Named<CommitWorld>, C: Clock, V: Wire, G: Gate, R:
     ensures err { IfErr result (HasHalted desk.old desk.new) }
     ensures ended { (metas : List TxnMeta) → IfErr result (BreaksOffIn (AreFrontOf (sending_of desk.old.log) (IsOneMessageTo range requests.Records (replies.Listed metas))) desk.old desk.new) }
 {
-    for _ in 0..desk.tries() {
+    for _sending in 0..desk.tries() {
         desk.send_to(range, Request::Records)?;
         match hear_reply(desk, rt)? {
             Some(Reply::Listed(metas)) => return Ok(Some(metas)),

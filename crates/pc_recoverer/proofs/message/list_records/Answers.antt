@@ -5,15 +5,15 @@ use Rattle.pc_proto.specs.declared.request.Request.TheVariants as requests
 use Rattle.pc_recoverer.proofs.Trying.{in_round_still, lost_nothing_to, may_list_again}
 use Rattle.pc_recoverer.proofs.message.list_records.Goals as goal
 
-pub loop-init : goal.loop-init
-loop-init g c = ((lost_nothing_to c.args.range c.args.desk.now requests.Records c.requires.back, refl), refl)
+pub loop-sending-init : goal.loop-sending-init
+loop-sending-init g c = ((lost_nothing_to c.args.range c.args.desk.now requests.Records c.requires.back, refl), refl)
 
 pub send_to-requires-clause-track : goal.send_to-requires-clause-track
-send_to-requires-clause-track g c = c.loop.invariant.0.0.some.goes.back.track
+send_to-requires-clause-track g c = c.loop-sending.invariant.0.0.some.goes.back.track
 
 pub send_to-requires-clause-may : goal.send_to-requires-clause-may
 send_to-requires-clause-may g c =
-    may_list_again c.args.desk.now c.loop.desk requests.Records c.loop.invariant.0.0.some refl c.args.range c.requires.client c.requires.may
+    may_list_again c.args.desk.now c.loop-sending.desk requests.Records c.loop-sending.invariant.0.0.some refl c.args.range c.requires.client c.requires.may
 
 pub send_to-requires-clause-none_waits : goal.send_to-requires-clause-none_waits
-send_to-requires-clause-none_waits g c = c.loop.invariant.0.0.some.goes.back.replies
+send_to-requires-clause-none_waits g c = c.loop-sending.invariant.0.0.some.goes.back.replies

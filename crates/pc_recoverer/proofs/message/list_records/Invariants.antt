@@ -3,5 +3,5 @@ use Rattle.pc_proto.specs.declared.request.Request.TheVariants as requests
 use Rattle.pc_recoverer.specs.InRound.{HasLostSomeTo}
 use Rattle.pc_recoverer.proofs.message.list_records.Given as goal
 
-abbrev pub invariant-loop : goal.invariant-loop
-invariant-loop g l = ((far : HasLostSomeTo l.range l.fn.desk l.desk requests.Records) × (length far.some.lost ≡ l.counter)) × (l.desk.log.clock ≡ l.fn.desk.log.clock)
+abbrev pub invariant-loop-sending : goal.invariant-loop-sending
+invariant-loop-sending g l = ((far : HasLostSomeTo l.range l.fn.desk l.desk requests.Records) × (length far.some.lost ≡ l._sending)) × (l.desk.log.clock ≡ l.fn.desk.log.clock)
