@@ -1,5 +1,5 @@
 -- One message of a recoverer that is sent once, evaluated, and heard or lost: what each step asks for, and what they come to.
-use Rattle.std.proofs.Common.{◌≡◌, ℕ, ◌+◌, ◌<◌, ◌==◌, Bool, true, false, ◌||◌, inl, inr, All, Contains, List, [], ◌∷◌, length, None, Some, refl, sym, ap, subst, ◌∙◌, arith}
+use Rattle.std.proofs.Common.{◌≡◌, ℕ, ◌+◌, ◌<◌, ◌==◌, Bool, true, false, ◌||◌, inl, inr, All, Contains, IfNone, IfSome, List, [], ◌∷◌, length, Option, None, Some, refl, sym, ap, subst, ◌∙◌, arith}
 use Rattle.std.proofs.lemmas.Bool.{eq-eqb, eqb-true}
 use Rattle.std.proofs.lemmas.Cmp.{ranked}
 use Rattle.std.proofs.lemmas.List.Elements.{All-cons, All-contains, All-head, All-nil}
@@ -284,6 +284,20 @@ module _ {C : Type 0} (old mid late : DeskMeaning C) (request : Request) (number
           loses = sym (ap (λ v. is_losing (v next)) verdict-late) ∙ (sym (ap (λ n. is_losing (verdict_of late.log n)) (lost-is was.number lost-there ∙ next-is)) ∙ loses);
         }
 
+  -- by what hearing gave
+  pub heard_if : (done new : DeskMeaning C) (reply : Option Reply) → IfSome reply (WasHeardLast late done) → HasDeliveredDue done new → IfSome reply (WasHeardOnce sent.range old new request)
+  heard_if done new (Some reply) was due = was_heard_once done new reply was due
+  heard_if done new None was due = tt
+
+  pub lost_if : (done new : DeskMeaning C) (reply : Option Reply) → IfNone reply (WasLostLast late done) → HasDeliveredDue done new → IfNone reply (WasLostOnce sent.range old new request)
+  lost_if done new (Some reply) was due = tt
+  lost_if done new None was due = was_lost_once done new was due
+
+-- whichever it was, no message is on its way then
+pub all_back : {C : Type 0} (late done : DeskMeaning C) (reply : Option Reply) → IfSome reply (WasHeardLast late done) → IfNone reply (WasLostLast late done) → HasAllBack done
+all_back late done (Some reply) heard lost = heard.back
+all_back late done None heard lost = lost.back
+
 -- ---- where its list ends once the message was sent
 
 module _ {C : Type 0} (old mid new : DeskMeaning C) (request : Request) (number : ℕ) (halt : Halt) (sent : HasSentNext old mid number request) where
@@ -330,3 +344,7 @@ module _ {C : Type 0} (old mid new : DeskMeaning C) (request : Request) (number 
         let same : done.log ≡ late.log = ap (λ (d : DeskMeaning C). d.log) was.taken.rest in
         breaks_here old done new (sending ∷ []) (subst (λ l. HasGrownBy old.log l (sending ∷ [])) (sym same) grown-delivered) (ap (λ (d : DeskMeaning C). d.range_limit) was.taken.rest ∙ (delivered.limit ∙ sent.limit)) was.back.track (IsOneSend sent.range request) halt (λ made. ⊥)
         one-send (λ stopped q its. absurd its.is) ends
+
+    pub ends_due : (done : DeskMeaning C) (reply : Option Reply) → IfSome reply (WasHeardLast late done) → IfNone reply (WasLostLast late done) → EndsOnly (λ made. ⊥) done new halt → BreaksOffIn (IsOneSend sent.range request) old new halt
+    ends_due done (Some reply) heard lost ends = ends_heard done reply heard ends
+    ends_due done None heard lost ends = ends_lost done lost ends
