@@ -1,4 +1,4 @@
-use Rattle.std.proofs.Common.{is_some, refl, sym, ap, subst, ◌∙◌}
+use Rattle.std.proofs.Common.{is_some, refl, sym, ap, subst, ◌∙◌, arith}
 use Rattle.std.proofs.lemmas.Result.{err_from_is_err_and}
 use Rattle.pc_desk.proofs.InCall.{statement_sent}
 use Rattle.pc_proto.specs.declared.request.Request.TheVariants as requests
@@ -17,3 +17,17 @@ send_to-requires-clause-may g c =
 
 pub send_to-requires-clause-none_waits : goal.send_to-requires-clause-none_waits
 send_to-requires-clause-none_waits g c = c.loop-sending.invariant.0.0.some.goes.back.replies
+
+pub hear_reply-requires : goal.hear_reply-requires
+hear_reply-requires g c =
+    let far = c.loop-sending.invariant.0.0.some in
+    let still = in_round_still c.args.desk.now c.loop-sending.desk requests.Records far c.requires.client in
+    record {
+      before = c.loop-sending.desk;
+      back = far.goes.back;
+      client = still.whose;
+      request = requests.Records;
+      number = _;
+      sent = c.in_ok-send_to.ensures.ok.sent;
+      opened = ap is_some (statement_sent c.loop-sending.desk c.send_to.new.self _ requests.Records c.in_ok-send_to.ensures.ok.sent) ∙ still.opened;
+    }
