@@ -1,4 +1,4 @@
-use Rattle.std.proofs.Common.{◌≡◌, sym, subst}
+use Rattle.std.proofs.Common.{◌≡◌, refl, sym, subst}
 use Rattle.std.proofs.lemmas.Result.{err_from_is_err_and}
 use Rattle.pc_base.specs.declared.transaction.Who.TheVariants as whos
 use Rattle.pc_desk.specs.Desk.{MaySendNow}
@@ -25,6 +25,9 @@ pub exchange-requires-clause-may : goal.exchange-requires-clause-may
 exchange-requires-clause-may g c =
     subst (λ h. MaySendNow c.args.desk.now.log (requests.Push h (whos.Recoverer c.args.maker.number) c.args.maker.level c.args.maker.reading goals.Abort)) (sym c.in-Ok.ensures)
     (may_push c.args.maker c.args.desk.now c.args.meta.now c.requires)
+
+pub exchange-requires-clause-kind : goal.exchange-requires-clause-kind
+exchange-requires-clause-kind g c = refl
 
 pub settle-requires : goal.settle-requires
 settle-requires g c =
