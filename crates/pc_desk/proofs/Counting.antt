@@ -170,6 +170,10 @@ all_there (x ∷ xs) m there = elim (contains_cons x xs m there) [
     either true c is = refl
     either false c is = is
 
+-- so many were sent under the number of one that was
+pub sent_some : (xs : List Sent) (m : Sent) → Contains xs m → 1 ≤ count_by (λ (x : Sent). x.number == m.number) xs
+sent_some xs m there = counts_any (λ (x : Sent). x.number == m.number) xs (all_there xs m there)
+
 -- what stands under a number that one message has
 pub said_once : (xs : List Sent) (m : Sent) → Contains xs m → count_by (λ (x : Sent). x.number == m.number) xs ≤ 1 → request_sent m.number xs ≡ Some m.request
 said_once [] m there once = absurd (contains_nil m there)

@@ -1,5 +1,5 @@
 -- What an actor's messages are after each step of its desk, from what the parts of the step say.
-use Rattle.std.proofs.Common.{◌≡◌, ℕ, ◌+◌, ◌-◌, ◌<◌, ◌≤◌, ◌^◌, ◌==◌, Bool, false, cond, inl, inr, All, Contains, List, [], ◌∷◌, ◌++◌, length, map, fold, count_by, slice_get, Option, None, Some, IfOk, OnOk, OnErr, Ok, Err, Result, refl, sym, ap, subst, ◌∙◌, arith, length-append}
+use Rattle.std.proofs.Common.{◌≡◌, ℕ, ◌+◌, ◌-◌, ◌<◌, ◌≤◌, ◌^◌, ◌==◌, Bool, false, cond, ◌⊎◌, inl, inr, All, Contains, List, [], ◌∷◌, ◌++◌, length, map, fold, count_by, slice_get, Option, None, Some, IfOk, OnOk, OnErr, Ok, Err, Result, refl, sym, ap, subst, ◌∙◌, arith, length-append}
 use Rattle.std.proofs.lemmas.List.{append-nil}
 use Rattle.std.proofs.lemmas.List.Elements.{All-contains, All-head, All-nil, All-tail, All-weaker, Contains-append_left, Contains-push, recursion_from_All}
 use Rattle.std.specs.BTreeMap.{insert_entry, is_at}
@@ -10,14 +10,14 @@ use Rattle.std.specs.Ordering.{nat_cmp}
 use Rattle.pc_base.specs.declared.actor.ActorId.{ActorId}
 use Rattle.pc_base.specs.declared.entry.Entry.{Entry}
 use Rattle.pc_desk.proofs.Counting.{insert_all, insert_contains, insert_count, lookup_none, none_beyond}
-use Rattle.pc_desk.proofs.Entering.{log_kept}
+use Rattle.pc_desk.proofs.Entering.{log_gave}
 use Rattle.pc_desk.proofs.Going.{kept_below}
 use Rattle.pc_desk.proofs.Making.{added, hear_brings, hear_names_it, known_after_it, may_hear, own_after}
-use Rattle.pc_desk.proofs.Tracking.{answered_on, gives_same, stray_on, track_delivered, track_done, track_heard, track_sent, unheard_yet, way_delivered, way_heard, way_sent}
-use Rattle.pc_desk.proofs.Waves.{newest_evaluated, note_behind}
+use Rattle.pc_desk.proofs.Tracking.{track_done, track_heard, track_sent, unheard_yet, way_heard, way_sent}
+use Rattle.pc_desk.proofs.Waves.{note_behind}
 use Rattle.pc_desk.specs.declared.answered.Answered.{Answered}
-use Rattle.pc_desk.specs.Desk.{DeskMeaning, EndsWithSend, HasDelivered, HasDone, HasHeardFirst, HasKept, HasPosted, HasSentTo, IsAnsweredBy, WasSetAside, IsDesk, IsOneSent, IsReadyToGo, IsStray, KeepsTrack, MayHearNow, Posted, WaitingMessage, answered_as, as_sent, heard_as_number, posted_as, posting, times_sent, uses_by}
-use Rattle.pc_desk.specs.OwnLog.{HasEntered, IsOwnLog, LogMeaning, MayEnter, Took}
+use Rattle.pc_desk.specs.Desk.{DeskMeaning, EndsWithSend, HasDelivered, HasDone, HasHeardFirst, HasPosted, HasSentTo, IsAnsweredBy, IsBag, IsDesk, IsOfBag, IsOneSent, IsReadyToGo, KeepsTrack, LateMessage, MayHearNow, Posted, WaitingMessage, WasSetAside, as_sent, posted_as, posting, times_sent, uses_by}
+use Rattle.pc_desk.specs.OwnLog.{HasEntered, IsOwnLog, LogMeaning, MayEnter, verdict_of}
 use Rattle.pc_desk.specs.Waiting.{IsBehindAll, IsNewest, WaitInWave}
 use Rattle.pc_desk.specs.Waves.{KeepsWaves, KeepsWavesNext}
 use Rattle.pc_follows.specs.WaveEvaluation.{IsInWave, IsSending}
@@ -25,7 +25,7 @@ use Rattle.pc_follows.specs.WaveOrder.{IsHearing}
 use Rattle.pc_history.proofs.Callers.{knows-own, noted-at}
 use Rattle.pc_history.specs.declared.pair.Pair.{Pair}
 use Rattle.pc_history.specs.declared.view.Known.{Known as KnownEntry}
-use Rattle.pc_history.specs.Parts.{entry_of, gave, knowledge, named_by, noted, spend, uses_left, with_uses, without_uses}
+use Rattle.pc_history.specs.Parts.{entry_of, gave, knowledge, named_by, noted, spend, uses_left}
 use Rattle.pc_lists.proofs.Counts.{count-cons, one_if}
 use Rattle.pc_lists.proofs.Lists.{contains_map, contains_nil, get_push}
 use Rattle.pc_proto.specs.declared.event.Event.{Event}
@@ -33,9 +33,8 @@ use Rattle.pc_proto.specs.declared.event.Event.TheVariants as events
 use Rattle.pc_proto.specs.declared.request.Request.{Request}
 use Rattle.pc_proto.specs.Stamps.{request_stamps}
 use Rattle.pc_range.proofs.Evaluating.{gave-nothing}
-use Rattle.pc_range.specs.Message.{ComesAfter, IsEvalNote, evaluation}
-use Rattle.pc_wire.specs.declared.verdict.Verdict.{Verdict}
-use Rattle.pc_wire.specs.declared.verdict.Verdict.TheVariants as verdicts
+use Rattle.pc_wire.specs.declared.outbox.Stray.{Stray}
+use Rattle.pc_wire.specs.Verdicts.{WireRule, verdict_by}
 use Rattle.pc_world.specs.Known.{Known, known_of, learn, nothing_known}
 use Rattle.pc_world.specs.Known.Traffic.{Heard, Sent, heard_by, request_sent, sent_by}
 use Rattle.pc_world.specs.RangeOf.{GoesTo}
@@ -89,9 +88,11 @@ heard-at old after a rest track none first entered =
       posted = refl;
       entered = entered;
       named = hear_names_it old.log a track.log by;
-      track = track_heard old new a track first refl by entered refl refl none;
-      way = way_heard old new a track first refl by entered refl;
+      track = track_heard old new a track first by entered refl none;
+      way = way_heard old new a track first by entered refl;
       later = refl;
+      bag = refl;
+      lost = refl;
       limit = refl;
     }
 
@@ -102,69 +103,22 @@ has_heard v old after a rest same track none first entered =
 
 -- ---- a message is evaluated
 
-pub desk_first : {C Y : Type 0} (splits : List (List ℕ)) (log : LogMeaning C) (g : Y → WaitingMessage) (ws rest : List Y) (y : Y) → ws ≡ y ∷ rest → IsDesk splits log (map g ws) → IsReadyToGo log.part.id splits (g y)
+pub desk_first : {C Y : Type 0} (splits : List (List ℕ)) (log : LogMeaning C) (g : Y → WaitingMessage) (ws rest : List Y) (y : Y) → ws ≡ y ∷ rest → IsDesk splits log (map g ws) → IsReadyToGo log.part.id splits (verdict_of log) (g y)
 desk_first splits log g ws rest y whole desk =
-    subst (λ s. IsReadyToGo log.part.id s (g y)) (sym desk.same)
-    (All-head (IsReadyToGo log.part.id log.head.splits) (g y) (map g rest) (subst (λ l. All (IsReadyToGo log.part.id log.head.splits) (map g l)) whole desk.ready))
+    subst (λ s. IsReadyToGo log.part.id s (verdict_of log) (g y)) (sym desk.same)
+    (All-head (IsReadyToGo log.part.id log.head.splits (verdict_of log)) (g y) (map g rest) (subst (λ l. All (IsReadyToGo log.part.id log.head.splits (verdict_of log)) (map g l)) whole desk.ready))
 
 pub desk_rest : {C Y : Type 0} (splits : List (List ℕ)) (log : LogMeaning C) (g : Y → WaitingMessage) (ws rest : List Y) (y : Y) → ws ≡ y ∷ rest → IsDesk splits log (map g ws) → IsDesk splits log (map g rest)
 desk_rest splits log g ws rest y whole desk = record {
   same = desk.same;
   rising = desk.rising;
   few = desk.few;
-  ready = All-tail (IsReadyToGo log.part.id log.head.splits) (g y) (map g rest) (subst (λ l. All (IsReadyToGo log.part.id log.head.splits) (map g l)) whole desk.ready);
+  ready = All-tail (IsReadyToGo log.part.id log.head.splits (verdict_of log)) (g y) (map g rest) (subst (λ l. All (IsReadyToGo log.part.id log.head.splits (verdict_of log)) (map g l)) whole desk.ready);
 }
-
-module _ {C : Type 0} (old new : DeskMeaning C) (rest : List Posted) (m : Posted) (a : Answered) (note : List (KnownEntry Event)) (range : ℕ) (track : KeepsTrack old) (first : old.posted ≡ m ∷ rest) (later : All (λ (p : Posted). m.number < p.number) rest) (to : a.number ≡ m.number)
-    (tells : IsEvalNote old.log.part.id m.number range a.step a.reply note) (kept : HasKept (record old { posted = rest }) new a note) (behind : All (λ (p : Pair Event). p.entry.step < a.step) old.log.part.own)
-    (after : old.log.beside ≡ false → All (λ (b : Answered). b.step < a.step) old.replies) where
-  -- What the note tells.
-  abbrev told_of : KnownEntry Event
-  told_of = record { entry = evaluation a.step range old.log.part.id a.number a.reply; place = tells.place; uses = 0 }
-
-  note-is : note ≡ told_of ∷ []
-  note-is = subst (λ n. note ≡ record { entry = evaluation a.step range old.log.part.id n a.reply; place = tells.place; uses = 0 } ∷ []) (sym to) tells.tells
-
-  knows-more : new.log.part.known ≡ old.log.part.known ++ told_of ∷ []
-  knows-more = ap (λ (d : DeskMeaning C). d.log.part.known) kept.kept ∙ ap (λ n. old.log.part.known ++ n) note-is
-
-  posted-is : old.posted ≡ m ∷ new.posted
-  posted-is = first ∙ ap (λ l. m ∷ l) (sym (ap (λ (d : DeskMeaning C). d.posted) kept.kept))
-
-  replies-are : new.replies ≡ old.replies ++ a ∷ []
-  replies-are = ap (λ (d : DeskMeaning C). d.replies) kept.kept
-
-  later-are : All (λ (p : Posted). m.number < p.number) new.posted
-  later-are = subst (All (λ (p : Posted). m.number < p.number)) (sym (ap (λ (d : DeskMeaning C). d.posted) kept.kept)) later
-
-  own-is : new.log.part.own ≡ old.log.part.own
-  own-is = ap (λ (d : DeskMeaning C). d.log.part.own) kept.kept
-
-  later-is : new.later ≡ old.later
-  later-is = ap (λ (d : DeskMeaning C). d.later) kept.kept
-
-  delivered-at : HasDelivered old new
-  delivered-at = record {
-    own = ap (λ (d : DeskMeaning C). d.log) kept.kept ∙ ap (λ ks. record old.log { part = record old.log.part { known = ks } }) (sym (ap (λ (d : DeskMeaning C). d.log.part.known) kept.kept));
-    sends = ap (λ (d : DeskMeaning C). d.sends) kept.kept;
-    track = track_delivered old new m a track posted-is replies-are to later-are own-is later-is range tells.place kept.log (ap (λ (d : DeskMeaning C). d.sends) kept.kept) (ap (λ (d : DeskMeaning C). d.log.part.id) kept.kept) knows-more
-        (λ x there. subst (λ l. Contains l x) (sym knows-more) there) (subst (λ l. Contains l told_of) (sym knows-more) (Contains-push old.log.part.known told_of)) (ap (λ (d : DeskMeaning C). d.log.part.given) kept.kept) (ap (λ (d : DeskMeaning C). d.log.beside) kept.kept) behind after;
-    way = way_delivered old new m a track posted-is replies-are to later-are own-is later-is;
-    later = later-is;
-    more = λ x there. subst (λ l. Contains l x) (sym knows-more) (Contains-append_left old.log.part.known (told_of ∷ []) x there);
-    limit = ap (λ (d : DeskMeaning C). d.range_limit) kept.kept;
-  }
-
-pub has_delivered : {C : Type 0} (v old new : DeskMeaning C) (rest : List Posted) (m : Posted) (a : Answered) (note : List (KnownEntry Event)) (sender : ActorId) (range : ℕ) → v ≡ old → KeepsTrack old → v.posted ≡ m ∷ rest → All (λ (p : Posted). m.number < p.number) rest → sender ≡ v.log.part.id → a.number ≡ m.number
-    → IsEvalNote sender m.number range a.step a.reply note → All (λ (p : Pair Event). p.entry.step < a.step) old.log.part.own → (old.log.beside ≡ false → All (λ (b : Answered). b.step < a.step) old.replies)
-    → HasKept (record v { posted = rest }) new a note → HasDelivered old new
-has_delivered v old new rest m a note sender range same track first later whose to tells behind after kept =
-    subst (λ d. d.posted ≡ m ∷ rest → IsEvalNote d.log.part.id m.number range a.step a.reply note → HasKept (record d { posted = rest }) new a note → HasDelivered old new) (sym same)
-    (λ f t k. delivered-at old new rest m a note range track f later to t k behind after) first (subst (λ i. IsEvalNote i m.number range a.step a.reply note) whose tells) kept
 
 -- nothing was delivered yet
 pub delivers_none : {C : Type 0} (d : DeskMeaning C) → KeepsTrack d → HasDelivered d d
-delivers_none d track = record { own = refl; sends = refl; track = track; way = λ n. refl; later = refl; more = λ k there. there; limit = refl }
+delivers_none d track = record { own = refl; sends = refl; track = track; way = λ n. refl; kept = λ n was. was; later = refl; more = λ k there. there; limit = refl }
 
 -- ---- a message is posted
 
@@ -184,8 +138,8 @@ module _ {C Y : Type 0} (splits : List (List ℕ)) (log : LogMeaning C) (g : ℕ
   -- each stands under its number
   pub each_under : Each (λ e. e.0 ≡ n e) es
   each_under =
-      each-weaker (λ e. IsReadyToGo log.part.id log.head.splits (g e)) (λ e. e.0 ≡ n e) (λ e r. sym (keyed e) ∙ (r.numbered ∙ numbered e)) es
-      (each-of g (IsReadyToGo log.part.id log.head.splits) es (recursion_from_All (IsReadyToGo log.part.id log.head.splits) (map g es) desk.ready))
+      each-weaker (λ e. IsReadyToGo log.part.id log.head.splits (verdict_of log) (g e)) (λ e. e.0 ≡ n e) (λ e r. sym (keyed e) ∙ (r.numbered ∙ numbered e)) es
+      (each-of g (IsReadyToGo log.part.id log.head.splits (verdict_of log)) es (recursion_from_All (IsReadyToGo log.part.id log.head.splits (verdict_of log)) (map g es) desk.ready))
 
   -- no message stands under a number that none has
   pub none_under : count_by (λ e. n e == k) es ≡ 0 → lookup (is_at (nat_cmp k)) es ≡ None
@@ -239,30 +193,28 @@ all-after f P number w es after (Ok u) none ok err all one = subst (λ l. All P 
 all-after f P number w es after (Err e) none ok err all one = subst (λ l. All P (map f l)) (sym err) all
 
 pub desk_posted : {C M A E : Type 0} (splits : List (List ℕ)) (log after : LogMeaning C) (given : List ℕ) (g : ℕ × M → WaitingMessage) (number : ℕ) (w : M) (es new : List (ℕ × M)) (r : Result A E) → after ≡ record log { part = record log.part { given = given } }
-    → IsDesk splits log (map g es) → lookup (is_at (nat_cmp number)) es ≡ None → OnOk r (new ≡ insert_entry nat_cmp es number w) → OnErr r (new ≡ es) → IsReadyToGo log.part.id log.head.splits (g (number, w))
+    → IsDesk splits log (map g es) → lookup (is_at (nat_cmp number)) es ≡ None → OnOk r (new ≡ insert_entry nat_cmp es number w) → OnErr r (new ≡ es) → IsReadyToGo log.part.id log.head.splits (verdict_of log) (g (number, w))
     → IsDesk splits after (map g new)
 desk_posted splits log after given g number w es new r same desk none ok err one =
     subst (λ l. IsDesk splits l (map g new)) (sym same) (record {
       same = desk.same;
       rising = desk.rising;
       few = desk.few;
-      ready = all-after g (IsReadyToGo log.part.id log.head.splits) number w es new r none ok err desk.ready one;
+      ready = all-after g (IsReadyToGo log.part.id log.head.splits (verdict_of log)) number w es new r none ok err desk.ready one;
     })
 
 -- what waits may go still once a use of an entry was given
 pub desk_noted : {C : Type 0} (splits : List (List ℕ)) (log after : LogMeaning C) (given : List ℕ) (ws : List WaitingMessage) → after ≡ record log { part = record log.part { given = given } } → IsDesk splits log ws → IsDesk splits after ws
 desk_noted splits log after given ws same desk = subst (λ l. IsDesk splits l ws) (sym same) (record { same = desk.same; rising = desk.rising; few = desk.few; ready = desk.ready })
 
--- the note of the entry that was made last has one use, over a quiet wire
-pub one_use : {C : Type 0} (old l : LogMeaning C) (number range uses : ℕ) (request : Request) (verdict : Verdict) (note : List (KnownEntry Event)) → l ≡ old → EndsWithSend old number range request → uses ≡ uses_by verdict → verdict ≡ verdicts.Deliver
-    → note ≡ noted (length l.part.own - 1) uses l.part → uses_left note ≡ 1
-one_use old l number range uses request verdict note same ends by quiet is =
-    let one : uses ≡ 1 = by ∙ ap uses_by quiet in
+-- the note of the entry that was made last has as many uses as it was given
+pub noted_uses : {C : Type 0} (old l : LogMeaning C) (number range uses : ℕ) (request : Request) (note : List (KnownEntry Event)) → l ≡ old → EndsWithSend old number range request → note ≡ noted (length l.part.own - 1) uses l.part → uses_left note ≡ uses
+noted_uses old l number range uses request note same ends is =
     let there : slice_get l.part.own (length l.part.own - 1) ≡ Some ends.last = subst (λ m. slice_get m.part.own (length m.part.own - 1) ≡ Some ends.last) (sym same) ends.there in
-    ap uses_left is ∙ (ap uses_left (noted-at (protocol l.head) l.part (length l.part.own - 1) uses ends.last there) ∙ one)
+    ap uses_left is ∙ ap uses_left (noted-at (protocol l.head) l.part (length l.part.own - 1) uses ends.last there)
 
 posted-at : {C M : Type 0} (old : DeskMeaning C) (after : LogMeaning C) (f : ℕ × M → Posted) (es new : List (ℕ × M)) (number range : ℕ) (request : Request) (w : M) → old.posted ≡ map f es → lookup (is_at (nat_cmp number)) es ≡ None → new ≡ insert_entry nat_cmp es number w
-    → f (number, w) ≡ posting number range request 1 → after ≡ record old.log { part = gave (length old.log.part.own - 1) 1 old.log.part }
+    → f (number, w) ≡ posting number range request (uses_by (verdict_of old.log number)) → after ≡ record old.log { part = gave (length old.log.part.own - 1) (uses_by (verdict_of old.log number)) old.log.part }
     → HasPosted old (record old { log = after; posted = map f new }) number range request
 posted-at old after f es new number range request w was none put is given = record {
   log = given;
@@ -277,15 +229,23 @@ posted-at old after f es new number range request w was none put is given = reco
 }
 
 pub has_posted : {C M : Type 0} (v old : DeskMeaning C) (after : LogMeaning C) (f : ℕ × M → Posted) (es new : List (ℕ × M)) (number range : ℕ) (request : Request) (w : M) → v ≡ old → v.posted ≡ map f es → lookup (is_at (nat_cmp number)) es ≡ None → new ≡ insert_entry nat_cmp es number w
-    → f (number, w) ≡ posting number range request 1 → after ≡ record v.log { part = gave (length v.log.part.own - 1) 1 v.log.part }
+    → f (number, w) ≡ posting number range request (uses_by (verdict_of v.log number)) → after ≡ record v.log { part = gave (length v.log.part.own - 1) (uses_by (verdict_of v.log number)) v.log.part }
     → HasPosted old (record v { log = after; posted = map f new }) number range request
 has_posted v old after f es new number range request w same was none put is given =
-    subst (λ d. d.posted ≡ map f es → after ≡ record d.log { part = gave (length d.log.part.own - 1) 1 d.log.part } → HasPosted old (record d { log = after; posted = map f new }) number range request) (sym same)
-    (λ p q. posted-at old after f es new number range request w p none put is q) was given
+    subst (λ d. d.posted ≡ map f es → f (number, w) ≡ posting number range request (uses_by (verdict_of d.log number)) → after ≡ record d.log { part = gave (length d.log.part.own - 1) (uses_by (verdict_of d.log number)) d.log.part } → HasPosted old (record d { log = after; posted = map f new }) number range request) (sym same)
+    (λ p u q. posted-at old after f es new number range request w p none put u q) was is given
+
+-- so it is with the bag
+pub bag_noted : {C : Type 0} (log after : LogMeaning C) (given : List ℕ) (late : List LateMessage) → after ≡ record log { part = record log.part { given = given } } → IsBag log late → IsBag after late
+bag_noted log after given late same bag = subst (λ l. IsBag l late) (sym same) bag
+
+-- a note was given of a list that was as this one
+pub noted_after : {C : Type 0} (l v after : LogMeaning C) → v ≡ l → after ≡ record v { part = record v.part { given = after.part.given } } → after ≡ record l { part = record l.part { given = after.part.given } }
+noted_after {C} l v after same is = is ∙ ap (λ (x : LogMeaning C). record x { part = record x.part { given = after.part.given } }) same
 
 -- a note that was given changes the counts of uses alone
-pub gave_so : {C : Type 0} (log after : LogMeaning C) (place uses : ℕ) → after ≡ record log { part = record log.part { given = after.part.given } } → after.part ≡ gave place uses log.part → uses ≡ 1 → after ≡ record log { part = gave place 1 log.part }
-gave_so log after place uses same given one =
+pub gave_so : {C : Type 0} (log after : LogMeaning C) (place uses by : ℕ) → after ≡ record log { part = record log.part { given = after.part.given } } → after.part ≡ gave place uses log.part → uses ≡ by → after ≡ record log { part = gave place by log.part }
+gave_so log after place uses by same given one =
     same ∙ (ap (λ p. record log { part = p }) (sym (ap (λ l. l.part) same)) ∙ ap (λ p. record log { part = p }) (given ∙ ap (λ n. gave place n log.part) one))
 
 -- ---- a message is sent
@@ -314,15 +274,17 @@ sends_few d track =
 pub has_sent : {C : Type 0} (old mid new : DeskMeaning C) (number range : ℕ) (request : Request) → KeepsTrack old → old.replies ≡ [] → GoesTo old.log.head.splits request range → number ≡ old.sends + 1
     → HasEntered old.log mid.log (events.Send number range request) → mid ≡ record old { log = mid.log; sends = number } → HasPosted mid new number range request → HasSentTo old new number range request
 has_sent {C} old mid new number range request track none goes next entered rest posted =
-    let log : IsOwnLog new.log = subst IsOwnLog (sym posted.log)
-    (log_kept mid.log (record mid.log { part = gave (length mid.log.part.own - 1) 1 mid.log.part }) refl refl refl refl refl refl refl refl (λ going. going) entered.log) in
-    let id = ap (λ l. l.part.id) posted.log in
-    let own = ap (λ l. l.part.own) posted.log in
-    let known = ap (λ l. l.part.known) posted.log in
-    let were : mid.posted ≡ old.posted = ap (λ d. d.posted) rest in
+    let wire : mid.log.wire ≡ old.log.wire = ap (λ (l : LogMeaning C). l.wire) entered.stored in
+    let noted : new.log ≡ record mid.log { part = gave (length mid.log.part.own - 1) (uses_by (verdict_of old.log number)) mid.log.part } = subst (λ (w : WireRule). new.log ≡ record mid.log { part = gave (length mid.log.part.own - 1) (uses_by (verdict_by w number)) mid.log.part }) wire posted.log in
+    let log : IsOwnLog new.log = subst IsOwnLog (sym noted) (log_gave mid.log (length mid.log.part.own - 1) (uses_by (verdict_of old.log number)) entered.log) in
+    let were : mid.posted ≡ old.posted = ap (λ (d : DeskMeaning C). d.posted) rest in
+    let all-rest : new ≡ record old { log = new.log; sends = number; posted = new.posted } = posted.rest ∙ ap (λ (d : DeskMeaning C). record d { log = new.log; posted = new.posted }) rest in
     let counts : (n : ℕ) → posted_as n new.posted ≡ posted_as n old.posted + one_if (number == n) = (λ n. posted.counts n ∙ ap (λ l. posted_as n l + one_if (number == n)) were) in
-    let replies : new.replies ≡ old.replies = ap (λ d. d.replies) posted.rest ∙ ap (λ d. d.replies) rest in
-    let later : new.later ≡ old.later = ap (λ d. d.later) posted.rest ∙ ap (λ d. d.later) rest in
+    let all : (x : Posted) → Contains new.posted x → Contains old.posted x ⊎ (posting number range request (uses_by (verdict_of old.log number)) ≡ x) = (λ x there.
+    elim (posted.all x there) [
+      | inl before ↦ inl (subst (λ l. Contains l x) were before)
+      | inr now ↦ inr (ap (λ (w : WireRule). posting number range request (uses_by (verdict_by w number))) (sym wire) ∙ now)
+    ]) in
     record {
       sent = record {
         range = range;
@@ -330,13 +292,14 @@ has_sent {C} old mid new number range request track none goes next entered rest 
         next = next;
         sent = mid.log;
         entered = entered;
-        noted = posted.log;
-        track = track_sent old new mid.log number range 1 request track next entered id own known counts replies later log (ap (λ d. d.sends) posted.rest ∙ ap (λ d. d.sends) rest)
-            (λ x there. elim (posted.all x there) [ inl before ↦ inl (subst (λ l. Contains l x) were before) | inr now ↦ inr now ]) (ap (λ l. l.part) posted.log) none (ap (λ (l : LogMeaning C). l.beside) posted.log ∙ ap (λ (l : LogMeaning C). l.beside) entered.stored);
-        way = way_sent old new mid.log number range 1 request track next entered id own known counts replies later;
-        replies = replies;
-        later = later;
-        limit = ap (λ d. d.range_limit) posted.rest ∙ ap (λ d. d.range_limit) rest;
+        noted = noted;
+        track = track_sent old new mid.log number range request track next entered noted all-rest counts all log none;
+        way = way_sent old new mid.log number range request track next entered noted all-rest counts;
+        replies = ap (λ (d : DeskMeaning C). d.replies) all-rest;
+        later = ap (λ (d : DeskMeaning C). d.later) all-rest;
+        bag = ap (λ (d : DeskMeaning C). d.bag) all-rest;
+        lost = ap (λ (d : DeskMeaning C). d.lost) all-rest;
+        limit = ap (λ (d : DeskMeaning C). d.range_limit) all-rest;
       };
       there = refl;
     }
@@ -363,52 +326,27 @@ pub noted_same : {C A E : Type 0} (v old : DeskMeaning C) (after : LogMeaning C)
 noted_same v old after place (Ok note) is same given none = marked_same v old after place is same given
 noted_same {C} v old after place (Err wanted) is same given none = ap (λ (l : LogMeaning C). record v { log = l }) none ∙ is
 
-took-at : {C : Type 0} (old : DeskMeaning C) (after : LogMeaning C) (note : List (KnownEntry Event)) → Took note old.log after → KeepsTrack old → KeepsTrack (record old { log = after })
-took-at {C} old after note took track =
-    let own : after.part.own ≡ old.log.part.own = ap (λ (l : LogMeaning C). l.part.own) took.told_this in
-    let same : known_of after.part.own ≡ known_of old.log.part.own = ap known_of own in
-    record {
-      log = took.log;
-      counted = track.counted ∙ ap (λ (k : Known). length k.sent) (sym same);
-      numbers = subst (λ (k : Known). All (λ x. x.number ≤ length k.sent) k.sent) (sym same) track.numbers;
-      once = λ n. subst (λ (k : Known). times_sent n k ≤ 1) (sym same) (track.once n);
-      dropped = track.dropped;
-      strays = All-weaker (IsStray old.log) (IsStray after)
-          (λ p. stray_on old.log after p (ap (λ (l : LogMeaning C). l.part.id) took.told_this) (λ one. subst (λ (k : Known). IsOneSent k.sent p) (sym same) one)
-          (λ x there. subst (λ ks. Contains ks x) (sym (ap (λ (l : LogMeaning C). l.part.known) took.told_this)) (Contains-append_left old.log.part.known note x there))) track.dropped track.strays;
-      stages = λ n. subst (λ (k : Known). posted_as n old.posted + (posted_as n old.later + posted_as n track.dropped) + answered_as n old.replies + heard_as_number n k ≡ times_sent n k) (sym same) (track.stages n);
-      aside = subst (λ (k : Known). All (WasSetAside k.sent) old.later) (sym same) track.aside;
-      posted = subst (λ (k : Known). All (λ m. request_sent m.number k.sent ≡ Some m.request) old.posted) (sym same) track.posted;
-      waits = subst (λ (k : Known). All (IsOneSent k.sent) old.posted) (sym same) track.waits;
-      answered = All-weaker (IsAnsweredBy old.log) (IsAnsweredBy after)
-          (λ a. answered_on old.log after a (ap (λ (l : LogMeaning C). l.part.id) took.told_this) (λ r said. subst (λ (k : Known). request_sent a.number k.sent ≡ Some r) (sym same) said)
-          (λ x there. subst (λ ks. Contains ks x) (sym (ap (λ (l : LogMeaning C). l.part.known) took.told_this)) (Contains-append_left old.log.part.known note x there))) old.replies track.answered;
-      turn = track.turn;
-      wave = subst (λ b. WaitInWave b after.part.own old.posted old.replies) (sym (ap (λ (l : LogMeaning C). l.beside) took.told_this)) (subst (λ o. WaitInWave old.log.beside o old.posted old.replies) (sym own) track.wave);
-      given = gives_same old.log.part after.part own (ap (λ (l : LogMeaning C). l.part.given) took.told_this) track.given;
-    }
-
--- an actor that took a note has its messages where they were
-pub track_took : {C : Type 0} (v old : DeskMeaning C) (after : LogMeaning C) (note : List (KnownEntry Event)) → v ≡ old → Took note v.log after → KeepsTrack old → KeepsTrack (record v { log = after })
-track_took v old after note same took track = subst (λ d. Took note d.log after → KeepsTrack (record d { log = after })) (sym same) (λ t. took-at old after note t track) took
-
 -- ---- the notes behind which messages are evaluated
 
 has-entries : (own : List (Pair Event)) (m : Sent) → Contains (known_of own).sent m → 1 ≤ length own
 has-entries [] m there = absurd (contains_nil m there)
 has-entries (p ∷ own) m there = omega arith
 
--- where a message waits, or was set aside, the actor has an entry
-pub some_entry : {C : Type 0} (d : DeskMeaning C) → KeepsTrack d → 1 ≤ length d.posted + length d.later → 1 ≤ length d.log.part.own
-some_entry d track some' = by d.posted refl d.later refl
+-- where a message waits, or was set aside, or lies in the bag, the actor has an entry
+pub some_entry : {C : Type 0} (d : DeskMeaning C) → KeepsTrack d → 1 ≤ length d.posted + length d.later + length d.bag → 1 ≤ length d.log.part.own
+some_entry d track some' = by d.posted refl d.later refl d.bag refl
   where
-    by : (posted : List Posted) → d.posted ≡ posted → (later : List Posted) → d.later ≡ later → 1 ≤ length d.log.part.own
-    by [] is [] none = (let n : length d.posted ≡ 0 = ap length is in let l : length d.later ≡ 0 = ap length none in absurd (omega arith))
-    by [] is (m ∷ later) aside = has-entries d.log.part.own (as_sent m) (All-head (WasSetAside (known_of d.log.part.own).sent) m later (subst (All (WasSetAside (known_of d.log.part.own).sent)) aside track.aside)).one
-    by (m ∷ posted) is later aside = has-entries d.log.part.own (as_sent m) (All-head (IsOneSent (known_of d.log.part.own).sent) m posted (subst (All (IsOneSent (known_of d.log.part.own).sent)) is track.waits))
+    sent : List Sent
+    sent = (known_of d.log.part.own).sent
+
+    by : (posted : List Posted) → d.posted ≡ posted → (later : List Posted) → d.later ≡ later → (bag : List (ℕ × Stray Posted)) → d.bag ≡ bag → 1 ≤ length d.log.part.own
+    by [] is [] none [] empty = (let n : length d.posted ≡ 0 = ap length is in let l : length d.later ≡ 0 = ap length none in let b : length d.bag ≡ 0 = ap length empty in absurd (omega arith))
+    by [] is [] none (e ∷ bag) late = has-entries d.log.part.own (as_sent e.1.message) (All-head (IsOfBag d) e bag (subst (All (IsOfBag d)) late track.late)).one
+    by [] is (m ∷ later) aside bag late = has-entries d.log.part.own (as_sent m) (All-head (WasSetAside sent) m later (subst (All (WasSetAside sent)) aside track.aside)).one
+    by (m ∷ posted) is later aside bag late = has-entries d.log.part.own (as_sent m) (All-head (IsOneSent sent) m posted (subst (All (IsOneSent sent)) is track.waits))
 
 -- a note of its last entry
-pub last_behind : {C : Type 0} (v old : DeskMeaning C) (note : List (KnownEntry Event)) → v ≡ old → KeepsTrack old → 1 ≤ length old.posted + length old.later → note ≡ noted (length v.log.part.own - 1) 0 v.log.part → IsBehindAll old.log.part.own note
+pub last_behind : {C : Type 0} (v old : DeskMeaning C) (note : List (KnownEntry Event)) → v ≡ old → KeepsTrack old → 1 ≤ length old.posted + length old.later + length old.bag → note ≡ noted (length v.log.part.own - 1) 0 v.log.part → IsBehindAll old.log.part.own note
 last_behind {C} v old note same track some' is =
     subst (IsBehindAll old.log.part.own) (sym (is ∙ ap (λ (d : DeskMeaning C). noted (length d.log.part.own - 1) 0 d.log.part) same))
     (note_behind (protocol old.log.head) old.log.part track.log.stands 0 (some_entry old track some'))
@@ -416,19 +354,3 @@ last_behind {C} v old note same track some' is =
 -- where no reply waits, what is behind all that the actor made is the newest
 pub newest_first : (own : List (Pair Event)) (replies : List Answered) (note : List (KnownEntry Event)) → replies ≡ [] → IsBehindAll own note → IsNewest own replies note
 newest_first own replies note none behind = subst (λ rs. IsNewest own rs note) (sym none) (record { made = behind; evaluated = λ step after. All-nil (λ (a : Answered). a.step < step) })
-
--- a note without uses is its own copy
-pub kept_as_told : {C : Type 0} (d new : DeskMeaning C) (a : Answered) (note : List (KnownEntry Event)) (e : KnownEntry Event) → note ≡ record e { uses = 0 } ∷ [] → HasKept d new a (without_uses 0 note) → HasKept d new a note
-kept_as_told d new a note e is kept = subst (HasKept d new a) (ap (without_uses 0) is ∙ sym is) kept
-
--- the note of the evaluation that was kept is the newest
-pub newest_kept : {C M E : Type 0} (v old new : DeskMeaning C) (result : Result M E) (known : M → List (KnownEntry Event)) (posted : List Posted) (a : Answered) (last note : List (KnownEntry Event)) (e : Entry Event) (place : ℕ) → v ≡ old → e.step ≡ a.step → note ≡ record { entry = e; place = place; uses = 0 } ∷ []
-    → IsNewest old.log.part.own old.replies last → ComesAfter a.step last → OnOk result (HasKept (record v { posted = posted }) new a (without_uses 0 note)) → IfOk result (λ copy. known copy ≡ with_uses 0 note)
-    → IfOk result (λ copy. IsNewest new.log.part.own new.replies (known copy))
-newest_kept {C} v old new (Ok copy) known posted a last note e place same at is newest after kept copied =
-    let own : new.log.part.own ≡ old.log.part.own = ap (λ (d : DeskMeaning C). d.log.part.own) kept.kept ∙ ap (λ (d : DeskMeaning C). d.log.part.own) same in
-    let replies : new.replies ≡ old.replies ++ a ∷ [] = ap (λ (d : DeskMeaning C). d.replies) kept.kept ∙ ap (λ (d : DeskMeaning C). d.replies ++ a ∷ []) same in
-    let known-is : known copy ≡ record { entry = e; place = place; uses = 0 } ∷ [] = copied ∙ ap (with_uses 0) is in
-    subst (λ o. IsNewest o new.replies (known copy)) (sym own)
-    (subst (λ rs. IsNewest old.log.part.own rs (known copy)) (sym replies) (newest_evaluated old.log.part.own old.replies last (known copy) a e place 0 at known-is newest after))
-newest_kept v old new (Err halt) known posted a last note e place same at is newest after kept copied = tt

@@ -1,29 +1,28 @@
 -- An actor's list that has ended, and what became of its messages.
-use Rattle.std.proofs.Common.{◌≡◌, ℕ, ◌+◌, ◌<◌, ◌≤◌, ◌⊎◌, ◌==◌, ◌||◌, Bool, true, false, All, Contains, IfErr, inl, inr, List, [], ◌∷◌, ◌++◌, length, count_by, Result, Ok, Err, refl, sym, ap, subst, ◌∙◌, arith}
+use Rattle.std.proofs.Common.{◌≡◌, ℕ, ◌+◌, ◌<◌, ◌≤◌, ◌⊎◌, ◌==◌, ◌||◌, Bool, true, false, All, Contains, IfErr, IsTrue, inl, inr, List, [], ◌∷◌, ◌++◌, length, map, count_by, Result, Ok, Err, refl, sym, ap, subst, ◌∙◌, arith}
 use Rattle.std.proofs.lemmas.Bool.{eq-eqb, eqb-true}
-use Rattle.std.proofs.lemmas.List.{append_assoc}
-use Rattle.std.proofs.lemmas.List.Elements.{All-append, All-contains, All-nil, All-weaker, Contains-append_left}
+use Rattle.std.proofs.lemmas.List.Elements.{All-append, All-contains, All-weaker, Contains-append_left, Contains-append_right}
 use Rattle.std.specs.List.{list_any}
+use Rattle.pc_base.specs.declared.actor.ActorId.{ActorId}
 use Rattle.pc_desk.proofs.Counting.{counted_once, counts_any, none_counted, uncounted}
-use Rattle.pc_desk.proofs.Refusing.{was_given_back}
 use Rattle.pc_desk.proofs.Turns.{counted_has}
 use Rattle.pc_desk.specs.declared.answered.Answered.{Answered}
 use Rattle.pc_desk.specs.declared.halt.Halt.{Halt}
 use Rattle.pc_desk.specs.declared.halt.Halt.TheVariants as halts
-use Rattle.pc_base.specs.declared.actor.ActorId.TheVariants as actors
-use Rattle.pc_desk.specs.Desk.{DeskMeaning, HasHalted, HasTaken, HasTakenFirst, IsAnsweredBy, WasSetAside, IsOneSent, IsStray, KeepsTrack, KnowsFull, Posted, as_sent, posted_as, posting, times_sent}
-use Rattle.pc_desk.specs.Ending.{EndsBy, EndsOnly, HasEnded, HasMadeLast, IsNotLost, IsSpent, PutsInCall, WaitsUnheard, all_waiting}
-use Rattle.pc_desk.specs.OwnLog.{HasStopped, IsHalt, LogMeaning}
+use Rattle.pc_desk.specs.Desk.{DeskMeaning, IsAnsweredBy, IsDropped, IsLate, IsOneSent, IsRepeatedOrLate, IsUnheard, KeepsTrack, Posted, WasEvaluatedAt, WasSetAside, as_sent, is_repeating, posted_as, posting, straying, times_sent}
+use Rattle.pc_desk.specs.Ending.{EndsBy, EndsOnly, HasEnded, HasMadeLast, IsNotLost, IsRepeatedOrWaits, IsSomewhere, IsSpent, KnowsEvaluation, KnowsTwo, PutsInCall, WaitsStill, WaitsUnheard, all_waiting}
+use Rattle.pc_desk.specs.OwnLog.{HasStopped, IsHalt, LogMeaning, verdict_of}
 use Rattle.pc_desk.specs.Refused.{WasGivenBack}
-use Rattle.pc_history.specs.declared.named.Named.{Ghosts}
 use Rattle.pc_history.specs.declared.view.Known.{Known as KnownEntry}
-use Rattle.pc_history.specs.Parts.{known_entry, told, uses_left}
+use Rattle.pc_history.specs.Parts.{known_entry}
 use Rattle.pc_lists.proofs.Counts.{count-append}
-use Rattle.pc_lists.proofs.Lists.{all_from_contains, contains_head, contains_nil, contains_cons, contains_tail}
+use Rattle.pc_lists.proofs.Lists.{all_from_contains, contains_head, contains_nil, contains_cons, contains_map, contains_tail}
 use Rattle.pc_proto.specs.declared.event.Event.{Event}
-use Rattle.pc_range.specs.declared.commit_world.CommitWorld.{CommitWorld}
-use Rattle.pc_range.specs.declared.message.Message.{Message}
-use Rattle.pc_range.specs.Message.{IsFullNote, evaluation}
+use Rattle.pc_range.specs.Message.{evaluation}
+use Rattle.pc_wire.specs.declared.outbox.Stray.{Stray}
+use Rattle.pc_wire.specs.declared.verdict.Verdict.TheVariants as verdicts
+use Rattle.pc_wire.specs.Verdicts.{is_late}
+use Rattle.pc_world.specs.Caused.{Evaluates}
 use Rattle.pc_world.specs.Known.{Known, known_of}
 use Rattle.pc_world.specs.Known.Traffic.{Heard, Sent}
 use Rattle.pc_world.specs.Tell.Refusal.{is_heard}
@@ -50,58 +49,102 @@ any_there test (y ∷ ys) x is there = elim (contains_cons y ys x there) [
   | inr later ↦ or_right (test y) (list_any test ys) (any_there test ys x is later)
 ]
 
+-- What waits in the bag is one of those that wait.
+late-waits : {C : Type 0} (d : DeskMeaning C) (m : Posted) → IsLate d.bag m → WaitsStill (all_waiting d) m.number
+late-waits d m late = record {
+  waiting = posting m.number m.range m.request late.uses;
+  there = Contains-append_right (d.posted ++ d.later) (map (λ e. e.1.message) d.bag) (posting m.number m.range m.request late.uses)
+      (contains_map (λ (e : ℕ × Stray Posted). e.1.message) d.bag (m.number, straying late.due (posting m.number m.range m.request late.uses)) late.there);
+  is = refl;
+}
+
+known-evaluation : {C : Type 0} (log : LogMeaning C) (m : Posted) (step : ℕ) → WasEvaluatedAt log m step → KnowsEvaluation log.part m.number
+known-evaluation log m step is = record { evaluation = known_entry (evaluation step m.range log.part.id m.number is.reply) is.place 0; knows = is.knows; of_it = (refl, refl) }
+
 module _ {C : Type 0} (d : DeskMeaning C) (track : KeepsTrack d) where
   abbrev k : Known
   k = known_of d.log.part.own
 
-  -- of what waits, or was set aside
-  waiting-count : (n : ℕ) → count_by (λ (p : Posted). p.number == n) (all_waiting d) ≡ posted_as n d.posted + posted_as n d.later
+  -- Those that wait for their first evaluation.
+  abbrev first-ones : List Posted
+  first-ones = d.posted ++ d.later
+
+  waiting-count : (n : ℕ) → count_by (λ (p : Posted). p.number == n) first-ones ≡ posted_as n d.posted + posted_as n d.later
   waiting-count n = count-append (λ (p : Posted). p.number == n) d.posted d.later
 
-  one-not-lost : (m : Sent) → Contains k.sent m → IsNotLost d m
-  one-not-lost m there = by (list_any (λ (h : Heard). h.number == m.number) k.heard) (list_any (λ (p : Posted). p.number == m.number) (all_waiting d)) (list_any (λ (a : Answered). a.number == m.number) d.replies) refl refl refl
+  first-waits : (n : ℕ) → list_any (λ (p : Posted). p.number == n) first-ones ≡ true → WaitsStill (all_waiting d) n
+  first-waits n some =
+      let w = any_gives (λ (p : Posted). p.number == n) first-ones some in
+      record { waiting = w.0; there = Contains-append_left first-ones (map (λ e. e.1.message) d.bag) w.0 w.1; is = eqb-true w.0.number n w.2 }
+
+  unheard-somewhere : (m : Sent) (w : Posted) → w.number ≡ m.number → IsDropped d w → IsSomewhere d m
+  unheard-somewhere m w same (inl lost) = inr (inr (inr (subst (λ n. verdict_of d.log n ≡ verdicts.LoseRequest) same lost)))
+  unheard-somewhere m w same (inr (inl late)) = inr (inl (subst (WaitsStill (all_waiting d)) same (late-waits d w late)))
+  unheard-somewhere m w same (inr (inr is)) = inr (inr (inl (subst (KnowsEvaluation d.log.part) same (known-evaluation d.log w is.0 is.1))))
+
+  one-somewhere : (m : Sent) → Contains k.sent m → IsSomewhere d m
+  one-somewhere m there = by (list_any (λ (h : Heard). h.number == m.number) k.heard) (list_any (λ (p : Posted). p.number == m.number) first-ones) (list_any (λ (a : Answered). a.number == m.number) d.replies) refl refl refl
     where
       some : 1 ≤ times_sent m.number k
       some = counts_any (λ (x : Sent). x.number == m.number) k.sent (any_there (λ (x : Sent). x.number == m.number) k.sent m (eq-eqb m.number m.number refl) there)
 
-      by : (heard waiting answered : Bool) → list_any (λ (h : Heard). h.number == m.number) k.heard ≡ heard → list_any (λ (p : Posted). p.number == m.number) (all_waiting d) ≡ waiting → list_any (λ (a : Answered). a.number == m.number) d.replies ≡ answered → IsNotLost d m
+      by : (heard waiting answered : Bool) → list_any (λ (h : Heard). h.number == m.number) k.heard ≡ heard → list_any (λ (p : Posted). p.number == m.number) first-ones ≡ waiting → list_any (λ (a : Answered). a.number == m.number) d.replies ≡ answered → IsSomewhere d m
       by true waiting answered h p a = inl h
-      by false true answered h p a =
-          let w = any_gives (λ (p : Posted). p.number == m.number) (all_waiting d) p in
-          inr (inl (record { waiting = w.0; there = w.1; is = eqb-true w.0.number m.number w.2 }))
+      by false true answered h p a = inr (inl (first-waits m.number p))
       by false false true h p a =
           let w = any_gives (λ (a : Answered). a.number == m.number) d.replies a in
           let of = All-contains (IsAnsweredBy d.log) d.replies w.0 track.answered w.1 in
-          inr (inr (record { evaluation = known_entry (evaluation w.0.step of.range d.log.part.id w.0.number w.0.reply) of.place 0; knows = of.knows; of_it = (refl, eqb-true w.0.number m.number w.2) }))
+          inr (inr (inl (record { evaluation = known_entry (evaluation w.0.step of.range d.log.part.id w.0.number w.0.reply) of.place 0; knows = of.knows; of_it = (refl, eqb-true w.0.number m.number w.2) })))
       by false false false h p a =
           let stages = track.stages m.number in
           let x = uncounted (λ (h : Heard). h.number == m.number) k.heard h in
-          let y = sym (waiting-count m.number) ∙ uncounted (λ (p : Posted). p.number == m.number) (all_waiting d) p in
+          let y = sym (waiting-count m.number) ∙ uncounted (λ (p : Posted). p.number == m.number) first-ones p in
           let z = uncounted (λ (a : Answered). a.number == m.number) d.replies a in
           let s = some in
-          let one : 1 ≤ posted_as m.number track.dropped = omega arith in
-          let w = counted_has (λ (p : Posted). p.number) m.number track.dropped one in
-          let of = All-contains (IsStray d.log) track.dropped w.0 track.strays w.1 in
-          inr (inr (record { evaluation = known_entry (evaluation of.step w.0.range d.log.part.id w.0.number of.reply) of.place 0; knows = of.knows; of_it = (refl, w.2) }))
+          let one : 1 ≤ posted_as m.number track.unheard = omega arith in
+          let w = counted_has (λ (p : Posted). p.number) m.number track.unheard one in
+          unheard-somewhere m w.0 w.2 (All-contains (IsUnheard d) track.unheard w.0 track.each_unheard w.1).dropped
+
+  one-repeated : (m : Sent) → Contains k.sent m → is_repeating (verdict_of d.log m.number) ≡ true → IsRepeatedOrWaits d m.number
+  one-repeated m there repeats = by (list_any (λ (p : Posted). p.number == m.number) first-ones) refl
+    where
+      it : Posted
+      it = posting m.number m.range m.request 0
+
+      two : IsRepeatedOrLate d it → IsRepeatedOrWaits d m.number
+      two (inl late) = inl (late-waits d it late.0)
+      two (inr is) = inr (record {
+        one = known_entry (evaluation is.0 m.range d.log.part.id m.number is.3.reply) is.3.place 0;
+        other = known_entry (evaluation is.1 m.range d.log.part.id m.number is.4.reply) is.4.place 0;
+        later = is.2;
+        knows_one = is.3.knows;
+        knows_other = is.4.knows;
+        one_is = (refl, refl);
+        other_is = (refl, refl);
+      })
+
+      by : (waiting : Bool) → list_any (λ (p : Posted). p.number == m.number) first-ones ≡ waiting → IsRepeatedOrWaits d m.number
+      by true p = inl (first-waits m.number p)
+      by false p = two (track.repeated it there repeats (sym (waiting-count m.number) ∙ uncounted (λ (p : Posted). p.number == m.number) first-ones p))
 
   -- no message is lost
   pub not_lost : All (IsNotLost d) k.sent
-  not_lost = all_from_contains (IsNotLost d) k.sent one-not-lost
+  not_lost = all_from_contains (IsNotLost d) k.sent (λ m there. (one-somewhere m there, one-repeated m there))
 
   -- what waits, or was set aside, was not heard
-  waits-unheard : (m : Posted) → Contains (all_waiting d) m → is_heard k.heard (as_sent m) ≡ false
+  waits-unheard : (m : Posted) → Contains first-ones m → is_heard k.heard (as_sent m) ≡ false
   waits-unheard m there =
-      let waits : 1 ≤ count_by (λ (p : Posted). p.number == m.number) (all_waiting d) = counts_any (λ (p : Posted). p.number == m.number) (all_waiting d) (any_there (λ (p : Posted). p.number == m.number) (all_waiting d) m (eq-eqb m.number m.number refl) there) in
+      let waits : 1 ≤ count_by (λ (p : Posted). p.number == m.number) first-ones = counts_any (λ (p : Posted). p.number == m.number) first-ones (any_there (λ (p : Posted). p.number == m.number) first-ones m (eq-eqb m.number m.number refl) there) in
       let both = waiting-count m.number in
       let stages = track.stages m.number in
       let once = track.once m.number in
       none_counted (λ (h : Heard). h.number == m.number) k.heard (omega arith)
 
-  all_sent : All (IsOneSent k.sent) (all_waiting d)
+  all_sent : All (IsOneSent k.sent) first-ones
   all_sent = All-append (IsOneSent k.sent) d.posted d.later track.waits (All-weaker (WasSetAside k.sent) (IsOneSent k.sent) (λ m aside. aside.one) d.later track.aside)
 
-  pub all_wait : All (WaitsUnheard k) (all_waiting d)
-  all_wait = all_from_contains (WaitsUnheard k) (all_waiting d) (λ m there. record { sent = All-contains (IsOneSent k.sent) (all_waiting d) m all_sent there; unheard = waits-unheard m there })
+  pub all_wait : All (WaitsUnheard k) first-ones
+  all_wait = all_from_contains (WaitsUnheard k) first-ones (λ m there. record { sent = All-contains (IsOneSent k.sent) first-ones m all_sent there; unheard = waits-unheard m there })
 
 -- ---- a list that is full
 
@@ -130,111 +173,99 @@ ended_if {C} P v old after (Err halt) same track last h =
 
 -- ---- a range that is full
 
--- the first of those that wait was taken
-pub taken_of_first : {C : Type 0} (old new : DeskMeaning C) (m : Posted) → HasTakenFirst old new m → HasTaken old new m
-taken_of_first {C} old new m taken =
-    let whole : old.posted ++ old.later ≡ m ∷ (new.posted ++ old.later) = ap (λ ps. ps ++ old.later) taken.first in
-    let same : new.posted ++ new.later ≡ new.posted ++ old.later = ap (λ (d : DeskMeaning C). new.posted ++ d.later) taken.rest in
-    record {
-      there = subst (λ ps. Contains ps m) (sym whole) (contains_head m (new.posted ++ old.later));
-      others = λ p there. elim (contains_cons m (new.posted ++ old.later) p (subst (λ ps. Contains ps p) whole there)) [ inl here ↦ inl here | inr behind ↦ inr (subst (λ ps. Contains ps p) (sym same) behind) ];
-      left = λ p there. subst (λ ps. Contains ps p) (sym whole) (contains_tail m (new.posted ++ old.later) p (subst (λ ps. Contains ps p) same there));
-      rest = taken.rest ∙ ap (λ ls. record old { posted = new.posted; later = ls }) (sym (ap (λ (d : DeskMeaning C). d.later) taken.rest));
-      later = taken.later;
-    }
+-- The desk that has stopped: its actor knows more, and of the messages that waited all but those of one number wait still.
+pub record HasBrokenOff {C : Type 0} (old new : DeskMeaning C) (m : Posted) : Type 0 where
+  pub log : new.log ≡ record old.log { part = record old.log.part { known = new.log.part.known }; stopped = true }
+  pub limit : new.range_limit ≡ old.range_limit
+  pub more : (e : KnownEntry Event) → Contains old.log.part.known e → Contains new.log.part.known e
+  pub others : (p : Posted) → Contains (all_waiting old) p → (m.number ≡ p.number) ⊎ Contains (all_waiting new) p
+  pub left : (p : Posted) → Contains (new.posted ++ new.later) p → Contains (old.posted ++ old.later) p
+  pub later : All (λ p. m.number < p.number) new.posted
 
--- the first of those that were set aside was taken, where none waits
-taken_of_aside : {C : Type 0} (old new : DeskMeaning C) (m : Posted) → old.posted ≡ [] → old.later ≡ m ∷ new.later → new ≡ record old { later = new.later } → HasTaken old new m
-taken_of_aside {C} old new m none first rest =
-    let posted : new.posted ≡ [] = ap (λ (d : DeskMeaning C). d.posted) rest ∙ none in
-    let whole : old.posted ++ old.later ≡ m ∷ new.later = ap (λ ps. ps ++ old.later) none ∙ first in
-    let same : new.posted ++ new.later ≡ new.later = ap (λ ps. ps ++ new.later) posted in
-    record {
-      there = subst (λ ps. Contains ps m) (sym whole) (contains_head m new.later);
-      others = λ p there. elim (contains_cons m new.later p (subst (λ ps. Contains ps p) whole there)) [ inl here ↦ inl here | inr behind ↦ inr (subst (λ ps. Contains ps p) (sym same) behind) ];
-      left = λ p there. subst (λ ps. Contains ps p) (sym whole) (contains_tail m new.later p (subst (λ ps. Contains ps p) same there));
-      rest = rest ∙ ap (λ ps. record old { posted = ps; later = new.later }) (sym (ap (λ (d : DeskMeaning C). d.posted) rest));
-      later = subst (All (λ (p : Posted). m.number < p.number)) (sym posted) (All-nil (λ (p : Posted). m.number < p.number));
-    }
+module _ {C : Type 0} (old new : DeskMeaning C) (m : Posted) (track : KeepsTrack old) (broken : HasBrokenOff old new m) (one : IsOneSent (known_of old.log.part.own).sent m) (refused : WasGivenBack new.range_limit new.log.part (as_sent m))
+    (inside : is_late (verdict_of old.log m.number) ≡ false → PutsInCall (known_of old.log.part.own) m.request) where
+  -- The messages that were sent.
+  abbrev sent-then : List Sent
+  sent-then = (known_of old.log.part.own).sent
 
--- as the parts of the step say it
-pub aside_taken : {C : Type 0} (v old : DeskMeaning C) (rest : List Posted) (m : Posted) → v ≡ old → old.posted ≡ [] → v.later ≡ m ∷ rest → HasTaken old (record v { later = rest }) m
-aside_taken {C} v old rest m same none first =
-    subst (λ (d : DeskMeaning C). d.later ≡ m ∷ rest → HasTaken old (record d { later = rest }) m) (sym same) (λ f. taken_of_aside old (record old { later = rest }) m none f refl) first
+  known-same : known_of new.log.part.own ≡ known_of old.log.part.own
+  known-same = ap (λ (l : LogMeaning C). known_of l.part.own) broken.log
 
-module _ {C : Type 0} (old : DeskMeaning C) (m : Posted) (posted aside : List Posted) (notes : List (KnownEntry Event)) (track : KeepsTrack old) (taken : HasTaken old (record old { posted = posted; later = aside }) m) (refused : WasGivenBack old.range_limit (told notes old.log.part) (as_sent m)) (inside : PutsInCall (known_of old.log.part.own) m.request) where
-  -- the message that its range refused
-  it-waited : WaitsUnheard (known_of old.log.part.own) m
-  it-waited = All-contains (WaitsUnheard (known_of old.log.part.own)) (all_waiting old) m (all_wait old track) taken.there
-
-  -- The desk that has stopped.
-  abbrev stopped : DeskMeaning C
-  stopped = record old { posted = posted; later = aside; log = record old.log { part = told notes old.log.part; stopped = true } }
+  verdict-same : (n : ℕ) → verdict_of new.log n ≡ verdict_of old.log n
+  verdict-same n = ap (λ (l : LogMeaning C). verdict_of l n) broken.log
 
   -- what was sent under its number is it
-  the-one : (x : Sent) → Contains (known_of old.log.part.own).sent x → m.number ≡ x.number → as_sent m ≡ x
-  the-one x there same =
-      counted_once (λ (y : Sent). y.number == m.number) (known_of old.log.part.own).sent (as_sent m) x (track.once m.number) it-waited.sent there (eq-eqb m.number m.number refl) (eq-eqb x.number m.number (sym same))
+  the-one : (x : Sent) → Contains sent-then x → m.number ≡ x.number → as_sent m ≡ x
+  the-one x there same = counted_once (λ (y : Sent). y.number == m.number) sent-then (as_sent m) x (track.once m.number) one there (eq-eqb m.number m.number refl) (eq-eqb x.number m.number (sym same))
 
-  it-is-spent : IsSpent stopped (as_sent m)
-  it-is-spent = record { refused = refused; unheard = it-waited.unheard }
-
-  not_lost_now : (x : Sent) → Contains (known_of old.log.part.own).sent x → IsNotLost old x → IsSpent stopped x ⊎ IsNotLost stopped x
-  not_lost_now x there (inl heard) = inr (inl heard)
-  not_lost_now x there (inr (inl waits)) = elim (taken.others waits.waiting waits.there) [
-    | inl here ↦ inl (subst (IsSpent stopped) (the-one x there (ap (λ (p : Posted). p.number) here ∙ waits.is)) it-is-spent)
-    | inr behind ↦ inr (inr (inl (record { waiting = waits.waiting; there = behind; is = waits.is })))
-  ]
-  not_lost_now x there (inr (inr knows)) = inr (inr (inr (record { evaluation = knows.evaluation; knows = Contains-append_left old.log.part.known notes knows.evaluation knows.knows; of_it = knows.of_it })))
-
-  pub ended_full : HasEnded old stopped
-  ended_full = record {
-    known = λ x there. Contains-append_left old.log.part.known notes x there;
-    rest = refl;
-    limit = refl;
-    end = inr (record {
-      message = as_sent m;
-      sent = it-waited.sent;
-      spent = it-is-spent;
-      in_call = inside;
-      others = all_from_contains (λ (x : Sent). IsSpent stopped x ⊎ IsNotLost stopped x) (known_of old.log.part.own).sent
-          (λ x there. not_lost_now x there (All-contains (IsNotLost old) (known_of old.log.part.own).sent x (not_lost old track) there));
-      waits = all_from_contains (WaitsUnheard (known_of old.log.part.own)) (all_waiting stopped) (λ p there. All-contains (WaitsUnheard (known_of old.log.part.own)) (all_waiting old) p (all_wait old track) (taken.left p there));
-      later = taken.later;
-    });
+  knows-still : (n : ℕ) → KnowsEvaluation old.log.part n → KnowsEvaluation new.log.part n
+  knows-still n knows = record {
+    evaluation = knows.evaluation;
+    knows = broken.more knows.evaluation knows.knows;
+    of_it = subst (λ (i : ActorId). Evaluates i n knows.evaluation.entry.event) (sym (ap (λ (l : LogMeaning C). l.part.id) broken.log)) knows.of_it;
   }
 
--- the desk from which the message was taken
-ended-at_range : {C : Type 0} (d old : DeskMeaning C) (m : Posted) (notes : List (KnownEntry Event)) → KeepsTrack old → HasTaken old d m → WasGivenBack d.range_limit (told notes d.log.part) (as_sent m) → PutsInCall (known_of old.log.part.own) m.request
-    → HasEnded old (record d { log = record d.log { part = told notes d.log.part; stopped = true } })
-ended-at_range {C} d old m notes track taken refused inside =
-    subst (λ (x : DeskMeaning C). WasGivenBack x.range_limit (told notes x.log.part) (as_sent m) → HasEnded old (record x { log = record x.log { part = told notes x.log.part; stopped = true } })) (sym taken.rest)
-    (λ r. ended_full old m d.posted d.later notes track (subst (λ (x : DeskMeaning C). HasTaken old x m) taken.rest taken) r inside) refused
+  two-still : (n : ℕ) → KnowsTwo old.log.part n → KnowsTwo new.log.part n
+  two-still n two =
+      let id : old.log.part.id ≡ new.log.part.id = sym (ap (λ (l : LogMeaning C). l.part.id) broken.log) in
+      record {
+        one = two.one;
+        other = two.other;
+        later = two.later;
+        knows_one = broken.more two.one two.knows_one;
+        knows_other = broken.more two.other two.knows_other;
+        one_is = subst (λ (i : ActorId). Evaluates i n two.one.entry.event) id two.one_is;
+        other_is = subst (λ (i : ActorId). Evaluates i n two.other.entry.event) id two.other_is;
+      }
 
--- The desk took what the range gave, and then the use of its message, and stopped.
-abbrev HasItBack : {C N : Type 0} {G : Ghosts N CommitWorld} → DeskMeaning C → List (KnownEntry Event) → Message N G → DeskMeaning C
-HasItBack d last message = record d { log = record d.log { part = told message.note.known (told last d.log.part); stopped = true } }
+  waits-still : (n : ℕ) → WaitsStill (all_waiting old) n → (m.number ≡ n) ⊎ WaitsStill (all_waiting new) n
+  waits-still n waits = elim (broken.others waits.waiting waits.there) [ inl here ↦ inl (here ∙ waits.is) | inr behind ↦ inr (record { waiting = waits.waiting; there = behind; is = waits.is }) ]
 
-taken-both : (known last more : List (KnownEntry Event)) → (known ++ last) ++ more ≡ known ++ (last ++ more)
-taken-both known last more = append_assoc known last more
+  somewhere-still : (x : Sent) → IsSomewhere old x → (m.number ≡ x.number) ⊎ IsSomewhere new x
+  somewhere-still x (inl heard) = inr (inl (subst (λ (k : Known). IsTrue (is_heard k.heard x)) (sym known-same) heard))
+  somewhere-still x (inr (inl waits)) = elim (waits-still x.number waits) [ inl same ↦ inl same | inr still ↦ inr (inr (inl still)) ]
+  somewhere-still x (inr (inr (inl knows))) = inr (inr (inr (inl (knows-still x.number knows))))
+  somewhere-still x (inr (inr (inr lost))) = inr (inr (inr (inr (verdict-same x.number ∙ lost))))
 
--- a range that is full is the cause
-pub halted_full : {C N : Type 0} {G : Ghosts N CommitWorld} (d after : DeskMeaning C) (m : Posted) (message : Message N G) (range : ℕ) (last : List (KnownEntry Event)) → after ≡ HasItBack d last message → 1 ≤ m.uses → range ≡ m.range → IsFullNote m.range d.range_limit last
-    → message.sender ≡ d.log.part.id → posting message.number message.range message.request (uses_left message.note.known) ≡ m → HasHalted d after (halts.Full (actors.Range range))
-halted_full {C} d after m message range last is some at full whose same =
-    let notes = last ++ message.note.known in
-    let refused = was_given_back d.range_limit (told notes d.log.part) m message last d.log.part.known refl full whose same some in
-    let knows : KnowsFull m.range d.range_limit (HasItBack d last message).log.part.known = subst (KnowsFull m.range d.range_limit) (sym (taken-both d.log.part.known last message.note.known)) refused.full in
-    subst (λ (x : DeskMeaning C). HasHalted d x (halts.Full (actors.Range range))) (sym is)
-    record { stopped = refl; head = refl; id = refl; cause = inr (m.range, ap actors.Range at, knows) }
+  repeated-still : (n : ℕ) → IsRepeatedOrWaits old n → (m.number ≡ n) ⊎ IsRepeatedOrWaits new n
+  repeated-still n (inl waits) = elim (waits-still n waits) [ inl same ↦ inl same | inr still ↦ inr (inl still) ]
+  repeated-still n (inr two) = inr (inr (two-still n two))
 
--- one message was given back, and the list has ended
-pub ended_refused : {C N : Type 0} {G : Ghosts N CommitWorld} (d after old : DeskMeaning C) (m : Posted) (message : Message N G) (last : List (KnownEntry Event)) → after ≡ HasItBack d last message → KeepsTrack old → HasTaken old d m → 1 ≤ m.uses → IsFullNote m.range d.range_limit last
-    → message.sender ≡ d.log.part.id → posting message.number message.range message.request (uses_left message.note.known) ≡ m → PutsInCall (known_of old.log.part.own) m.request → HasEnded old after
-ended_refused {C} d after old m message last is track taken some full whose same inside =
-    let notes = last ++ message.note.known in
-    subst (HasEnded old) (sym (is ∙ ap (λ ks. record d { log = record d.log { part = record d.log.part { known = ks }; stopped = true } }) (taken-both d.log.part.known last message.note.known)))
-    (ended-at_range d old m notes track taken (was_given_back d.range_limit (told notes d.log.part) m message last d.log.part.known refl full whose same some) inside)
+  it-is-spent : (x : Sent) → Contains sent-then x → m.number ≡ x.number → IsSpent new x
+  it-is-spent x there same = subst (IsSpent new) (the-one x there same) (record { refused = refused })
+
+  one-still : (x : Sent) → Contains sent-then x → IsNotLost old x → IsSpent new x ⊎ IsNotLost new x
+  one-still x there kept = by (m.number == x.number) refl
+    where
+      no-longer : (m.number == x.number) ≡ false → {A : Type 0} → m.number ≡ x.number → A
+      no-longer differ same = absurd (let e : true ≡ false = sym (eq-eqb m.number x.number same) ∙ differ in cc e)
+
+      by : (b : Bool) → (m.number == x.number) ≡ b → IsSpent new x ⊎ IsNotLost new x
+      by true is = inl (it-is-spent x there (eqb-true m.number x.number is))
+      by false is = inr (
+        elim (somewhere-still x kept.0) [ inl same ↦ no-longer is same | inr still ↦ still ],
+        λ repeats. elim (repeated-still x.number (kept.1 (sym (ap is_repeating (verdict-same x.number)) ∙ repeats))) [ inl same ↦ no-longer is same | inr still ↦ still ],
+      )
+
+  wait-still : (p : Posted) → WaitsUnheard (known_of old.log.part.own) p → WaitsUnheard (known_of new.log.part.own) p
+  wait-still p waits = subst (λ (k : Known). WaitsUnheard k p) (sym known-same) waits
+
+  pub ended_full : HasEnded old new
+  ended_full = record {
+    known = broken.more;
+    rest = broken.log;
+    limit = broken.limit;
+    end = inr (record {
+      message = as_sent m;
+      sent = subst (λ (k : Known). IsOneSent k.sent m) (sym known-same) one;
+      spent = record { refused = refused };
+      in_call = λ plain. subst (λ (k : Known). PutsInCall k m.request) (sym known-same) (inside (sym (ap is_late (verdict-same m.number)) ∙ plain));
+      others = subst (λ (k : Known). All (λ (x : Sent). IsSpent new x ⊎ IsNotLost new x) k.sent) (sym known-same)
+          (all_from_contains (λ (x : Sent). IsSpent new x ⊎ IsNotLost new x) sent-then (λ x there. one-still x there (All-contains (IsNotLost old) sent-then x (not_lost old track) there)));
+      waits = all_from_contains (WaitsUnheard (known_of new.log.part.own)) (new.posted ++ new.later) (λ p there. wait-still p (All-contains (WaitsUnheard (known_of old.log.part.own)) (old.posted ++ old.later) p (all_wait old track) (broken.left p there)));
+      later = broken.later;
+    });
+  }
 
 -- first messages were delivered, then the list ended
 pub ended_later : {C : Type 0} (old mid new : DeskMeaning C) (halt : Halt) → mid.log.stopped ≡ old.log.stopped → ((k : KnownEntry Event) → Contains old.log.part.known k → Contains mid.log.part.known k)

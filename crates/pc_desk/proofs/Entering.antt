@@ -7,16 +7,15 @@ use Rattle.pc_base.specs.declared.actor.ActorId.{ActorId}
 use Rattle.pc_base.specs.declared.actor.ActorId.TheVariants as actors
 use Rattle.pc_base.specs.declared.entry.Entry.{Entry}
 use Rattle.pc_desk.specs.Asks.{ReadsClock, asks_in, is_ask}
-use Rattle.pc_desk.specs.Keeping.{EachAfter, KeepsAs, KeepsNext, ReadsEach}
-use Rattle.pc_desk.specs.OwnLog.{IsNoRange, IsOwnLog, LogMeaning, is_last}
+use Rattle.pc_desk.specs.Keeping.{EachAfter, KeepsAs, KeepsNext, KeepsOverQuiet, ReadsEach, Terms}
+use Rattle.pc_desk.specs.OwnLog.{IsNoRange, IsOwnLog, LogMeaning, is_last, terms_of}
 use Rattle.pc_desk.specs.Waves.{KeepsWavesNext}
 use Rattle.pc_follows.specs.PipelinedRounds.{MakesRounds}
 use Rattle.pc_follows.specs.Proving.{HearsNothingBehind, WritesLast}
 use Rattle.pc_history.specs.declared.pair.Pair.{Pair}
-use Rattle.pc_history.specs.declared.view.Known.{Known as KnownEntry}
 use Rattle.pc_history.specs.Closed.{IsSound, StandsInHistory}
 use Rattle.pc_history.specs.Own.{pair}
-use Rattle.pc_history.specs.Parts.{acted, entry_of, knowledge, named_by}
+use Rattle.pc_history.specs.Parts.{acted, entry_of, gave, knowledge, named_by}
 use Rattle.pc_lists.proofs.Counts.{count-push, one_if}
 use Rattle.pc_proto.specs.declared.call.Call.{Call}
 use Rattle.pc_proto.specs.declared.event.Event.{Event}
@@ -54,8 +53,8 @@ asks_beside true k call reading = tt
 asks_beside false k call reading = tt
 
 -- a call that is asked keeps what is asked of it
-pub ask_keeps : (id : ActorId) (splits : List (List ℕ)) (pipelining : Bool) (own : List (Pair Event)) (call : Call) (reading : ℕ) → KeepsAs id splits pipelining own (events.Ask call reading) None
-ask_keeps (actors.Session number) splits pipelining own call reading = record {
+ask-quiet : (splits : List (List ℕ)) (pipelining : Bool) (own : List (Pair Event)) (call : Call) (reading : ℕ) → KeepsOverQuiet splits pipelining own (events.Ask call reading) None
+ask-quiet splits pipelining own call reading = record {
   wire = tt;
   early_tell = tt;
   early_proof = tt;
@@ -84,8 +83,11 @@ ask_keeps (actors.Session number) splits pipelining own call reading = record {
   piece_order = tt;
   oldest = tt;
 }
-ask_keeps (actors.Recoverer number) splits pipelining own call reading = tt
-ask_keeps (actors.Range range) splits pipelining own call reading = tt
+
+pub ask_keeps : (id : ActorId) (splits : List (List ℕ)) (terms : Terms) (own : List (Pair Event)) (call : Call) (reading : ℕ) → KeepsAs id splits terms own (events.Ask call reading) None
+ask_keeps (actors.Session number) splits terms own call reading = record { wire = tt; losses = tt; quiet = λ none. ask-quiet splits terms.pipelining own call reading }
+ask_keeps (actors.Recoverer number) splits terms own call reading = tt
+ask_keeps (actors.Range range) splits terms own call reading = tt
 
 -- what asks no call reads no clock
 pub no_ask_reads : (rule : ℕ → ℕ → Bool) (asks : ℕ) (event : Event) → is_ask event ≡ false → ReadsClock rule asks event
@@ -112,7 +114,7 @@ grown step event last spare clock l = record l { part = acted (protocol l.head) 
 
 -- one more entry of the actor
 pub log_grown : {C : Type 0} (l : LogMeaning C) (step spare : ℕ) (clock : C) (event : Event) (last : Bool) → IsOwnLog l → l.stopped ≡ false → length l.part.own < l.limit → last ≡ is_last l.stop (length l.part.own)
-    → KeepsNext l.part.id l.head.splits l.pipelining l.part.own event (named_by (protocol l.head) l.part event)
+    → KeepsNext l.part.id l.head.splits (terms_of l) l.part.own event (named_by (protocol l.head) l.part event)
     → KeepsWavesNext l.beside l.part.own event (named_by (protocol l.head) l.part event)
     → IsSound (protocol l.head) (knowledge (acted (protocol l.head) step event l.part))
     → StandsInHistory (protocol l.head) (acted (protocol l.head) step event l.part)
@@ -124,9 +126,10 @@ log_grown l step spare clock event last log going below is keeps waves sound sta
       there = log.there;
       client = log.client;
       whose = All-push (λ (q : Pair Event). q.entry.actor ≡ l.part.id) l.part.own p log.whose refl;
+      tries = log.tries;
       short = log.short;
       within = omega arith;
-      keeps = each_after_push (λ before q. KeepsNext l.part.id l.head.splits l.pipelining before q.entry.event q.named) [] l.part.own p log.keeps keeps;
+      keeps = each_after_push (λ before q. KeepsNext l.part.id l.head.splits (terms_of l) before q.entry.event q.named) [] l.part.own p log.keeps keeps;
       waves = each_after_push (λ before q. KeepsWavesNext l.beside before q.entry.event q.named) [] l.part.own p log.waves waves;
       before_stop = λ goes_on. subst (λ n. IfSome l.stop (λ s. n < s)) (sym long) (not-last l.stop (length l.part.own) (log.before_stop going) (sym is ∙ goes_on));
       at_stop = subst (λ n. IfSome l.stop (λ s. n ≤ s)) (sym long) (last-at l.stop (length l.part.own) (log.before_stop going));
@@ -134,37 +137,22 @@ log_grown l step spare clock event last log going below is keeps waves sound sta
       stands = stands;
     }
 
--- the list with these in place of its own
-abbrev made : {C : Type 0} → LogMeaning C → Head → ActorId → List (Pair Event) → List (KnownEntry Event) → Bool → Bool → ℕ → Option ℕ → LogMeaning C
-made m h i o k p b n s = record m { head = h; part = record m.part { id = i; own = o; known = k }; pipelining = p; beside = b; limit = n; stop = s }
-
--- what neither makes an entry nor takes a note leaves the list as it was; it may stop it
-pub log_kept : {C : Type 0} (l m : LogMeaning C) → m.head ≡ l.head → m.part.id ≡ l.part.id → m.part.own ≡ l.part.own → m.part.known ≡ l.part.known → m.pipelining ≡ l.pipelining → m.beside ≡ l.beside → m.limit ≡ l.limit → m.stop ≡ l.stop
-    → (m.stopped ≡ false → l.stopped ≡ false) → IsOwnLog l → IsOwnLog m
-log_kept l m eh ei eo ek ep eb en es going log =
-    subst (λ x. IsOwnLog (made m x m.part.id m.part.own m.part.known m.pipelining m.beside m.limit m.stop)) (sym eh)
-    (subst (λ x. IsOwnLog (made m l.head x m.part.own m.part.known m.pipelining m.beside m.limit m.stop)) (sym ei)
-    (subst (λ x. IsOwnLog (made m l.head l.part.id x m.part.known m.pipelining m.beside m.limit m.stop)) (sym eo)
-    (subst (λ x. IsOwnLog (made m l.head l.part.id l.part.own x m.pipelining m.beside m.limit m.stop)) (sym ek)
-    (subst (λ x. IsOwnLog (made m l.head l.part.id l.part.own l.part.known x m.beside m.limit m.stop)) (sym ep)
-    (subst (λ x. IsOwnLog (made m l.head l.part.id l.part.own l.part.known l.pipelining x m.limit m.stop)) (sym eb)
-    (subst (λ x. IsOwnLog (made m l.head l.part.id l.part.own l.part.known l.pipelining l.beside x m.stop)) (sym en)
-    (subst (λ x. IsOwnLog (made m l.head l.part.id l.part.own l.part.known l.pipelining l.beside l.limit x)) (sym es) start)))))))
-  where
-    start : IsOwnLog (made m l.head l.part.id l.part.own l.part.known l.pipelining l.beside l.limit l.stop)
-    start = record {
-      there = log.there;
-      client = log.client;
-      whose = log.whose;
-      short = log.short;
-      within = log.within;
-      keeps = log.keeps;
-      waves = log.waves;
-      before_stop = λ goes_on. log.before_stop (going goes_on);
-      at_stop = log.at_stop;
-      sound = log.sound;
-      stands = record { history = log.stands.history; short = log.stands.short; fine = log.stands.fine; list = log.stands.list; stand = log.stands.stand };
-    }
+-- uses that were given leave the list as it was
+pub log_gave : {C : Type 0} (l : LogMeaning C) (place uses : ℕ) → IsOwnLog l → IsOwnLog (record l { part = gave place uses l.part })
+log_gave l place uses log = record {
+  there = log.there;
+  client = log.client;
+  whose = log.whose;
+  tries = log.tries;
+  short = log.short;
+  within = log.within;
+  keeps = log.keeps;
+  waves = log.waves;
+  before_stop = log.before_stop;
+  at_stop = log.at_stop;
+  sound = log.sound;
+  stands = record { history = log.stands.history; short = log.stands.short; fine = log.stands.fine; list = log.stands.list; stand = log.stands.stand };
+}
 
 -- one more entry, which read the clock if it asked a call
 pub reads_grown : (rule : ℕ → ℕ → Bool) (own : List (Pair Event)) (p : Pair Event) → ReadsEach rule own → ReadsClock rule (asks_in own) p.entry.event → ReadsEach rule (own ++ p ∷ [])

@@ -1,5 +1,5 @@
 -- Puts wait for a wave only while a call is open.
-use Rattle.std.proofs.Common.{◌≡◌, ℕ, ◌+◌, ◌==◌, ◌||◌, Bool, true, false, is_some, All, Contains, List, [], Option, Some, length, refl, sym, ap, subst, ◌∙◌, arith}
+use Rattle.std.proofs.Common.{◌≡◌, ℕ, ◌+◌, ◌==◌, ◌||◌, Bool, true, false, is_some, All, Contains, List, [], ◌∷◌, Option, Some, length, refl, sym, ap, subst, ◌∙◌, arith}
 use Rattle.std.proofs.lemmas.Bool.{eq-eqb, eqb-true}
 use Rattle.std.proofs.lemmas.List.Elements.{All-contains, All-head, All-tail}
 use Rattle.std.specs.List.{list_any}
@@ -7,10 +7,10 @@ use Rattle.pc_desk.proofs.Counting.{none_beyond, said_new}
 use Rattle.pc_desk.proofs.Ending.{any_there}
 use Rattle.pc_desk.proofs.Making.{known_after_it, sent_then}
 use Rattle.pc_desk.specs.declared.answered.Answered.{Answered}
-use Rattle.pc_desk.specs.Desk.{DeskMeaning, HasKept, HasSentNext, HasTakenFirst, KeepsTrack, Posted, is_on_way, times_sent}
+use Rattle.pc_desk.specs.Desk.{DeskMeaning, HasSentNext, KeepsTrack, Posted, is_on_way, times_sent}
 use Rattle.pc_desk.specs.Ending.{PostsInCall, PutsInCall}
 use Rattle.pc_desk.specs.OwnLog.{LogMeaning}
-use Rattle.pc_history.specs.declared.view.Known.{Known as KnownEntry}
+use Rattle.pc_history.specs.declared.pair.Pair.{Pair}
 use Rattle.pc_lists.proofs.Lists.{all_from_contains}
 use Rattle.pc_proto.specs.declared.event.Event.{Event}
 use Rattle.pc_proto.specs.declared.event.Event.TheVariants as events
@@ -30,20 +30,19 @@ or-false false = refl
 some-same : (a b : Request) → ◌≡◌ {A = Option Request} (Some a) (Some b) → a ≡ b
 some-same a b is = cc is
 
-module _ {C : Type 0} (old mid : DeskMeaning C) (m : Posted) (taken : HasTakenFirst old mid m) (all : PostsInCall old) where
+module _ {C : Type 0} (old : DeskMeaning C) (m : Posted) (rest : List Posted) (first : old.posted ≡ m ∷ rest) (all : PostsInCall old) where
   abbrev IsSo : Posted → Type 0
   IsSo p = PutsInCall (known_of old.log.part.own) p.request
 
   -- of the message that was taken
   pub first_in_call : PutsInCall (known_of old.log.part.own) m.request
-  first_in_call = All-head IsSo m mid.posted (subst (All IsSo) taken.first all)
+  first_in_call = All-head IsSo m rest (subst (All IsSo) first all)
 
-  -- of those that are left once its reply is kept
-  pub left_in_call : (new : DeskMeaning C) (a : Answered) (note : List (KnownEntry Event)) → HasKept mid new a note → PostsInCall new
-  left_in_call new a note kept =
-      let left : All IsSo mid.posted = All-tail IsSo m mid.posted (subst (All IsSo) taken.first all) in
-      let here : PostsInCall mid = subst (λ (d : DeskMeaning C). All (λ (p : Posted). PutsInCall (known_of d.log.part.own) p.request) mid.posted) (sym taken.rest) left in
-      subst PostsInCall (sym kept.kept) here
+  -- of those that are left
+  pub left_in_call : (new : DeskMeaning C) → new.posted ≡ rest → new.log.part.own ≡ old.log.part.own → PostsInCall new
+  left_in_call new same own =
+      subst (λ (o : List (Pair Event)). All (λ (p : Posted). PutsInCall (known_of o) p.request) new.posted) (sym own)
+      (subst (All IsSo) (sym same) (All-tail IsSo m rest (subst (All IsSo) first all)))
 
 -- The actor sent one message.
 module _ {C : Type 0} (old mid : DeskMeaning C) (number : ℕ) (request : Request) (sent : HasSentNext old mid number request) where

@@ -10,7 +10,7 @@ use Rattle.pc_desk.proofs.Places.{places_grown}
 use Rattle.pc_desk.specs.Asks.{ReadsClock, asks_in, is_ask}
 use Rattle.pc_desk.specs.Commits.{HasCommitPlaces, KeepsPlace, commit_told_by}
 use Rattle.pc_desk.specs.Keeping.{KeepsNext, ReadsEach}
-use Rattle.pc_desk.specs.OwnLog.{HasEntered, HasMadeEntry, HasStopped, IsOwnLog, IsReady, LogMeaning, is_last, with_event}
+use Rattle.pc_desk.specs.OwnLog.{HasEntered, HasMadeEntry, HasStopped, IsOwnLog, IsReady, LogMeaning, is_last, terms_of, with_event}
 use Rattle.pc_desk.specs.Waves.{KeepsWavesNext}
 use Rattle.pc_history.specs.declared.pair.Pair.{Pair}
 use Rattle.pc_history.specs.declared.view.Part.{Part}
@@ -20,6 +20,7 @@ use Rattle.pc_history.specs.Own.{pair}
 use Rattle.pc_history.specs.Parts.{acted, entry_of, knowledge, named_by}
 use Rattle.pc_lists.proofs.Counts.{one_if}
 use Rattle.pc_proto.specs.declared.event.Event.{Event}
+use Rattle.pc_wire.specs.Verdicts.{WireRule}
 use Rattle.pc_world.specs.Local.{Head}
 use Rattle.pc_world.specs.Run.{protocol}
 
@@ -43,20 +44,20 @@ pub has_made : {E : Type 0} (actor after : ActorMeaning Head Event) (event : Eve
 has_made actor after event places later (Ok step) wanting is none stored above small sound stands kept = (step, record { stored = stored; above = above; small = small; sound = sound; stands = stands; kept = kept })
 has_made actor after event places later (Err e) wanting is none stored above small sound stands kept = absurd (let e : true ≡ false = sym is ∙ none in cc e)
 
-module _ {C : Type 0} (old ready : LogMeaning C) (actor after : ActorMeaning Head Event) (was now : C) (pipelining beside : Bool) (limit : ℕ) (stop : Option ℕ) (stopped last : Bool) (step : ℕ) (event : Event) where
+module _ {C : Type 0} (old ready : LogMeaning C) (actor after : ActorMeaning Head Event) (was now : C) (wire : WireRule) (tries : ℕ) (pipelining beside : Bool) (limit : ℕ) (stop : Option ℕ) (stopped last : Bool) (step : ℕ) (event : Event) where
   -- The list before.
   abbrev pub before_it : LogMeaning C
-  before_it = record { head = actor.world; part = actor.part; spare = actor.spare; clock = was; pipelining = pipelining; beside = beside; limit = limit; stop = stop; stopped = stopped }
+  before_it = record { head = actor.world; part = actor.part; spare = actor.spare; clock = was; wire = wire; tries = tries; pipelining = pipelining; beside = beside; limit = limit; stop = stop; stopped = stopped }
 
   -- The list after.
   abbrev pub after_it : ActorMeaning Head Event → LogMeaning C
-  after_it a = record { head = a.world; part = a.part; spare = a.spare; clock = now; pipelining = pipelining; beside = beside; limit = limit; stop = stop; stopped = last }
+  after_it a = record { head = a.world; part = a.part; spare = a.spare; clock = now; wire = wire; tries = tries; pipelining = pipelining; beside = beside; limit = limit; stop = stop; stopped = last }
 
   as-it-was : before_it ≡ ready → IsReady old ready last → record old { spare = ready.spare } ≡ before_it
   as-it-was view is = sym (view ∙ is.same)
 
   log-at : (v : LogMeaning C) (spare : ℕ) → record old { spare = spare } ≡ v → old.stopped ≡ false → length old.part.own < old.limit → last ≡ is_last old.stop (length old.part.own)
-      → KeepsNext old.part.id old.head.splits old.pipelining old.part.own event (named_by (protocol old.head) old.part event)
+      → KeepsNext old.part.id old.head.splits (terms_of old) old.part.own event (named_by (protocol old.head) old.part event)
       → KeepsWavesNext old.beside old.part.own event (named_by (protocol old.head) old.part event)
       → IsOwnLog v → (left : ℕ)
       → IsSound (protocol v.head) (knowledge (acted (protocol v.head) step event v.part))
@@ -68,7 +69,7 @@ module _ {C : Type 0} (old ready : LogMeaning C) (actor after : ActorMeaning Hea
       (λ l s t. log_grown (record old { spare = spare }) step left now event last l going below is keeps waves s t) log sound stands
 
   pub made_log : before_it ≡ ready → IsReady old ready last → IsOwnLog before_it
-      → KeepsNext old.part.id old.head.splits old.pipelining old.part.own event (named_by (protocol old.head) old.part event)
+      → KeepsNext old.part.id old.head.splits (terms_of old) old.part.own event (named_by (protocol old.head) old.part event)
       → KeepsWavesNext old.beside old.part.own event (named_by (protocol old.head) old.part event)
       → after ≡ doing step event actor → IsSound (protocol actor.world) (knowledge after.part) → StandsInHistory (protocol actor.world) after.part
       → IsOwnLog (after_it after)

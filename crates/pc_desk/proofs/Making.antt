@@ -9,7 +9,7 @@ use Rattle.pc_desk.proofs.Entering.{local_does}
 use Rattle.pc_desk.specs.declared.answered.Answered.{Answered}
 use Rattle.pc_desk.specs.Desk.{IsAnsweredBy, MaySendNow, MaySendTo, heard_as_number}
 use Rattle.pc_desk.specs.Keeping.{KeepsNext}
-use Rattle.pc_desk.specs.OwnLog.{HasEntered, IsOwnLog, LogMeaning, MayEnter}
+use Rattle.pc_desk.specs.OwnLog.{HasEntered, IsOwnLog, LogMeaning, MayEnter, terms_of}
 use Rattle.pc_history.proofs.Callers.{knows-known, names-known}
 use Rattle.pc_history.specs.declared.pair.Pair.{Pair}
 use Rattle.pc_history.specs.Own.{pair}
@@ -69,7 +69,7 @@ module _ {C : Type 0} (l : LogMeaning C) (a : Answered) (log : IsOwnLog l) (by :
 
   -- a reply that none was heard of yet may be heard
   pub may_hear : heard_as_number a.number (known_of l.part.own) ≡ 0
-      → KeepsNext l.part.id l.head.splits l.pipelining l.part.own (events.Hear a.number a.step) (Some answer_of)
+      → KeepsNext l.part.id l.head.splits (terms_of l) l.part.own (events.Hear a.number a.step) (Some answer_of)
       → MayEnter l (events.Hear a.number a.step)
   may_hear none keeps = record {
     local =
@@ -81,7 +81,7 @@ module _ {C : Type 0} (l : LogMeaning C) (a : Answered) (log : IsOwnLog l) (by :
     caused = (knows-it.0, answer_of, knows-it.1, knows-it.2, record { at = refl; eval = (refl, refl) });
     free = refl;
     no_ask = refl;
-    keeps = subst (λ named. KeepsNext l.part.id l.head.splits l.pipelining l.part.own (events.Hear a.number a.step) named) (sym hear_names_it) keeps;
+    keeps = subst (λ named. KeepsNext l.part.id l.head.splits (terms_of l) l.part.own (events.Hear a.number a.step) named) (sym hear_names_it) keeps;
   }
 
 -- ---- what the actor knows then

@@ -11,10 +11,11 @@ use Rattle.std.specs.Map.{lookup, remove_entry}
 use Rattle.std.specs.Ordering.{is_eq, nat_cmp}
 use Rattle.pc_desk.proofs.Counting.{any_counts, insert_all, insert_contains, insert_count, said_once}
 use Rattle.pc_desk.proofs.Desking.{each_under, posted_count}
+use Rattle.pc_desk.proofs.Staying.{ComesBehind, HasMore, bag_on, every_repeated, every_unheard}
 use Rattle.pc_desk.specs.Aside.{HasJoinedWave, HasChangedPlace, HasSetAside, with_one}
 use Rattle.pc_desk.specs.declared.answered.Answered.{Answered}
 use Rattle.pc_desk.specs.Desk.{DeskMeaning, WasSetAside, IsDesk, IsOneSent, IsReadyToGo, KeepsTrack, Posted, WaitInTurn, WaitingMessage, answered_as, is_on_way, posted_as}
-use Rattle.pc_desk.specs.OwnLog.{LogMeaning}
+use Rattle.pc_desk.specs.OwnLog.{LogMeaning, verdict_of}
 use Rattle.pc_desk.specs.Waiting.{EndsUnheard, WaitInWave}
 use Rattle.pc_lists.proofs.Counts.{count-cons, one_if}
 use Rattle.pc_lists.proofs.Lists.{all_from_contains, contains_head, contains_tail}
@@ -132,16 +133,22 @@ module _ {C : Type 0} (old : DeskMeaning C) (posted later : List Posted) (track 
   abbrev moved-to : DeskMeaning C
   moved-to = record old { posted = posted; later = later }
 
+  more : HasMore old moved-to
+  more = record { log = record { wire = refl; id = refl; known = λ e there. there }; sent = λ m one. one; bag = λ m late. late }
+
   track-moved : ((n : ℕ) → posted_as n posted + posted_as n later ≡ posted_as n old.posted + posted_as n old.later) → All (IsOneSent k.sent) posted → All (WasSetAside k.sent) later → WaitInTurn old.replies posted → WaitInWave old.log.beside old.log.part.own posted old.replies
-      → KeepsTrack moved-to
-  track-moved sums waits aside turn wave = record {
+      → All (ComesBehind old.lost) posted → KeepsTrack moved-to
+  track-moved sums waits aside turn wave behind = record {
     log = track.log;
     counted = track.counted;
     numbers = track.numbers;
     once = track.once;
-    dropped = track.dropped;
-    strays = track.strays;
+    unheard = track.unheard;
+    each_unheard = every_unheard old moved-to more track.unheard track.each_unheard;
     stages = λ n. omega (arith, sums n, track.stages n);
+    repeated = every_repeated old moved-to more (λ m one. one) sums track.repeated;
+    late = bag_on old moved-to more sums track.late;
+    lost = record { rising = track.lost.rising; each = track.lost.each; behind = behind; unanswered = track.lost.unanswered };
     posted = all_from_contains (λ (m : Posted). request_sent m.number k.sent ≡ Some m.request) posted (λ m there. said_once k.sent (record { number = m.number; range = m.range; request = m.request }) (All-contains (IsOneSent k.sent) posted m waits there) (track.once m.number));
     waits = waits;
     aside = aside;
@@ -203,12 +210,13 @@ module _ {C : Type 0} (old : DeskMeaning C) (posted later : List Posted) (track 
             unheard = all_from_contains (λ (m : Posted). EndsUnheard old.log.part.own) posted (λ m there. All-contains (λ (m : Posted). EndsUnheard old.log.part.own) old.posted m track.wave.unheard (moved.left m there));
             order = track.wave.order;
             heard = track.wave.heard;
-          });
+          })
+          (all_from_contains (ComesBehind old.lost) posted (λ m there. All-contains (ComesBehind old.lost) old.posted m track.lost.behind (moved.left m there)));
       way = way-aside;
     }
 
   -- the message that was set aside waits for the next wave
-  module _ (number : ℕ) (moved : HasChangedPlace number old.later later old.posted posted) (none : old.replies ≡ []) (unheard : EndsUnheard old.log.part.own) (there : 1 ≤ posted_as number old.later) where
+  module _ (number : ℕ) (moved : HasChangedPlace number old.later later old.posted posted) (none : old.replies ≡ []) (no_lost : old.lost ≡ []) (unheard : EndsUnheard old.log.part.own) (there : 1 ≤ posted_as number old.later) where
     sent-now : (m : Posted) → Contains old.posted m ⊎ (Contains old.later m × (m.number ≡ number)) → IsOneSent k.sent m
     sent-now m (inl before) = All-contains (IsOneSent k.sent) old.posted m track.waits before
     sent-now m (inr (was, same)) = (All-contains (WasSetAside k.sent) old.later m track.aside was).one
@@ -248,7 +256,8 @@ module _ {C : Type 0} (old : DeskMeaning C) (posted later : List Posted) (track 
             unheard = all_from_contains (λ (m : Posted). EndsUnheard old.log.part.own) posted (λ m now. unheard);
             order = track.wave.order;
             heard = track.wave.heard;
-          });
+          })
+          (subst (λ (ns : List ℕ). All (ComesBehind ns) posted) (sym no_lost) (all_from_contains (ComesBehind []) posted (λ m now. All-nil (λ (n : ℕ). n < m.number))));
       way = way-joined;
     }
 
@@ -273,7 +282,7 @@ module _ {C M : Type 0} (splits : List (List ℕ)) (log : LogMeaning C) (f : ℕ
     same = there.same;
     rising = there.rising;
     few = there.few;
-    ready = All-map-remove_entry (is_at (nat_cmp number)) g (IsReadyToGo log.part.id log.head.splits) from there.ready;
+    ready = All-map-remove_entry (is_at (nat_cmp number)) g (IsReadyToGo log.part.id log.head.splits (verdict_of log)) from there.ready;
   })
 
   module _ (free : lookup (is_at (nat_cmp number)) to ≡ None) (is : put ≡ with_one number (lookup (is_at (nat_cmp number)) from) to) where
@@ -287,7 +296,7 @@ module _ {C M : Type 0} (splits : List (List ℕ)) (log : LogMeaning C) (f : ℕ
           same = other.same;
           rising = other.rising;
           few = other.few;
-          ready = insert_all g number w (IsReadyToGo log.part.id log.head.splits) to free other.ready (All-contains (IsReadyToGo log.part.id log.head.splits) (map g from) (g (number, w)) there.ready (found_there g number from w found));
+          ready = insert_all g number w (IsReadyToGo log.part.id log.head.splits (verdict_of log)) to free other.ready (All-contains (IsReadyToGo log.part.id log.head.splits (verdict_of log)) (map g from) (g (number, w)) there.ready (found_there g number from w found));
         }
 
     one-moved : 1 ≤ posted_as number (map f from) → posted_as number (map f from) ≤ 1 → HasChangedPlace number (map f from) (map f left) (map f to) (map f put)
@@ -295,7 +304,7 @@ module _ {C M : Type 0} (splits : List (List ℕ)) (log : LogMeaning C) (f : ℕ
         let each = each_under splits log g (λ e. (f e).number) (λ e. ap (λ (p : Posted). p.number) (same_message e)) keyed from number there in
         let found = some_under (λ e. (f e).number) number from each (subst (λ n. 1 ≤ n) (posted_count f from number) some') in
         let w = found.0 in
-        let ready = All-contains (IsReadyToGo log.part.id log.head.splits) (map g from) (g (number, w)) there.ready (found_there g number from w found.1) in
+        let ready = All-contains (IsReadyToGo log.part.id log.head.splits (verdict_of log)) (map g from) (g (number, w)) there.ready (found_there g number from w found.1) in
         let numbered : (f (number, w)).number ≡ number = sym (ap (λ (p : Posted). p.number) (same_message (number, w))) ∙ (sym ready.numbered ∙ keyed (number, w)) in
         subst (λ es. HasChangedPlace number (map f from) (map f es) (map f to) (map f put)) (sym gone)
         (subst (λ es. HasChangedPlace number (map f from) (map f (remove_entry (is_at (nat_cmp number)) from)) (map f to) (map f es)) (sym is) (has_moved f number from to w found.1 free numbered once))
@@ -310,10 +319,10 @@ module _ {C M : Type 0} (splits : List (List ℕ)) (log : LogMeaning C) (f : ℕ
         set_aside-at old (map f left) (map f put) track number (subst (λ ls. HasChangedPlace number old.posted (map f left) ls (map f put)) (sym l) (subst (λ ps. HasChangedPlace number ps (map f left) (map f to) (map f put)) (sym p) moved)) puts some') posted later
 
     -- it waits again
-    pub has_joined : (v old : DeskMeaning C) → v ≡ old → v.later ≡ map f from → v.posted ≡ map f to → KeepsTrack old → old.replies ≡ [] → EndsUnheard old.log.part.own → 1 ≤ posted_as number old.later
+    pub has_joined : (v old : DeskMeaning C) → v ≡ old → v.later ≡ map f from → v.posted ≡ map f to → KeepsTrack old → old.replies ≡ [] → old.lost ≡ [] → EndsUnheard old.log.part.own → 1 ≤ posted_as number old.later
         → HasJoinedWave old (record v { posted = map f put; later = map f left }) number
-    has_joined v old same later posted track none unheard some' =
+    has_joined v old same later posted track none no_lost unheard some' =
         subst (λ (d : DeskMeaning C). d.later ≡ map f from → d.posted ≡ map f to → HasJoinedWave old (record d { posted = map f put; later = map f left }) number) (sym same) (λ l p.
         let low : posted_as number old.later ≤ 1 = (let s = track.stages number in let o = track.once number in omega arith) in
         let moved = one-moved (subst (λ ps. 1 ≤ posted_as number ps) l some') (subst (λ ps. posted_as number ps ≤ 1) l low) in
-        joined-at old (map f put) (map f left) track number (subst (λ ps. HasChangedPlace number old.later (map f left) ps (map f put)) (sym p) (subst (λ ls. HasChangedPlace number ls (map f left) (map f to) (map f put)) (sym l) moved)) none unheard some') later posted
+        joined-at old (map f put) (map f left) track number (subst (λ ps. HasChangedPlace number old.later (map f left) ps (map f put)) (sym p) (subst (λ ls. HasChangedPlace number ls (map f left) (map f to) (map f put)) (sym l) moved)) none no_lost unheard some') later posted

@@ -20,14 +20,15 @@ use Rattle.pc_range.specs.Message.{IsFullNote, IsSendNote, sending}
 use Rattle.pc_world.specs.Known.Traffic.{Sent}
 
 -- a range's fault gives back what it was given
-pub given_back : {N : Type 0} {G : Ghosts N CommitWorld} (limit : ℕ) (msg : Message N G) (fault : ServeFault N G) → IsFullAt msg.range limit msg fault → GivesBack limit msg.sender (posting msg.number msg.range msg.request (uses_left msg.note.known)) fault
-given_back {N} {G} limit msg (faults.Full at last message) full =
-    (full.0, full.1, ap (λ (m : Message N G). m.sender) full.2, ap (λ (m : Message N G). posting m.number m.range m.request (uses_left m.note.known)) full.2)
-given_back limit msg faults.NoMemory full = tt
+pub given_back : {N : Type 0} {G : Ghosts N CommitWorld} (limit uses : ℕ) (msg : Message N G) (fault : ServeFault N G) → 1 ≤ uses_left msg.note.known → IsFullAt msg.range limit msg fault → GivesBack limit msg.sender (posting msg.number msg.range msg.request uses) fault
+given_back {N} {G} limit uses msg (faults.Full at last message) left full =
+    (full.0, full.1, ap (λ (m : Message N G). m.sender) full.2, ap (λ (m : Message N G). posting m.number m.range m.request uses) full.2, subst (λ (m : Message N G). 1 ≤ uses_left m.note.known) (sym full.2) left)
+given_back limit uses msg faults.NoMemory left full = tt
 
 -- it gives back what this sender sent
-pub sent_back : {N : Type 0} {G : Ghosts N CommitWorld} (limit : ℕ) (sender : ActorId) (msg : Message N G) (fault : ServeFault N G) → msg.sender ≡ sender → IsFullAt msg.range limit msg fault → GivesBack limit sender (posting msg.number msg.range msg.request (uses_left msg.note.known)) fault
-sent_back limit sender msg fault whose full = subst (λ i. GivesBack limit i (posting msg.number msg.range msg.request (uses_left msg.note.known)) fault) whose (given_back limit msg fault full)
+pub sent_back : {N : Type 0} {G : Ghosts N CommitWorld} (limit uses : ℕ) (sender : ActorId) (msg : Message N G) (fault : ServeFault N G) → msg.sender ≡ sender → 1 ≤ uses_left msg.note.known → IsFullAt msg.range limit msg fault
+    → GivesBack limit sender (posting msg.number msg.range msg.request uses) fault
+sent_back limit uses sender msg fault whose left full = subst (λ i. GivesBack limit i (posting msg.number msg.range msg.request uses) fault) whose (given_back limit uses msg fault left full)
 
 -- What a note of a message's sending tells.
 record Tells (sender : ActorId) (number range : ℕ) (request : Request) (note : List (KnownEntry Event)) : Type 0 where
@@ -40,7 +41,7 @@ tells-it sender number range request [] some is = absurd cc
 tells-it sender number range request (k ∷ ks) some is = record { step = k.entry.step; place = k.place; is = is }
 
 module _ {N : Type 0} {G : Ghosts N CommitWorld} (limit : ℕ) (part : Part Event) (m : Posted) (message : Message N G) (last before : List (KnownEntry Event)) (known : part.known ≡ before ++ (last ++ message.note.known)) (full : IsFullNote m.range limit last) (whose : message.sender ≡ part.id)
-    (is : posting message.number message.range message.request (uses_left message.note.known) ≡ m) (some : 1 ≤ m.uses) where
+    (is : posting message.number message.range message.request m.uses ≡ m) (left : 1 ≤ uses_left message.note.known) where
   it-knows : (k : KnownEntry Event) → Contains (last ++ message.note.known) k → Contains part.known k
   it-knows k there = subst (λ l. Contains l k) (sym known) (Contains-append_right before (last ++ message.note.known) k there)
 
@@ -52,9 +53,6 @@ module _ {N : Type 0} {G : Ghosts N CommitWorld} (limit : ℕ) (part : Part Even
         knows = it-knows k (Contains-append_left last message.note.known k (subst (λ l. Contains l k) (sym full.tells) (contains_head k [])));
         full = record { entry = full.entry; place = full.place; tells = refl; whose = full.whose; many = full.many };
       }
-
-  left : 1 ≤ uses_left message.note.known
-  left = subst (λ n. 1 ≤ n) (ap (λ (p : Posted). p.uses) (sym is)) some
 
   tells : Tells message.sender message.number message.range message.request message.note.known
   tells = tells-it message.sender message.number message.range message.request message.note.known left message.noted
@@ -75,7 +73,7 @@ module _ {N : Type 0} {G : Ghosts N CommitWorld} (limit : ℕ) (part : Part Even
           place = tells.place;
           uses = uses_left message.note.known;
           some = left;
-          knows = subst (λ p. Knows part.id p) is (subst (λ i. Knows i (posting message.number message.range message.request (uses_left message.note.known))) whose there);
+          knows = subst (λ p. Knows part.id p) is (subst (λ i. Knows i (posting message.number message.range message.request m.uses)) whose there);
         };
       }
 

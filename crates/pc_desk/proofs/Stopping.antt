@@ -4,18 +4,19 @@ use Rattle.std.proofs.lemmas.List.Elements.{All-weaker}
 use Rattle.pc_base.specs.declared.entry.Entry.{Entry}
 use Rattle.pc_desk.proofs.Desking.{ends_with_send, has_done, has_heard, has_sent, sent_below, there_still}
 use Rattle.pc_desk.proofs.Ending.{all_wait, not_lost}
-use Rattle.pc_desk.proofs.Entering.{log_kept}
+use Rattle.pc_desk.proofs.Entering.{log_gave}
+use Rattle.pc_desk.proofs.Staying.{HasMore, answered_on, bag_on, every_repeated, every_unheard, lost_same}
 use Rattle.pc_desk.specs.declared.answered.Answered.{Answered}
 use Rattle.pc_desk.specs.declared.halt.Halt.{Halt}
 use Rattle.pc_desk.specs.declared.halt.Halt.TheVariants as halts
-use Rattle.pc_desk.specs.Desk.{DeskMeaning, EndsWithSend, HasHalted, HasPosted, IsAnsweredBy, IsStray, KeepsTrack}
+use Rattle.pc_desk.specs.Desk.{DeskMeaning, EndsWithSend, HasHalted, HasPosted, IsAnsweredBy, KeepsTrack, uses_by}
 use Rattle.pc_desk.specs.Ending.{EndsBy, EndsOnly, HasMadeLast, IsAtStop}
-use Rattle.pc_desk.specs.OwnLog.{HasEntered, HasMadeEntry, HasStopped, IsOwnLog, LogMeaning, with_event}
+use Rattle.pc_desk.specs.OwnLog.{HasEntered, HasMadeEntry, HasStopped, IsOwnLog, LogMeaning, verdict_of, with_event}
 use Rattle.pc_follows.specs.WaveEvaluation.{IsSending}
 use Rattle.pc_follows.specs.WaveOrder.{IsHearing}
 use Rattle.pc_history.specs.declared.pair.Pair.{Pair}
 use Rattle.pc_history.specs.Own.{pair}
-use Rattle.pc_history.specs.Parts.{acted, entry_of, gave, named_by, spend}
+use Rattle.pc_history.specs.Parts.{acted, entry_of, named_by, spend}
 use Rattle.pc_proto.specs.declared.event.Event.{Event}
 use Rattle.pc_proto.specs.declared.event.Event.TheVariants as events
 use Rattle.pc_proto.specs.declared.request.Request.{Request}
@@ -38,6 +39,7 @@ log_on l log = record {
   there = log.there;
   client = log.client;
   whose = log.whose;
+  tries = log.tries;
   short = log.short;
   within = log.within;
   keeps = log.keeps;
@@ -53,26 +55,28 @@ module _ {C : Type 0} (d : DeskMeaning C) (stop : Option ℕ) (stopped : Bool) w
   abbrev so : DeskMeaning C
   so = record d { log = record d.log { stop = stop; stopped = stopped } }
 
-  answered-so : (a : Answered) → IsAnsweredBy d.log a → IsAnsweredBy so.log a
-  answered-so a by = record { range = by.range; place = by.place; request = by.request; said = by.said; knows = by.knows }
-
   track-so : IsOwnLog so.log → KeepsTrack d → KeepsTrack so
-  track-so log track = record {
-    log = log;
-    counted = track.counted;
-    numbers = track.numbers;
-    once = track.once;
-    dropped = track.dropped;
-    strays = All-weaker (IsStray d.log) (IsStray so.log) (λ p stray. record { aside = stray.aside; step = stray.step; reply = stray.reply; place = stray.place; knows = stray.knows }) track.dropped track.strays;
-    stages = track.stages;
-    posted = track.posted;
-    waits = track.waits;
-    aside = track.aside;
-    answered = All-weaker (IsAnsweredBy d.log) (IsAnsweredBy so.log) answered-so d.replies track.answered;
-    turn = track.turn;
-    wave = track.wave;
-    given = track.given;
-  }
+  track-so log track =
+      let more : HasMore d so = record { log = record { wire = refl; id = refl; known = λ e there. there }; sent = λ m one. one; bag = λ m late. late } in
+      record {
+        log = log;
+        counted = track.counted;
+        numbers = track.numbers;
+        once = track.once;
+        unheard = track.unheard;
+        each_unheard = every_unheard d so more track.unheard track.each_unheard;
+        stages = track.stages;
+        repeated = every_repeated d so more (λ m one. one) (λ n. refl) track.repeated;
+        late = bag_on d so more (λ n. refl) track.late;
+        lost = lost_same d so track.lost refl refl refl refl (λ n. refl) (λ n. refl);
+        posted = track.posted;
+        waits = track.waits;
+        aside = track.aside;
+        answered = All-weaker (IsAnsweredBy d.log) (IsAnsweredBy so.log) (λ a. answered_on d.log so.log more.log a (λ r said. said)) d.replies track.answered;
+        turn = track.turn;
+        wave = track.wave;
+        given = track.given;
+      }
 
 pub track_on : {C : Type 0} (d : DeskMeaning C) → KeepsTrack d → KeepsTrack (desk_on d)
 track_on d track = track-so d None false (log_on d.log track.log) track
@@ -103,10 +107,6 @@ module _ {C : Type 0} (old new : LogMeaning C) (number range : ℕ) (request : R
 
   pub made_there : (splits : List (List ℕ)) → splits ≡ old.head.splits → range ≤ length splits → range ≤ length new.head.splits
   made_there splits same there = there_still (going_on old) (going_on new) (events.Send number range request) splits range on same there
-
--- the list once it gave a use of its last entry
-log_gave : {C : Type 0} (l m : LogMeaning C) → m ≡ record l { part = gave (length l.part.own - 1) 1 l.part } → IsOwnLog l → IsOwnLog m
-log_gave l m is log = subst IsOwnLog (sym is) (log_kept l (record l { part = gave (length l.part.own - 1) 1 l.part }) refl refl refl refl refl refl refl refl (λ going. going) log)
 
 -- ---- the last entry
 
@@ -189,7 +189,7 @@ module _ {C : Type 0} (old mid new : DeskMeaning C) (number range : ℕ) (reques
   pub last_sent : KeepsTrack old → old.replies ≡ [] → GoesTo old.log.head.splits request range → number ≡ old.sends + 1 → HasStopped Sends old.log mid.log → mid ≡ record old { log = mid.log; sends = number } → HasMadeLast Sends old new
   last_sent track none goes next s rest =
       let sent = has_sent (desk_on old) (desk_on mid) (desk_on new) number range request (track_on old track) none goes next (subst (HasEntered (going_on old.log) (going_on mid.log)) s.is (entered_on Sends old.log mid.log s)) (ap desk_on rest) posted-on in
-      made_last Sends old new mid.log s (ap spends s.is) gave-is (ap (λ (d : DeskMeaning C). d.range_limit) posted.rest ∙ ap (λ (d : DeskMeaning C). d.range_limit) rest) (track_back new (log_gave mid.log new.log posted.log s.log) sent.sent.track)
+      made_last Sends old new mid.log s (ap spends s.is) gave-is (ap (λ (d : DeskMeaning C). d.range_limit) posted.rest ∙ ap (λ (d : DeskMeaning C). d.range_limit) rest) (track_back new (subst IsOwnLog (sym posted.log) (log_gave mid.log (length mid.log.part.own - 1) (uses_by (verdict_of mid.log number)) s.log)) sent.sent.track)
 
   pub last_halts : HasStopped Sends old.log mid.log → HasHalted old new halts.Stopped
   last_halts s = record {

@@ -6,12 +6,15 @@ use Rattle.std.proofs.lemmas.List.Elements.{All-contains, All-head, All-nil, All
 use Rattle.std.specs.List.{list_any}
 use Rattle.pc_desk.proofs.Counting.{any_counts, counted_once, counts_any, sent_where_said}
 use Rattle.pc_desk.specs.declared.answered.Answered.{Answered}
-use Rattle.pc_desk.specs.Desk.{AreInTurn, DeskMeaning, IsAnsweredBy, WasSetAside, IsStray, KeepsTrack, Posted, WaitInTurn, answered_as, as_sent, heard_as_number, posted_as, times_sent}
+use Rattle.pc_desk.specs.Desk.{AreInTurn, DeskMeaning, IsAnsweredBy, IsOneSent, IsUnheard, KeepsTrack, Posted, WaitInTurn, answered_as, as_sent, heard_as_number, posted_as, times_sent, WasSetAside}
+use Rattle.pc_desk.specs.Keeping.{LosesNothing}
+use Rattle.pc_desk.specs.OwnLog.{verdict_of}
 use Rattle.pc_lists.proofs.Counts.{count-cons, one_if}
 use Rattle.pc_lists.proofs.Lists.{all_from_contains, contains_cons, contains_head, contains_nil, contains_tail}
 use Rattle.pc_proto.specs.Requests.{is_put}
 use Rattle.pc_follows.specs.OldestUnheard.{IsOldestUnheard}
 use Rattle.pc_follows.specs.WaveOrder.{IsHeardOrPut}
+use Rattle.pc_wire.specs.Verdicts.{is_losing}
 use Rattle.pc_world.specs.Known.{Known, known_of}
 use Rattle.pc_world.specs.Known.Traffic.{Heard, Sent}
 use Rattle.pc_world.specs.Tell.Refusal.{is_heard}
@@ -91,31 +94,37 @@ counted_has {X} n number (x ∷ xs) some = by (n x == number) refl (counted_has 
         let l = on (let c = count-cons (λ x. n x == number) x xs in let o = ap one_if is in omega arith) in
         (l.0, contains_tail x xs l.0 l.1, l.2)
 
--- a message whose number is among those that were set aside, or dropped, puts a write
-pub put_aside : {C : Type 0} (d : DeskMeaning C) (track : KeepsTrack d) (m : Sent) → Contains (known_of d.log.part.own).sent m → 1 ≤ posted_as m.number d.later + posted_as m.number track.dropped → is_put m.request ≡ true
-put_aside d track m there some = by (nat_lt 0 (posted_as m.number d.later)) refl
+-- where nothing is lost, a message whose number is among those that were set aside, or that nobody hears, puts a write
+pub put_aside : {C : Type 0} (d : DeskMeaning C) (track : KeepsTrack d) → LosesNothing (verdict_of d.log) → (m : Sent) → Contains (known_of d.log.part.own).sent m → 1 ≤ posted_as m.number d.later + posted_as m.number track.unheard → is_put m.request ≡ true
+put_aside d track quiet m there some = by (nat_lt 0 (posted_as m.number d.later)) refl
   where
     k : Known
     k = known_of d.log.part.own
 
-    -- what was set aside under its number is it
-    it-is : (p : Posted) → WasSetAside k.sent p → p.number ≡ m.number → is_put m.request ≡ true
-    it-is p aside same =
-        let one : as_sent p ≡ m = counted_once (λ (x : Sent). x.number == m.number) k.sent (as_sent p) m (track.once m.number) aside.one there (eq-eqb p.number m.number same) (eq-eqb m.number m.number refl) in
-        sym (ap (λ (x : Sent). is_put x.request) one) ∙ aside.puts
+    -- what was sent under its number is it
+    it-is : (p : Posted) → IsOneSent k.sent p → is_put p.request ≡ true → p.number ≡ m.number → is_put m.request ≡ true
+    it-is p sent puts same =
+        let one : as_sent p ≡ m = counted_once (λ (x : Sent). x.number == m.number) k.sent (as_sent p) m (track.once m.number) sent there (eq-eqb p.number m.number same) (eq-eqb m.number m.number refl) in
+        sym (ap (λ (x : Sent). is_put x.request) one) ∙ puts
+
+    puts-it : (p : Posted) → (is_losing (verdict_of d.log p.number) ≡ true) ⊎ (is_put p.request ≡ true) → is_put p.request ≡ true
+    puts-it p (inl losing) = absurd (let e : true ≡ false = sym losing ∙ quiet p.number in cc e)
+    puts-it p (inr puts) = puts
 
     by : (b : Bool) → nat_lt 0 (posted_as m.number d.later) ≡ b → is_put m.request ≡ true
     by true is =
         let f = counted_has (λ (p : Posted). p.number) m.number d.later (grind (arith, nat_tests)) in
-        it-is f.0 (All-contains (WasSetAside k.sent) d.later f.0 track.aside f.1) f.2
+        let aside = All-contains (WasSetAside k.sent) d.later f.0 track.aside f.1 in
+        it-is f.0 aside.one aside.puts f.2
     by false is =
         let none : posted_as m.number d.later ≡ 0 = grind (arith, nat_tests) in
-        let f = counted_has (λ (p : Posted). p.number) m.number track.dropped (omega (arith, none, some)) in
-        it-is f.0 (All-contains (IsStray d.log) track.dropped f.0 track.strays f.1).aside f.2
+        let f = counted_has (λ (p : Posted). p.number) m.number track.unheard (omega (arith, none, some)) in
+        let unheard = All-contains (IsUnheard d) track.unheard f.0 track.each_unheard f.1 in
+        it-is f.0 unheard.one (puts-it f.0 unheard.why) f.2
 
--- the reply that has waited longest is to the oldest message that was not heard
-pub oldest_waits : {C : Type 0} (d : DeskMeaning C) (a : Answered) (rest : List Answered) → KeepsTrack d → d.replies ≡ a ∷ rest → IsOldestUnheard (known_of d.log.part.own) a.number
-oldest_waits d a rest track first = all_from_contains (λ (m : Sent). m.number < a.number → IsHeardOrPut k.heard m) k.sent (λ m there low. heard_or_put m there low)
+-- then the reply that has waited longest is to the oldest message that was not heard
+pub oldest_waits : {C : Type 0} (d : DeskMeaning C) (a : Answered) (rest : List Answered) → KeepsTrack d → LosesNothing (verdict_of d.log) → d.replies ≡ a ∷ rest → IsOldestUnheard (known_of d.log.part.own) a.number
+oldest_waits d a rest track quiet first = all_from_contains (λ (m : Sent). m.number < a.number → IsHeardOrPut k.heard m) k.sent (λ m there low. heard_or_put m there low)
   where
     k : Known
     k = known_of d.log.part.own
@@ -123,7 +132,7 @@ oldest_waits d a rest track first = all_from_contains (λ (m : Sent). m.number <
     turn : WaitInTurn (a ∷ rest) d.posted
     turn = subst (λ rs. WaitInTurn rs d.posted) first track.turn
 
-    heard : (m : Sent) → Contains k.sent m → m.number < a.number → posted_as m.number d.later + posted_as m.number track.dropped ≡ 0 → is_heard k.heard m ≡ true
+    heard : (m : Sent) → Contains k.sent m → m.number < a.number → posted_as m.number d.later + posted_as m.number track.unheard ≡ 0 → is_heard k.heard m ≡ true
     heard m there low unused =
         let n = m.number in
         let some : 1 ≤ times_sent n k = counts_any (λ (x : Sent). x.number == n) k.sent (there-sent k.sent m there) in
@@ -141,8 +150,8 @@ oldest_waits d a rest track first = all_from_contains (λ (m : Sent). m.number <
 
     -- what was set aside, or dropped, is a put
     heard_or_put : (m : Sent) → Contains k.sent m → m.number < a.number → IsHeardOrPut k.heard m
-    heard_or_put m there low = by (posted_as m.number d.later + posted_as m.number track.dropped) refl
+    heard_or_put m there low = by (posted_as m.number d.later + posted_as m.number track.unheard) refl
       where
-        by : (n : ℕ) → posted_as m.number d.later + posted_as m.number track.dropped ≡ n → IsHeardOrPut k.heard m
+        by : (n : ℕ) → posted_as m.number d.later + posted_as m.number track.unheard ≡ n → IsHeardOrPut k.heard m
         by zero none = inl (heard m there low none)
-        by (suc n) some = inr (put_aside d track m there (omega (arith, some)))
+        by (suc n) some = inr (put_aside d track quiet m there (omega (arith, some)))

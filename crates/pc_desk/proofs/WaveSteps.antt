@@ -1,21 +1,23 @@
 -- A wave that is taken from the outbox message by message, and what became of it, taken in outcome by outcome.
-use Rattle.std.proofs.Common.{◌≡◌, ℕ, ◌<◌, ◌≤◌, inl, inr, All, Contains, List, [], ◌∷◌, ◌++◌, length, map, true, Result, Ok, Err, refl, sym, ap, subst, ◌∙◌}
+use Rattle.std.proofs.Common.{◌≡◌, ℕ, ◌+◌, ◌<◌, ◌≤◌, suc, cond, Bool, true, false, All, Contains, List, [], ◌∷◌, ◌++◌, length, map, Result, Ok, Err, refl, sym, ap, subst, ◌∙◌, arith, length-append}
 use Rattle.std.proofs.lemmas.List.{append-nil, append_assoc, map-append}
-use Rattle.std.proofs.lemmas.List.Elements.{All-contains, All-head, All-nil, All-push, All-tail, All-weaker, Contains-append_left, Contains-append_right}
-use Rattle.pc_base.specs.declared.actor.ActorId.{ActorId}
+use Rattle.std.proofs.lemmas.List.Elements.{All-head, All-nil, All-push, All-tail, All-weaker, Contains-append_left, Contains-append_right}
+use Rattle.std.specs.List.{AllZip}
 use Rattle.pc_desk.specs.declared.answered.Answered.{Answered}
-use Rattle.pc_desk.specs.Desk.{DeskMeaning, HasKept, HasTakenFirst, IsReadyToGo, Posted, WaitingMessage}
-use Rattle.pc_desk.specs.OwnLog.{IsOwnLog, LogMeaning, Took}
+use Rattle.pc_desk.specs.declared.errand.Errand.{Errand}
+use Rattle.pc_desk.specs.declared.errand.Sequel.{Sequel}
+use Rattle.pc_desk.specs.Desk.{DeskMeaning, Posted}
+use Rattle.pc_desk.specs.Errand.{HasPassedFirst, HasSetOutFirst, IsErrandOf, with_copy}
+use Rattle.pc_desk.specs.Evaluating.{HasTakenReply, kept_by}
+use Rattle.pc_desk.specs.OwnLog.{IsOwnLog, LogMeaning, verdict_of}
+use Rattle.pc_desk.specs.TakenWave.{HasKeptAll, HasStoppedFor, HasTakenAllIn, HasTakenIn, HasTakenWave, KnowsOutcome, MayBeTakenIn, NoneYet, OnePassed, OneSetOut, SetsOut, answers_in, bag_with}
 use Rattle.pc_desk.specs.Waiting.{IsBehindAll}
-use Rattle.pc_desk.specs.Wave.{AreRisingMessages, GoesOut, HasJoined, HasKeptAll, HasStoppedFor, HasTakenAllIn, HasTakenIn, HasTakenWave, IsReply, KnowsOutcome, MayGo, answered_by, answers_in, posted_in, posted_of}
+use Rattle.pc_desk.specs.Wave.{AreRisingMessages, GoesOut, HasJoined, IsReply, MayGo, answered_by, posted_in, posted_of}
 use Rattle.pc_history.specs.declared.named.Named.{Ghosts}
 use Rattle.pc_history.specs.declared.view.Known.{Known as KnownEntry}
 use Rattle.pc_history.specs.declared.view.Part.{Part}
-use Rattle.pc_history.specs.Meanings.{NoteMeaning}
-use Rattle.pc_history.specs.Parts.{uses_left, with_uses, without_uses}
-use Rattle.pc_lists.proofs.Lists.{all_from_contains, contains_head}
+use Rattle.pc_history.specs.Parts.{told, with_uses, without_uses}
 use Rattle.pc_proto.specs.declared.event.Event.{Event}
-use Rattle.pc_proto.specs.Stamps.{request_stamps}
 use Rattle.pc_range.specs.declared.commit_world.CommitWorld.{CommitWorld}
 use Rattle.pc_range.specs.declared.message.Message.{Message}
 use Rattle.pc_range.specs.declared.message.ReplyMsg.{ReplyMsg}
@@ -23,8 +25,9 @@ use Rattle.pc_range.specs.declared.message.ServeFault.{ServeFault}
 use Rattle.pc_range.specs.declared.message.ServeFault.TheVariants as faults
 use Rattle.pc_serving.specs.declared.delivery.Delivery.{Delivery}
 use Rattle.pc_serving.specs.Delivery.{MayBeServed}
-use Rattle.pc_world.specs.Local.{Head}
-use Rattle.pc_world.specs.Stamps.{AllBelowGreatest}
+use Rattle.pc_wire.specs.declared.outbox.Stray.{Stray}
+use Rattle.pc_wire.specs.declared.verdict.Verdict.{Verdict}
+use Rattle.pc_wire.specs.declared.verdict.Verdict.TheVariants as verdicts
 
 -- ---- a wave is taken
 
@@ -43,176 +46,265 @@ rising_push (p ∷ ms) m rising below = (
   rising_push ms m rising.1 (All-tail (λ (x : Posted). x.number < m.number) p ms below),
 )
 
+-- The messages come before all of these.
+abbrev ComeBefore : List Posted → List Posted → Type 0
+ComeBefore posted ms = All (λ (m : Posted). All (λ (p : Posted). m.number < p.number) posted) ms
+
+before-rest : (first : Posted) (rest ms : List Posted) → ComeBefore (first ∷ rest) ms → ComeBefore rest ms
+before-rest first rest ms before = All-weaker (λ (m : Posted). All (λ (p : Posted). m.number < p.number) (first ∷ rest)) (λ (m : Posted). All (λ (p : Posted). m.number < p.number) rest) (λ m all. All-tail (λ (p : Posted). m.number < p.number) first rest all) ms before
+
+before-first : (first : Posted) (rest ms : List Posted) → ComeBefore (first ∷ rest) ms → All (λ (m : Posted). m.number < first.number) ms
+before-first first rest ms before = All-weaker (λ (m : Posted). All (λ (p : Posted). m.number < p.number) (first ∷ rest)) (λ (m : Posted). m.number < first.number) (λ m all. All-head (λ (p : Posted). m.number < p.number) first rest all) ms before
+
+-- a message that is set out says what waited, and has its number
+errand-number : {N : Type 0} {G : Ghosts N CommitWorld} (verdict : Verdict) (message : Message N G) (errand : Errand N G) → IsErrandOf verdict message errand → errand.message.number ≡ message.number
+errand-number {N} {G} verdicts.Deliver message errand is = ap (λ (e : Errand N G). e.message.number) is
+errand-number verdicts.LoseRequest message errand is = absurd is
+errand-number {N} {G} verdicts.LoseReply message errand is = ap (λ (e : Errand N G). e.message.number) is
+errand-number {N} {G} (verdicts.Repeat sends) message errand is = is.alike.number
+errand-number (verdicts.Hold sends) message errand is = absurd is
+
 module _ {C N : Type 0} {G : Ghosts N CommitWorld} where
-  -- the first of the messages that wait may go
-  pub may_go : (v old : DeskMeaning C) (splits : List (List ℕ)) (w : WaitingMessage) (m : Message N G) → v ≡ old → splits ≡ v.log.head.splits → w.sender ≡ m.sender → w.posted ≡ posted_of m → IsReadyToGo v.log.part.id splits w → MayGo old m
-  may_go v old splits w m same cut sender is ready =
-      subst (λ (d : DeskMeaning C). MayGo d m) same (record {
-        whose = sym sender ∙ ready.whose;
-        there = subst (λ s. m.range ≤ length s) cut (subst (λ (p : Posted). p.range ≤ length splits) is ready.there);
-        use_left = subst (λ (p : Posted). 1 ≤ p.uses) is ready.use_left;
-        below = subst (λ (p : Posted). AllBelowGreatest (request_stamps p.request)) is ready.below;
-      })
+  pub taken_none : (d : DeskMeaning C) → HasTakenWave {N = N} {G = G} d d [] []
+  taken_none d = record { errands = []; each_set_out = NoneYet; log = refl; limit = refl; messages = refl; sequels_are = refl; rising = tt; later = All-nil (λ (m : Posted). All (λ (p : Posted). m.number < p.number) d.posted); each = All-nil (GoesOut d) }
 
-  pub taken_none : (d : DeskMeaning C) → HasTakenWave {N = N} {G = G} d d []
-  taken_none d = record { whole = refl; rest = refl; rising = tt; later = All-nil (λ (m : Posted). All (λ (p : Posted). m.number < p.number) d.posted); each = All-nil (GoesOut d) }
+  -- one more is dropped or held
+  pub taken_passed : (old mid new : DeskMeaning C) (wave : List (Delivery N G)) (sequels : List (Sequel N G)) → HasTakenWave old mid wave sequels → HasPassedFirst mid new → HasTakenWave old new wave sequels
+  taken_passed old mid new wave sequels so_far passed = record {
+    errands = so_far.errands;
+    each_set_out = OnePassed mid new so_far.errands so_far.each_set_out passed;
+    log = ap (λ (d : DeskMeaning C). d.log) passed.rest ∙ so_far.log;
+    limit = ap (λ (d : DeskMeaning C). d.range_limit) passed.rest ∙ so_far.limit;
+    messages = so_far.messages;
+    sequels_are = so_far.sequels_are;
+    rising = so_far.rising;
+    later = before-rest passed.first new.posted (posted_in wave) (subst (λ ps. ComeBefore ps (posted_in wave)) passed.taken.first so_far.later);
+    each = so_far.each;
+  }
 
-  pub taken_one : (old mid new : DeskMeaning C) (wave after : List (Delivery N G)) (m : Message N G) (note : List (KnownEntry Event)) → HasTakenWave old mid wave → HasTakenFirst mid new (posted_of m) → MayGo mid m → IsBehindAll old.log.part.own note → note ≡ with_uses 0 note
-      → HasJoined wave after m note → HasTakenWave old new after
-  taken_one old mid new wave after m note so_far first may behind plain joins =
-      subst (HasTakenWave old new) (sym joins.behind) (record {
-        whole =
-            so_far.whole
-            ∙ (ap (λ ps. posted_in wave ++ ps) (first.first ∙ ap (λ (x : Message N G). posted_of x ∷ new.posted) (sym joins.message_is))
-            ∙ (sym (append_assoc (posted_in wave) (posted_of joins.joined.message ∷ []) new.posted)
-            ∙ ap (λ ps. ps ++ new.posted) (sym (map-append (λ (d : Delivery N G). posted_of d.message) wave (joins.joined ∷ [])))));
-        rest = first.rest ∙ ap (λ (d : DeskMeaning C). record d { posted = new.posted }) so_far.rest;
-        rising = subst AreRisingMessages (sym all-posted) (rising_push (posted_in wave) (posted_of joins.joined.message) so_far.rising (subst (λ (x : Message N G). All (λ (p : Posted). p.number < x.number) (posted_in wave)) (sym joins.message_is) below));
-        later = subst (All (λ (p : Posted). All (λ (q : Posted). p.number < q.number) new.posted)) (sym all-posted)
-            (All-push (λ (p : Posted). All (λ (q : Posted). p.number < q.number) new.posted) (posted_in wave) (posted_of joins.joined.message) rest-later (subst (λ (x : Message N G). All (λ (q : Posted). x.number < q.number) new.posted) (sym joins.message_is) first.later));
+  -- one more is set out
+  pub taken_one : (old mid new : DeskMeaning C) (wave after : List (Delivery N G)) (sequels : List (Sequel N G)) (errand : Errand N G) (note : List (KnownEntry Event)) → HasTakenWave old mid wave sequels → HasSetOutFirst mid new errand → IsBehindAll old.log.part.own note → note ≡ with_uses 0 note
+      → HasJoined wave after errand.message note → HasTakenWave old new after (sequels ++ errand.sequel ∷ [])
+  taken_one old mid new wave after sequels errand note so_far first behind plain joins =
+      subst (λ w. HasTakenWave old new w (sequels ++ errand.sequel ∷ [])) (sym joins.behind) (record {
+        errands = so_far.errands ++ errand ∷ [];
+        each_set_out = OneSetOut mid new so_far.errands errand so_far.each_set_out first;
+        log = ap (λ (d : DeskMeaning C). d.log) first.rest ∙ so_far.log;
+        limit = ap (λ (d : DeskMeaning C). d.range_limit) first.rest ∙ so_far.limit;
+        messages =
+            map-append (λ (d : Delivery N G). d.message) wave (joins.joined ∷ [])
+            ∙ (ap (λ ms. ms ++ joins.joined.message ∷ []) so_far.messages
+            ∙ (ap (λ (m : Message N G). map (λ (e : Errand N G). e.message) so_far.errands ++ m ∷ []) joins.message_is
+            ∙ sym (map-append (λ (e : Errand N G). e.message) so_far.errands (errand ∷ []))));
+        sequels_are = ap (λ ss. ss ++ errand.sequel ∷ []) so_far.sequels_are ∙ sym (map-append (λ (e : Errand N G). e.sequel) so_far.errands (errand ∷ []));
+        rising = subst AreRisingMessages (sym all-posted) (rising_push (posted_in wave) (posted_of joins.joined.message) so_far.rising below);
+        later = subst (ComeBefore new.posted) (sym all-posted)
+            (All-push (λ (m : Posted). All (λ (p : Posted). m.number < p.number) new.posted) (posted_in wave) (posted_of joins.joined.message) (before-rest (posted_of first.message) new.posted (posted_in wave) mid-later)
+            (subst (λ n. All (λ (p : Posted). n < p.number) new.posted) (sym number) first.taken.later));
         each = All-push (GoesOut old) wave joins.joined so_far.each goes;
       })
     where
       all-posted : posted_in (wave ++ joins.joined ∷ []) ≡ posted_in wave ++ posted_of joins.joined.message ∷ []
       all-posted = map-append (λ (d : Delivery N G). posted_of d.message) wave (joins.joined ∷ [])
 
-      mid-later : All (λ (p : Posted). All (λ (q : Posted). p.number < q.number) (posted_of m ∷ new.posted)) (posted_in wave)
-      mid-later = subst (λ ps. All (λ (p : Posted). All (λ (q : Posted). p.number < q.number) ps) (posted_in wave)) first.first so_far.later
+      mid-later : ComeBefore (posted_of first.message ∷ new.posted) (posted_in wave)
+      mid-later = subst (λ ps. ComeBefore ps (posted_in wave)) first.taken.first so_far.later
 
-      below : All (λ (p : Posted). p.number < m.number) (posted_in wave)
-      below = All-weaker (λ (p : Posted). All (λ (q : Posted). p.number < q.number) (posted_of m ∷ new.posted)) (λ (p : Posted). p.number < m.number) (λ p all. All-head (λ (q : Posted). p.number < q.number) (posted_of m) new.posted all) (posted_in wave) mid-later
+      number : joins.joined.message.number ≡ first.message.number
+      number = ap (λ (m : Message N G). m.number) joins.message_is ∙ errand-number (verdict_of mid.log first.message.number) first.message errand first.errand_of
 
-      rest-later : All (λ (p : Posted). All (λ (q : Posted). p.number < q.number) new.posted) (posted_in wave)
-      rest-later =
-          All-weaker (λ (p : Posted). All (λ (q : Posted). p.number < q.number) (posted_of m ∷ new.posted)) (λ (p : Posted). All (λ (q : Posted). p.number < q.number) new.posted) (λ p all. All-tail (λ (q : Posted). p.number < q.number) (posted_of m) new.posted all) (posted_in wave) mid-later
+      below : All (λ (p : Posted). p.number < joins.joined.message.number) (posted_in wave)
+      below = subst (λ n. All (λ (p : Posted). p.number < n) (posted_in wave)) (sym number) (before-first (posted_of first.message) new.posted (posted_in wave) mid-later)
 
-      may-then : MayGo (record old { posted = mid.posted }) m
-      may-then = subst (λ (d : DeskMeaning C). MayGo d m) so_far.rest may
-
-      may-go : MayGo old joins.joined.message
-      may-go = subst (MayGo old) (sym joins.message_is) (record { whose = may-then.whose; there = may-then.there; use_left = may-then.use_left; below = may-then.below })
+      may : MayGo mid joins.joined.message
+      may = subst (MayGo mid) (sym joins.message_is) first.may
 
       goes : GoesOut old joins.joined
       goes = record {
-        whose = may-go.whose;
-        may = record { there = may-go.there; use_left = may-go.use_left; below = may-go.below };
+        whose = subst (λ (l : LogMeaning C). joins.joined.message.sender ≡ l.part.id) so_far.log may.whose;
+        may = subst (λ (l : LogMeaning C). MayBeServed l.head.splits joins.joined) so_far.log (record { there = may.there; use_left = may.use_left; below = may.below });
         behind = subst (IsBehindAll old.log.part.own) (plain ∙ sym joins.note_is) behind;
       }
 
 -- ---- what became of it is taken in
 
--- The actor took a note that tells this, and nothing else was done.
-abbrev TookIn : {C : Type 0} → List (KnownEntry Event) → DeskMeaning C → DeskMeaning C → Type 0
-TookIn note old new = new ≡ record old { log = record old.log { part = record old.log.part { known = old.log.part.known ++ note } } }
+module _ {N : Type 0} {G : Ghosts N CommitWorld} where
+  knows-on : (was now : Part Event) → ((k : KnownEntry Event) → Contains was.known k → Contains now.known k) → (o : Result (ReplyMsg N) (ServeFault N G)) (s : Sequel N G) → KnowsOutcome was o s → KnowsOutcome now o s
+  knows-on was now more (Ok r) s knows = λ k there. more k (knows k there)
+  knows-on was now more (Err (faults.Full at last message)) s knows = λ k there. more k (knows k there)
+  knows-on was now more (Err faults.NoMemory) s knows = absurd knows
+
+  all-know-on : (was now : Part Event) → ((k : KnownEntry Event) → Contains was.known k → Contains now.known k) → (os : List (Result (ReplyMsg N) (ServeFault N G))) (ss : List (Sequel N G)) → AllZip (KnowsOutcome was) os ss → AllZip (KnowsOutcome now) os ss
+  all-know-on was now more [] [] zips = tt
+  all-know-on was now more [] (s ∷ ss) zips = absurd zips
+  all-know-on was now more (o ∷ os) [] zips = absurd zips
+  all-know-on was now more (o ∷ os) (s ∷ ss) zips = (knows-on was now more o s zips.0, all-know-on was now more os ss zips.1)
+
+zip-push : {X Y : Type 0} (R : X → Y → Type 0) (xs : List X) (ys : List Y) (x : X) (y : Y) → AllZip R xs ys → R x y → AllZip R (xs ++ x ∷ []) (ys ++ y ∷ [])
+zip-push R [] [] x y each one = (one, tt)
+zip-push R [] (b ∷ ys) x y each one = absurd each
+zip-push R (a ∷ xs) [] x y each one = absurd each
+zip-push R (a ∷ xs) (b ∷ ys) x y each one = (each.0, zip-push R xs ys x y each.1 one)
 
 module _ {N : Type 0} {G : Ghosts N CommitWorld} where
-  knows-on : (was now : Part Event) → ((k : KnownEntry Event) → Contains was.known k → Contains now.known k) → (o : Result (ReplyMsg N) (ServeFault N G)) → KnowsOutcome was o → KnowsOutcome now o
-  knows-on was now more (Ok r) knows = λ k there. more k (knows k there)
-  knows-on was now more (Err (faults.Full at last message)) knows = λ k there. more k (knows k there)
-  knows-on was now more (Err faults.NoMemory) knows = absurd knows
+  answers-push : (os : List (Result (ReplyMsg N) (ServeFault N G))) (ss : List (Sequel N G)) (o : Result (ReplyMsg N) (ServeFault N G)) (s : Sequel N G) → length os ≡ length ss → answers_in (os ++ o ∷ []) (ss ++ s ∷ []) ≡ answers_in os ss ++ answers_in (o ∷ []) (s ∷ [])
+  answers-push [] [] o s same = refl
+  answers-push [] (x ∷ ss) o s same = absurd cc
+  answers-push (x ∷ os) [] o s same = absurd cc
+  answers-push (Err f ∷ os) (x ∷ ss) o s same = answers-push os ss o s (let e = same in omega (arith, e))
+  answers-push (Ok r ∷ os) (x ∷ ss) o s same =
+      by x.is_heard (answers-push os ss o s (let e = same in omega (arith, e)))
+    where
+      by : (b : Bool) → answers_in (os ++ o ∷ []) (ss ++ s ∷ []) ≡ answers_in os ss ++ answers_in (o ∷ []) (s ∷ [])
+          → cond b (answered_by r ∷ answers_in (os ++ o ∷ []) (ss ++ s ∷ [])) (answers_in (os ++ o ∷ []) (ss ++ s ∷ [])) ≡ cond b (answered_by r ∷ answers_in os ss) (answers_in os ss) ++ answers_in (o ∷ []) (s ∷ [])
+      by true on = ap (λ l. answered_by r ∷ l) on
+      by false on = on
 
-  answers-push : (done : List (Result (ReplyMsg N) (ServeFault N G))) (r : ReplyMsg N) → answers_in (done ++ Ok r ∷ []) ≡ answers_in done ++ answered_by r ∷ []
-  answers-push [] r = refl
-  answers-push (Ok x ∷ done) r = ap (λ l. answered_by x ∷ l) (answers-push done r)
-  answers-push (Err f ∷ done) r = answers-push done r
+  bag-push : (os : List (Result (ReplyMsg N) (ServeFault N G))) (ss : List (Sequel N G)) (o : Result (ReplyMsg N) (ServeFault N G)) (s : Sequel N G) (bag : List (ℕ × Stray Posted)) → length os ≡ length ss → bag_with (os ++ o ∷ []) (ss ++ s ∷ []) bag ≡ bag_with (o ∷ []) (s ∷ []) (bag_with os ss bag)
+  bag-push [] [] o s bag same = refl
+  bag-push [] (x ∷ ss) o s bag same = absurd cc
+  bag-push (x ∷ os) [] o s bag same = absurd cc
+  bag-push (Ok r ∷ os) (x ∷ ss) o s bag same = bag-push os ss o s (with_copy x.copy bag) (let e = same in omega (arith, e))
+  bag-push (Err f ∷ os) (x ∷ ss) o s bag same = bag-push os ss o s bag (let e = same in omega (arith, e))
+
+-- So far the outcomes before those that are left, beside their sequels, are done with.
+pub record IsPart {X Y : Type 0} (all : List X) (beside : List Y) (left : List X) (left_beside : List Y) (done : List X) (done_beside : List Y) : Type 0 where
+  pub whole : all ≡ done ++ left
+  pub whole_beside : beside ≡ done_beside ++ left_beside
+  pub same : length done ≡ length done_beside
+
+part-more : {X Y : Type 0} (all : List X) (beside : List Y) (left : List X) (left_beside : List Y) (done : List X) (done_beside : List Y) (x : X) (y : Y) → IsPart all beside (x ∷ left) (y ∷ left_beside) done done_beside → IsPart all beside left left_beside (done ++ x ∷ []) (done_beside ++ y ∷ [])
+part-more all beside left left_beside done done_beside x y part = record {
+  whole = part.whole ∙ sym (append_assoc done (x ∷ []) left);
+  whole_beside = part.whole_beside ∙ sym (append_assoc done_beside (y ∷ []) left_beside);
+  same = length-append done (x ∷ []) ∙ (ap (λ n. n + 1) part.same ∙ sym (length-append done_beside (y ∷ [])));
+}
+
+-- the next of both, of lists that go beside each other
+pub zip-next : {X Y : Type 0} (R : X → Y → Type 0) (all : List X) (beside : List Y) (left : List X) (left_beside : List Y) (done : List X) (done_beside : List Y) → AllZip R all beside → IsPart all beside left left_beside done done_beside → AllZip R left left_beside
+zip-next R all beside left left_beside done done_beside zips part = drop-front done done_beside part.same (subst (λ l. AllZip R l (done_beside ++ left_beside)) part.whole (subst (AllZip R all) part.whole_beside zips))
+  where
+    drop-front : (xs : List X) (ys : List Y) → length xs ≡ length ys → AllZip R (xs ++ left) (ys ++ left_beside) → AllZip R left left_beside
+    drop-front [] [] same zips = zips
+    drop-front [] (y ∷ ys) same zips = absurd cc
+    drop-front (x ∷ xs) [] same zips = absurd cc
+    drop-front (x ∷ xs) (y ∷ ys) same zips = drop-front xs ys (let e = same in omega (arith, e)) zips.1
 
 module _ {C N : Type 0} {G : Ghosts N CommitWorld} where
-  learnt-one : (old mid new : DeskMeaning C) (done : List (Result (ReplyMsg N) (ServeFault N G))) (o : Result (ReplyMsg N) (ServeFault N G)) → HasTakenAllIn old mid done → ((k : KnownEntry Event) → Contains mid.log.part.known k → Contains new.log.part.known k) → KnowsOutcome new.log.part o
-      → HasTakenAllIn old new (done ++ o ∷ [])
-  learnt-one old mid new done o so_far more knows = record {
+  learnt-one : (old mid new : DeskMeaning C) (os : List (Result (ReplyMsg N) (ServeFault N G))) (ss : List (Sequel N G)) (o : Result (ReplyMsg N) (ServeFault N G)) (s : Sequel N G) → HasTakenAllIn old mid os ss → ((k : KnownEntry Event) → Contains mid.log.part.known k → Contains new.log.part.known k) → KnowsOutcome new.log.part o s
+      → HasTakenAllIn old new (os ++ o ∷ []) (ss ++ s ∷ [])
+  learnt-one old mid new os ss o s so_far more knows = record {
     more = λ k there. more k (so_far.more k there);
-    knows = All-push (KnowsOutcome new.log.part) done o (All-weaker (KnowsOutcome mid.log.part) (KnowsOutcome new.log.part) (knows-on mid.log.part new.log.part more) done so_far.knows) knows;
+    knows = zip-push (KnowsOutcome new.log.part) os ss o s (all-know-on mid.log.part new.log.part more os ss so_far.knows) knows;
   }
 
   -- So far the replies before those that are left are kept.
-  pub record KeptSoFar (old now : DeskMeaning C) (all left : List (Result (ReplyMsg N) (ServeFault N G))) : Type 0 where
+  pub record KeptSoFar (old now : DeskMeaning C) (all left : List (Result (ReplyMsg N) (ServeFault N G))) (sequels left_sequels : List (Sequel N G)) : Type 0 where
     pub done : List (Result (ReplyMsg N) (ServeFault N G))
-    pub whole : all ≡ done ++ left
-    pub kept : HasKeptAll old now done
+    pub done_sequels : List (Sequel N G)
+    pub part : IsPart all sequels left left_sequels done done_sequels
+    pub kept : HasKeptAll old now done done_sequels
 
-  pub kept_none : (old : DeskMeaning C) (all : List (Result (ReplyMsg N) (ServeFault N G))) → IsOwnLog old.log → KeptSoFar old old all all
-  kept_none old all log = record {
+  pub kept_none : (old : DeskMeaning C) (all : List (Result (ReplyMsg N) (ServeFault N G))) (sequels : List (Sequel N G)) → IsOwnLog old.log → KeptSoFar old old all all sequels sequels
+  kept_none old all sequels log = record {
     done = [];
-    whole = refl;
-    kept = record { rest = ap (λ rs. record old { replies = rs }) (sym (append-nil old.replies)); learnt = record { more = λ k there. there; knows = All-nil (KnowsOutcome old.log.part) }; log = log };
+    done_sequels = [];
+    part = record { whole = refl; whole_beside = refl; same = refl };
+    kept = record { rest = ap (λ rs. record old { replies = rs }) (sym (append-nil old.replies)); learnt = record { more = λ k there. there; knows = tt }; log = log };
   }
 
-  pub kept_one : (old mid new : DeskMeaning C) (all left : List (Result (ReplyMsg N) (ServeFault N G))) (r : ReplyMsg N) → KeptSoFar old mid all (Ok r ∷ left) → HasKept mid new (answered_by r) r.note.known → KeptSoFar old new all left
-  kept_one old mid new all left r so_far kept = record {
+  -- one reply is kept, or dropped, beside what came of it
+  kept-answer : (rs : List Answered) (r : ReplyMsg N) (s : Sequel N G) → kept_by s.is_heard (answered_by r) rs ≡ rs ++ answers_in (Ok r ∷ []) (s ∷ [])
+  kept-answer rs r s = by s.is_heard
+    where
+      by : (b : Bool) → kept_by b (answered_by r) rs ≡ rs ++ cond b (answered_by r ∷ []) []
+      by true = refl
+      by false = sym (append-nil rs)
+
+  pub kept_one : (old mid new : DeskMeaning C) (all left : List (Result (ReplyMsg N) (ServeFault N G))) (sequels left_sequels : List (Sequel N G)) (r : ReplyMsg N) (s : Sequel N G) → KeptSoFar old mid all (Ok r ∷ left) sequels (s ∷ left_sequels)
+      → HasTakenReply mid new (answered_by r) (without_uses 0 r.note.known) s → without_uses 0 r.note.known ≡ r.note.known → KeptSoFar old new all left sequels left_sequels
+  kept_one old mid new all left sequels left_sequels r s so_far took same = record {
     done = so_far.done ++ Ok r ∷ [];
-    whole = so_far.whole ∙ sym (append_assoc so_far.done (Ok r ∷ []) left);
+    done_sequels = so_far.done_sequels ++ s ∷ [];
+    part = part-more all sequels left left_sequels so_far.done so_far.done_sequels (Ok r) s so_far.part;
     kept = record {
       rest =
-          kept.kept
-          ∙ (ap (λ (d : DeskMeaning C). record d { log = record d.log { part = record d.log.part { known = mid.log.part.known ++ r.note.known } }; replies = d.replies ++ answered_by r ∷ [] }) so_far.kept.rest
-          ∙ (ap (λ rs. record old { log = record old.log { part = record old.log.part { known = mid.log.part.known ++ r.note.known } }; replies = rs })
-          (append_assoc old.replies (answers_in so_far.done) (answered_by r ∷ []) ∙ ap (λ rs. old.replies ++ rs) (sym (answers-push so_far.done r)))
-          ∙ ap (λ ks. record old { log = record old.log { part = record old.log.part { known = ks } }; replies = old.replies ++ answers_in (so_far.done ++ Ok r ∷ []) }) (sym known-now)));
-      learnt = learnt-one old mid new so_far.done (Ok r) so_far.kept.learnt (λ k there. subst (λ l. Contains l k) (sym known-now) (Contains-append_left mid.log.part.known r.note.known k there))
-          (λ k there. subst (λ l. Contains l k) (sym known-now) (Contains-append_right mid.log.part.known r.note.known k there));
-      log = kept.log;
+          took.rest
+          ∙ (ap (λ (d : DeskMeaning C). record d { log = record d.log { part = record d.log.part { known = mid.log.part.known ++ note } }; replies = kept_by s.is_heard (answered_by r) d.replies; bag = with_copy s.copy d.bag }) so_far.kept.rest
+          ∙ (ap (λ rs. desk-then (mid.log.part.known ++ note) rs (with_copy s.copy (bag_with so_far.done so_far.done_sequels old.bag)))
+          (kept-answer (old.replies ++ answers_in so_far.done so_far.done_sequels) r s ∙ (append_assoc old.replies (answers_in so_far.done so_far.done_sequels) (answers_in (Ok r ∷ []) (s ∷ [])) ∙ ap (λ rs. old.replies ++ rs) (sym (answers-push so_far.done so_far.done_sequels (Ok r) s so_far.part.same))))
+          ∙ (ap (λ b. desk-then (mid.log.part.known ++ note) (old.replies ++ answers_in (so_far.done ++ Ok r ∷ []) (so_far.done_sequels ++ s ∷ [])) b) (sym (bag-push so_far.done so_far.done_sequels (Ok r) s old.bag so_far.part.same))
+          ∙ ap (λ ks. desk-then ks (old.replies ++ answers_in (so_far.done ++ Ok r ∷ []) (so_far.done_sequels ++ s ∷ [])) (bag_with (so_far.done ++ Ok r ∷ []) (so_far.done_sequels ++ s ∷ []) old.bag)) (sym known-now))));
+      learnt = learnt-one old mid new so_far.done so_far.done_sequels (Ok r) s so_far.kept.learnt (λ k there. subst (λ l. Contains l k) (sym known-now) (Contains-append_left mid.log.part.known note k there))
+          (λ k there. subst (λ l. Contains l k) (sym known-now) (Contains-append_right mid.log.part.known note k (subst (λ l. Contains l k) (sym same) there)));
+      log = took.log;
     };
   }
     where
-      known-now : new.log.part.known ≡ mid.log.part.known ++ r.note.known
-      known-now = ap (λ (d : DeskMeaning C). d.log.part.known) kept.kept
+      -- What its note tells.
+      abbrev note : List (KnownEntry Event)
+      note = without_uses 0 r.note.known
 
-  pub kept_all : (old now : DeskMeaning C) (all left : List (Result (ReplyMsg N) (ServeFault N G))) → left ≡ [] → KeptSoFar old now all left → HasKeptAll old now all
-  kept_all old now all left none so_far = subst (HasKeptAll old now) (sym (so_far.whole ∙ (ap (λ l. so_far.done ++ l) none ∙ append-nil so_far.done))) so_far.kept
+      -- The desk, as it is then.
+      abbrev desk-then : List (KnownEntry Event) → List Answered → List (ℕ × Stray Posted) → DeskMeaning C
+      desk-then ks rs b = record old { log = record old.log { part = record old.log.part { known = ks } }; replies = rs; bag = b }
 
-  pub next_is_reply : (old now : DeskMeaning C) (all left : List (Result (ReplyMsg N) (ServeFault N G))) (o : Result (ReplyMsg N) (ServeFault N G)) → All IsReply all → KeptSoFar old now all (o ∷ left) → IsReply o
-  next_is_reply old now all left o replies so_far = All-contains IsReply all o replies (subst (λ l. Contains l o) (sym so_far.whole) (Contains-append_right so_far.done (o ∷ left) o (contains_head o left)))
+      known-now : new.log.part.known ≡ mid.log.part.known ++ note
+      known-now = ap (λ (d : DeskMeaning C). d.log.part.known) took.rest
 
-  -- So far the outcomes before those that are left are known, and nothing else has changed.
-  pub record LearntSoFar (old now : DeskMeaning C) (all left : List (Result (ReplyMsg N) (ServeFault N G))) : Type 0 where
-    pub done : List (Result (ReplyMsg N) (ServeFault N G))
-    pub whole : all ≡ done ++ left
-    pub rest : now ≡ record old { log = record old.log { part = record old.log.part { known = now.log.part.known } } }
-    pub learnt : HasTakenAllIn old now done
+  none-left : {X : Type 0} (done left : List X) → left ≡ [] → done ++ left ≡ done
+  none-left done left none = ap (λ l. done ++ l) none ∙ append-nil done
 
-  pub learnt_none : (old : DeskMeaning C) (all : List (Result (ReplyMsg N) (ServeFault N G))) → LearntSoFar old old all all
-  learnt_none old all = record { done = []; whole = refl; rest = refl; learnt = record { more = λ k there. there; knows = All-nil (KnowsOutcome old.log.part) } }
-
-  took-in : (old new : DeskMeaning C) (o : Result (ReplyMsg N) (ServeFault N G)) (note : List (KnownEntry Event)) → TookIn note old new → (((k : KnownEntry Event) → Contains note k → Contains new.log.part.known k) → KnowsOutcome new.log.part o) → HasTakenIn old new o
-  took-in old new o note took knows = record {
-    rest = took ∙ ap (λ ks. record old { log = record old.log { part = record old.log.part { known = ks } } }) (sym known-now);
-    more = λ k there. subst (λ l. Contains l k) (sym known-now) (Contains-append_left old.log.part.known note k there);
-    knows = knows (λ k there. subst (λ l. Contains l k) (sym known-now) (Contains-append_right old.log.part.known note k there));
-  }
+  -- where no outcome is left, no sequel is
+  none-beside : (all left : List (Result (ReplyMsg N) (ServeFault N G))) (sequels left_sequels : List (Sequel N G)) (done : List (Result (ReplyMsg N) (ServeFault N G))) (done_sequels : List (Sequel N G)) → length all ≡ length sequels → IsPart all sequels left left_sequels done done_sequels → left ≡ [] → left_sequels ≡ []
+  none-beside all left sequels left_sequels done done_sequels same part none = by left_sequels
+      (let a = ap length part.whole ∙ length-append done left in let b = ap length part.whole_beside ∙ length-append done_sequels left_sequels in let n : length left ≡ 0 = ap length none in let p = part.same in omega (arith, a, b, n, p, same))
     where
-      known-now : new.log.part.known ≡ old.log.part.known ++ note
-      known-now = ap (λ (d : DeskMeaning C). d.log.part.known) took
+      by : (ss : List (Sequel N G)) → length ss ≡ 0 → ss ≡ []
+      by [] is = refl
+      by (s ∷ ss) is = absurd (omega (arith, is))
 
-  -- a reply is taken in
-  pub taken_in_reply : (old v : DeskMeaning C) (after : LogMeaning C) (o : Result (ReplyMsg N) (ServeFault N G)) (r : ReplyMsg N) (note : NoteMeaning Head Event) → o ≡ Ok r → note ≡ r.note → v ≡ old → Took note.known v.log after → HasTakenIn old (record v { log = after }) o
-  taken_in_reply old v after o r note is note-is same took =
-      subst (HasTakenIn old (record v { log = after })) (sym is)
-      (took-in old (record v { log = after }) (Ok r) note.known
-      (ap (λ (l : LogMeaning C). record v { log = l }) took.told_this ∙ ap (λ (d : DeskMeaning C). record d { log = record d.log { part = record d.log.part { known = d.log.part.known ++ note.known } } }) same)
-      (λ all. subst (λ (n : NoteMeaning Head Event). (k : KnownEntry Event) → Contains n.known k → Contains after.part.known k) note-is all))
+  pub kept_all : (old now : DeskMeaning C) (all left : List (Result (ReplyMsg N) (ServeFault N G))) (sequels left_sequels : List (Sequel N G)) → length all ≡ length sequels → left ≡ [] → KeptSoFar old now all left sequels left_sequels → HasKeptAll old now all sequels
+  kept_all old now all left sequels left_sequels same none so_far =
+      subst (λ os. HasKeptAll old now os sequels) (sym (so_far.part.whole ∙ none-left so_far.done left none))
+      (subst (HasKeptAll old now so_far.done) (sym (so_far.part.whole_beside ∙ none-left so_far.done_sequels left_sequels (none-beside all left sequels left_sequels so_far.done so_far.done_sequels same so_far.part none))) so_far.kept)
 
-  -- and a message that was given back
-  pub taken_in_back : (old v : DeskMeaning C) (one after : LogMeaning C) (fault : ServeFault N G) (at : ℕ) (last note : NoteMeaning Head Event) (message : Message N G) → fault ≡ faults.Full at last message → note ≡ message.note → v ≡ old → Took last.known v.log one → Took note.known one after
-      → HasTakenIn old (record v { log = after }) (Err fault)
-  taken_in_back old v one after fault at last note message is note-is same took then =
-      subst (λ f. HasTakenIn old (record v { log = after }) (Err f)) (sym is)
-      (took-in old (record v { log = after }) (Err (faults.Full at last message)) (last.known ++ note.known)
-      (ap (λ (l : LogMeaning C). record v { log = l }) (then.told_this ∙ ap (λ (l : LogMeaning C). record l { part = record l.part { known = l.part.known ++ note.known } }) took.told_this)
-      ∙ (ap (λ ks. record v { log = record v.log { part = record v.log.part { known = ks } } }) (append_assoc v.log.part.known last.known note.known)
-      ∙ ap (λ (d : DeskMeaning C). record d { log = record d.log { part = record d.log.part { known = d.log.part.known ++ (last.known ++ note.known) } } }) same))
-      (λ all. subst (λ (n : NoteMeaning Head Event). (k : KnownEntry Event) → Contains (last.known ++ n.known) k → Contains after.part.known k) note-is all))
+  -- So far the outcomes before those that are left are known, copies are in the bag, and nothing else has changed.
+  pub record LearntSoFar (old now : DeskMeaning C) (all left : List (Result (ReplyMsg N) (ServeFault N G))) (sequels left_sequels : List (Sequel N G)) : Type 0 where
+    pub done : List (Result (ReplyMsg N) (ServeFault N G))
+    pub done_sequels : List (Sequel N G)
+    pub part : IsPart all sequels left left_sequels done done_sequels
+    pub rest : now ≡ record old { log = record old.log { part = record old.log.part { known = now.log.part.known } }; bag = bag_with done done_sequels old.bag }
+    pub learnt : HasTakenAllIn old now done done_sequels
+
+  pub learnt_none : (old : DeskMeaning C) (all : List (Result (ReplyMsg N) (ServeFault N G))) (sequels : List (Sequel N G)) → LearntSoFar old old all all sequels sequels
+  learnt_none old all sequels = record { done = []; done_sequels = []; part = record { whole = refl; whole_beside = refl; same = refl }; rest = refl; learnt = record { more = λ k there. there; knows = tt } }
 
   -- one more is taken in
-  pub learnt_more : (old mid new : DeskMeaning C) (all left : List (Result (ReplyMsg N) (ServeFault N G))) (o : Result (ReplyMsg N) (ServeFault N G)) → LearntSoFar old mid all (o ∷ left) → HasTakenIn mid new o → LearntSoFar old new all left
-  learnt_more old mid new all left o so_far took = record {
+  pub learnt_more : (old mid new : DeskMeaning C) (all left : List (Result (ReplyMsg N) (ServeFault N G))) (sequels left_sequels : List (Sequel N G)) (o : Result (ReplyMsg N) (ServeFault N G)) (s : Sequel N G) → LearntSoFar old mid all (o ∷ left) sequels (s ∷ left_sequels) → HasTakenIn mid new o s
+      → LearntSoFar old new all left sequels left_sequels
+  learnt_more old mid new all left sequels left_sequels o s so_far took = record {
     done = so_far.done ++ o ∷ [];
-    whole = so_far.whole ∙ sym (append_assoc so_far.done (o ∷ []) left);
-    rest = took.rest ∙ ap (λ (d : DeskMeaning C). record d { log = record d.log { part = record d.log.part { known = new.log.part.known } } }) so_far.rest;
-    learnt = learnt-one old mid new so_far.done o so_far.learnt took.more took.knows;
+    done_sequels = so_far.done_sequels ++ s ∷ [];
+    part = part-more all sequels left left_sequels so_far.done so_far.done_sequels o s so_far.part;
+    rest =
+        took.rest
+        ∙ (ap (λ (d : DeskMeaning C). record d { log = record d.log { part = record d.log.part { known = new.log.part.known } }; bag = bag_with (o ∷ []) (s ∷ []) d.bag }) so_far.rest
+        ∙ ap (λ b. record old { log = record old.log { part = record old.log.part { known = new.log.part.known } }; bag = b }) (sym (bag-push so_far.done so_far.done_sequels o s old.bag so_far.part.same)));
+    learnt = learnt-one old mid new so_far.done so_far.done_sequels o s so_far.learnt took.more took.knows;
   }
 
-  pub stopped_for : (old v now : DeskMeaning C) (after : LogMeaning C) (all left : List (Result (ReplyMsg N) (ServeFault N G))) → v ≡ now → left ≡ [] → LearntSoFar old now all left → after ≡ record v.log { stopped = true } → HasStoppedFor old (record v { log = after }) all
-  stopped_for old v now after all left same none so_far halted =
-      subst (HasStoppedFor old (record v { log = after })) (sym (so_far.whole ∙ (ap (λ l. so_far.done ++ l) none ∙ append-nil so_far.done)))
-      (subst (λ (d : DeskMeaning C). HasStoppedFor old d so_far.done) (sym (ap (λ (l : LogMeaning C). record v { log = l }) halted ∙ ap (λ (d : DeskMeaning C). record d { log = record d.log { stopped = true } }) same))
-      (record { rest = ap (λ (d : DeskMeaning C). record d { log = record d.log { stopped = true } }) so_far.rest; learnt = record { more = so_far.learnt.more; knows = so_far.learnt.knows } }))
+  pub stopped_for : (old v now : DeskMeaning C) (after : LogMeaning C) (all left : List (Result (ReplyMsg N) (ServeFault N G))) (sequels left_sequels : List (Sequel N G)) → v ≡ now → length all ≡ length sequels → left ≡ [] → LearntSoFar old now all left sequels left_sequels → after ≡ record v.log { stopped = true }
+      → HasStoppedFor old (record v { log = after }) all sequels
+  stopped_for old v now after all left sequels left_sequels same long none so_far halted =
+      subst (λ os. HasStoppedFor old (record v { log = after }) os sequels) (sym (so_far.part.whole ∙ none-left so_far.done left none))
+      (subst (HasStoppedFor old (record v { log = after }) so_far.done) (sym (so_far.part.whole_beside ∙ none-left so_far.done_sequels left_sequels (none-beside all left sequels left_sequels so_far.done so_far.done_sequels long so_far.part none)))
+      (subst (λ (d : DeskMeaning C). HasStoppedFor old d so_far.done so_far.done_sequels) (sym (ap (λ (l : LogMeaning C). record v { log = l }) halted ∙ ap (λ (d : DeskMeaning C). record d { log = record d.log { stopped = true } }) same))
+      (record { rest = ap (λ (d : DeskMeaning C). record d { log = record d.log { stopped = true } }) so_far.rest; learnt = record { more = so_far.learnt.more; knows = so_far.learnt.knows } })))
+
+-- lists that go beside each other are as long
+pub zip-long : {X Y : Type 0} (R : X → Y → Type 0) (xs : List X) (ys : List Y) → AllZip R xs ys → length xs ≡ length ys
+zip-long R [] [] zips = refl
+zip-long R [] (y ∷ ys) zips = absurd zips
+zip-long R (x ∷ xs) [] zips = absurd zips
+zip-long R (x ∷ xs) (y ∷ ys) zips = ap suc (zip-long R xs ys zips.1)

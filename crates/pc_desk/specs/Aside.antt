@@ -1,9 +1,9 @@
 -- Messages that were set aside: they are sent, and are delivered once a wave waits for them, or as strays. Own profile.
-use Rattle.std.specs.Prelude.{◌≡◌, ℕ, ◌+◌, ◌&&◌, ◌||◌, ◌==◌, ◌⊎◌, List, ◌∷◌, Option, None, Some, true, cond, Contains, not}
+use Rattle.std.specs.Prelude.{◌≡◌, ℕ, ◌+◌, ◌&&◌, ◌||◌, ◌==◌, ◌⊎◌, List, ◌∷◌, Option, None, Some, true, cond, Contains, not, map}
 use Rattle.pc_desk.specs.OwnLog.{verdict_of}
 use Rattle.std.specs.BTreeMap.{insert_entry}
 use Rattle.std.specs.Ordering.{nat_cmp}
-use Rattle.pc_desk.specs.Desk.{DeskMeaning, KeepsTrack, Posted, is_on_way, posted_as}
+use Rattle.pc_desk.specs.Desk.{DeskMeaning, KeepsTrack, Posted, as_sent, is_on_way, posted_as}
 use Rattle.pc_history.specs.declared.view.Known.{Known as KnownEntry}
 use Rattle.pc_proto.specs.declared.event.Event.{Event}
 use Rattle.pc_wire.specs.declared.outbox.Stray.{Stray}
@@ -42,7 +42,7 @@ pub record HasDropped {C : Type 0} (old new : DeskMeaning C) : Type 0 where
   pub own : new.log ≡ record old.log { part = record old.log.part { known = new.log.part.known } }
   pub rest : new ≡ record old { log = new.log; later = new.later; bag = new.bag }
   pub kept : (e : ℕ × Stray Posted) → Contains old.bag e → Contains new.bag e
-  pub put : (e : ℕ × Stray Posted) → Contains new.bag e → Contains old.bag e ⊎ (Contains old.later e.1.message × (is_late (verdict_of old.log e.0) ≡ true))
+  pub put : (e : ℕ × Stray Posted) → Contains new.bag e → Contains old.bag e ⊎ (Contains (map as_sent old.later) (as_sent e.1.message) × (is_late (verdict_of old.log e.0) ≡ true))
   pub more : (k : KnownEntry Event) → Contains old.log.part.known k → Contains new.log.part.known k
   pub track : KeepsTrack new
 

@@ -24,7 +24,7 @@ use Rattle.pc_proto.specs.declared.reply.Reply.{Reply}
 use Rattle.pc_proto.specs.declared.request.Request.{Request}
 use Rattle.pc_proto.specs.Requests.{is_put}
 use Rattle.pc_proto.specs.Stamps.{request_stamps}
-use Rattle.pc_range.specs.Message.{IsEvalNote, IsFullNote, evaluation, sending}
+use Rattle.pc_range.specs.Message.{ComesAfter, IsEvalNote, IsFullNote, evaluation, sending}
 use Rattle.pc_wire.specs.declared.outbox.Stray.{Stray}
 use Rattle.pc_wire.specs.declared.verdict.Verdict.{Verdict}
 use Rattle.pc_wire.specs.declared.verdict.Verdict.TheVariants as verdicts
@@ -137,20 +137,35 @@ pub record LateMessage : Type 0 where
   pub key : ℕ
   pub sender : ActorId
   pub posted : Posted
-  pub first : List (KnownEntry Event)
+  pub first : Option (List (KnownEntry Event))
 
-abbrev pub late_as : ℕ → ActorId → Posted → List (KnownEntry Event) → LateMessage
+abbrev pub late_as : ℕ → ActorId → Posted → Option (List (KnownEntry Event)) → LateMessage
 late_as key sender posted first = record { key = key; sender = sender; posted = posted; first = first }
 
 -- What the note of a first evaluation tells, if there is one.
-abbrev pub first_told : Option (NoteMeaning Head Event) → List (KnownEntry Event)
-first_told None = []
-first_told (Some note) = note.known
+abbrev pub first_told : Option (NoteMeaning Head Event) → Option (List (KnownEntry Event))
+first_told None = None
+first_told (Some note) = Some note.known
+
+-- What the actor knows once it took that note, if there is one.
+abbrev pub told_first : Option (List (KnownEntry Event)) → List (KnownEntry Event)
+told_first None = []
+told_first (Some note) = note
+
+-- How many evaluations that tells of.
+abbrev pub times_first : Option (List (KnownEntry Event)) → ℕ
+times_first None = 0
+times_first (Some note) = 1
 
 -- What is told is nothing, or an evaluation of the actor's message.
-abbrev pub TellsFirst : ActorId → Posted → List (KnownEntry Event) → Type 0
-TellsFirst id m [] = ⊤
-TellsFirst id m (k ∷ ks) = (step : ℕ) × (reply : Reply) × IsEvalNote id m.number m.range step reply (k ∷ ks)
+abbrev pub TellsFirst : ActorId → Posted → Option (List (KnownEntry Event)) → Type 0
+TellsFirst id m None = ⊤
+TellsFirst id m (Some note) = (step : ℕ) × (reply : Reply) × IsEvalNote id m.number m.range step reply note
+
+-- A step comes after what is told of, if anything is.
+abbrev pub ComesAfterFirst : ℕ → Option (List (KnownEntry Event)) → Type 0
+ComesAfterFirst step None = ⊤
+ComesAfterFirst step (Some note) = ComesAfter step note
 
 -- The message in the bag may go: it stands under its number, and goes to a range that is there, which may evaluate it; with that it is evaluated as often as
 -- its verdict says.
@@ -161,7 +176,7 @@ pub record IsReadyLate (id : ActorId) (splits : List (List ℕ)) (verdict : ℕ 
   pub use_left : 1 ≤ l.posted.uses
   pub below : AllBelowGreatest (request_stamps l.posted.request)
   pub tells : TellsFirst id l.posted l.first
-  pub counted : length l.first + 1 ≡ uses_by (verdict l.posted.number)
+  pub counted : times_first l.first + 1 ≡ uses_by (verdict l.posted.number)
 
 -- Each message in the bag may go.
 abbrev pub IsBag : {C : Type 0} → LogMeaning C → List LateMessage → Type 0

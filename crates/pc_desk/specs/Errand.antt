@@ -19,20 +19,21 @@ use Rattle.pc_wire.specs.Verdicts.{is_losing}
 abbrev pub due_by : ℕ → ℕ → ℕ
 due_by number sends = min (number + sends) (2 ^ 64 - 1)
 
+-- The other message says what this one says.
+pub record IsAlike {N : Type 0} {G : Ghosts N CommitWorld} (message other : Message N G) : Type 0 where
+  pub sender : other.sender ≡ message.sender
+  pub number : other.number ≡ message.number
+  pub range : other.range ≡ message.range
+  pub request : other.request ≡ message.request
+
 -- The message is a copy of the other one, and has one use.
 pub record IsCopyOf {N : Type 0} {G : Ghosts N CommitWorld} (message copy : Message N G) : Type 0 where
-  pub sender : copy.sender ≡ message.sender
-  pub number : copy.number ≡ message.number
-  pub range : copy.range ≡ message.range
-  pub request : copy.request ≡ message.request
+  pub alike : IsAlike message copy
   pub note : copy.note.known ≡ with_uses 1 message.note.known
 
 -- The copy of this message, if there is one, says what it says, and has a use; the message's verdict repeats it.
 pub record IsCopyFor {N : Type 0} {G : Ghosts N CommitWorld} (verdict : ℕ → Verdict) (message copy : Message N G) : Type 0 where
-  pub sender : copy.sender ≡ message.sender
-  pub number : copy.number ≡ message.number
-  pub range : copy.range ≡ message.range
-  pub request : copy.request ≡ message.request
+  pub alike : IsAlike message copy
   pub use_left : 1 ≤ uses_left copy.note.known
   pub repeats : is_repeating (verdict message.number) ≡ true
 
@@ -43,12 +44,12 @@ IsItsCopy verdict message (Some stray) = IsCopyFor verdict message stray.message
 -- The copy, if there is one, may go into the bag beside what this note tells.
 abbrev pub MayBeKept : {C N : Type 0} {G : Ghosts N CommitWorld} → LogMeaning C → Option (Stray (Message N G)) → List (KnownEntry Event) → Type 0
 MayBeKept log None note = ⊤
-MayBeKept log (Some stray) note = IsReadyLate log.part.id log.head.splits (verdict_of log) (late_as stray.message.number stray.message.sender (posted_of stray.message) (with_uses 0 note))
+MayBeKept log (Some stray) note = IsReadyLate log.part.id log.head.splits (verdict_of log) (late_as stray.message.number stray.message.sender (posted_of stray.message) (Some (with_uses 0 note)))
 
 -- The message is evaluated and heard, and a copy is due late by so many sends.
 pub record IsRepeated {N : Type 0} {G : Ghosts N CommitWorld} (message : Message N G) (sends : ℕ) (errand : Errand N G) : Type 0 where
   pub heard : errand.sequel.is_heard ≡ true
-  pub rest : errand.message ≡ record message { note = errand.message.note }
+  pub alike : IsAlike message errand.message
   pub uses : errand.message.note.known ≡ without_uses 1 message.note.known
   pub copy : Stray (Message N G)
   pub there : errand.sequel.copy ≡ Some copy

@@ -1,18 +1,18 @@
 -- What is evaluated late, from the bag; and what is lost. Own profile.
-use Rattle.std.specs.Prelude.{◌≡◌, ℕ, ◌<◌, true, not, List, [], ◌∷◌, All, Contains, filter, ⊤}
+use Rattle.std.specs.Prelude.{◌≡◌, ℕ, ◌<◌, true, not, None, Option, Some, List, [], ◌∷◌, All, Contains, filter, ⊤}
 use Rattle.pc_desk.specs.declared.answered.Answered.{Answered}
 use Rattle.pc_desk.specs.declared.halt.Halt.{Halt}
 use Rattle.pc_desk.specs.declared.halt.Halt.TheVariants as halts
 use Rattle.pc_desk.specs.declared.late.Late.{Late}
-use Rattle.pc_desk.specs.Desk.{DeskMeaning, KeepsTrack, Posted, first_told}
+use Rattle.pc_desk.specs.Desk.{ComesAfterFirst, DeskMeaning, KeepsTrack, Posted, first_told, told_first}
 use Rattle.pc_desk.specs.OwnLog.{IsOwnLog}
 use Rattle.pc_history.specs.declared.named.Named.{Ghosts}
 use Rattle.pc_history.specs.declared.view.Known.{Known as KnownEntry}
-use Rattle.pc_history.specs.Parts.{told}
+use Rattle.pc_history.specs.Parts.{told, with_uses}
 use Rattle.pc_proto.specs.declared.event.Event.{Event}
 use Rattle.pc_proto.specs.declared.reply.Reply.{Reply}
 use Rattle.pc_range.specs.declared.commit_world.CommitWorld.{CommitWorld}
-use Rattle.pc_range.specs.Message.{ComesAfter, IsFullNote, evaluation}
+use Rattle.pc_range.specs.Message.{IsFullNote, evaluation}
 use Rattle.pc_wire.specs.declared.outbox.Stray.{Stray}
 use Rattle.pc_wire.specs.Outbox.{is_due_by}
 
@@ -27,16 +27,21 @@ pub record HasDeliveredDue {C : Type 0} (old new : DeskMeaning C) : Type 0 where
   pub more : (k : KnownEntry Event) → Contains old.log.part.known k → Contains new.log.part.known k
   pub track : KeepsTrack new
 
+-- The note that is a copy of that one, if there is one.
+abbrev pub copy_told : Option (List (KnownEntry Event)) → Option (List (KnownEntry Event))
+copy_told None = None
+copy_told (Some note) = Some (with_uses 0 note)
+
 -- The message was evaluated late, after its first evaluation, if there was one, which the actor knows too; nobody hears the reply.
 pub record HasEvaluatedLate {C N : Type 0} {G : Ghosts N CommitWorld} (old new : DeskMeaning C) (late : Late N G) : Type 0 where
   pub step : ℕ
   pub reply : Reply
   pub place : ℕ
-  pub behind : ComesAfter step (first_told late.first)
+  pub behind : ComesAfterFirst step (copy_told (first_told late.first))
   pub rest :
       new ≡ record old {
         log = record old.log {
-          part = told (record { entry = evaluation step late.message.range old.log.part.id late.message.number reply; place = place; uses = 0 } ∷ []) (told (first_told late.first) old.log.part);
+          part = told (record { entry = evaluation step late.message.range old.log.part.id late.message.number reply; place = place; uses = 0 } ∷ []) (told (told_first (first_told late.first)) old.log.part);
         };
       }
   pub log : IsOwnLog new.log
@@ -45,7 +50,7 @@ pub record HasEvaluatedLate {C N : Type 0} {G : Ghosts N CommitWorld} (old new :
 pub record HasLateBack {C N : Type 0} {G : Ghosts N CommitWorld} (old new : DeskMeaning C) (late : Late N G) : Type 0 where
   pub last : List (KnownEntry Event)
   pub full : IsFullNote late.message.range old.range_limit last
-  pub rest : new ≡ record old { log = record old.log { part = told late.message.note.known (told last (told (first_told late.first) old.log.part)); stopped = true } }
+  pub rest : new ≡ record old { log = record old.log { part = told late.message.note.known (told last (told (told_first (first_told late.first)) old.log.part)); stopped = true } }
 
 abbrev pub IsRefusedLate : {C N : Type 0} {G : Ghosts N CommitWorld} → DeskMeaning C → DeskMeaning C → Late N G → Halt → Type 0
 IsRefusedLate old new late halts.Stopped = ⊥
@@ -55,7 +60,7 @@ IsRefusedLate old new late halts.NoMemory = ⊤
 -- The message that was lost first in the wave comes before those whose replies wait, and is asked for; nothing else was done.
 pub record HasTakenLost {C : Type 0} (old new : DeskMeaning C) (number : ℕ) : Type 0 where
   pub first : old.lost ≡ number ∷ new.lost
-  pub before : All (λ a. number < a.number) old.replies
+  pub before : KeepsTrack old → All (λ a. number < a.number) old.replies
   pub rest : new ≡ record old { lost = new.lost }
   pub track : KeepsTrack old → KeepsTrack new
 

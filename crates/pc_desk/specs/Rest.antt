@@ -1,8 +1,8 @@
 -- What an actor leaves in its outbox and its bag, and what it knows once that was evaluated.
-use Rattle.std.specs.Prelude.{◌≡◌, ℕ, ◌+◌, ◌≤◌, ◌<◌, nat_lt, zero, suc, Bool, Option, Some, is_some, List, [], ◌∷◌, ◌++◌, length, map, All, Contains, ⊤}
+use Rattle.std.specs.Prelude.{◌≡◌, ℕ, ◌+◌, ◌≤◌, ◌<◌, nat_lt, zero, suc, Bool, Option, None, Some, is_some, List, ◌∷◌, ◌++◌, length, map, All, Contains, ⊤}
 use Rattle.pc_desk.specs.OwnLog.{verdict_of}
 use Rattle.pc_base.specs.declared.actor.ActorId.{ActorId}
-use Rattle.pc_desk.specs.Desk.{DeskMeaning, Posted, TellsFirst, uses_by}
+use Rattle.pc_desk.specs.Desk.{ComesAfterFirst, DeskMeaning, Posted, TellsFirst, times_first, uses_by}
 use Rattle.pc_desk.specs.Refused.{GivesBack}
 use Rattle.pc_history.specs.declared.named.Named.{Ghosts}
 use Rattle.pc_history.specs.declared.view.Known.{Known as KnownEntry}
@@ -27,24 +27,24 @@ pub record LeftMessage : Type 0 where
   pub sender : ActorId
   pub times : ℕ
   pub posted : Posted
-  pub first : List (KnownEntry Event)
+  pub first : Option (List (KnownEntry Event))
 
 -- One that waited, which is evaluated as often as its verdict says.
 abbrev pub left_as : ℕ → ActorId → Verdict → Posted → LeftMessage
-left_as key sender verdict posted = record { key = key; sender = sender; times = uses_by verdict; posted = posted; first = [] }
+left_as key sender verdict posted = record { key = key; sender = sender; times = uses_by verdict; posted = posted; first = None }
 
 -- One of the bag, which is evaluated once.
-abbrev pub stray_left_as : ℕ → ActorId → Posted → List (KnownEntry Event) → LeftMessage
+abbrev pub stray_left_as : ℕ → ActorId → Posted → Option (List (KnownEntry Event)) → LeftMessage
 stray_left_as key sender posted first = record { key = key; sender = sender; times = 1; posted = posted; first = first }
 
 -- How often the message was evaluated once it is not left any more.
 abbrev pub times_known : LeftMessage → ℕ
-times_known l = length l.first + l.times
+times_known l = times_first l.first + l.times
 
 -- One that was evaluated before is evaluated once more.
-abbrev pub IsOnceMore : List (KnownEntry Event) → ℕ → Type 0
-IsOnceMore [] times = ⊤
-IsOnceMore (k ∷ ks) times = times ≡ 1
+abbrev pub IsOnceMore : Option (List (KnownEntry Event)) → ℕ → Type 0
+IsOnceMore None times = ⊤
+IsOnceMore (Some note) times = times ≡ 1
 
 -- The message may go: it stands under its number, and goes to a range that is there, which may evaluate it so often.
 pub record IsReadyLeft (id : ActorId) (splits : List (List ℕ)) (l : LeftMessage) : Type 0 where
@@ -85,10 +85,10 @@ pub record KnowsAt (part : Part Event) (m : Posted) (step : ℕ) : Type 0 where
   pub knows : Contains part.known (record { entry = evaluation step m.range part.id m.number reply; place = place; uses = 0 })
 
 -- The actor knows such an evaluation, which came after what was told of, and what this note tells of it.
-pub record WasEvaluatedNow (part : Part Event) (m : Posted) (after note : List (KnownEntry Event)) : Type 0 where
+pub record WasEvaluatedNow (part : Part Event) (m : Posted) (after : Option (List (KnownEntry Event))) (note : List (KnownEntry Event)) : Type 0 where
   pub step : ℕ
   pub knows : KnowsAt part m step
-  pub behind : ComesAfter step after
+  pub behind : ComesAfterFirst step after
   pub before : (other : ℕ) → ComesAfter other note → step < other
 
 -- The actor knows so many evaluations of its message, twice at most, of different steps.

@@ -7,8 +7,8 @@ use Rattle.pc_desk.specs.declared.errand.Sequel.{Sequel}
 use Rattle.pc_desk.specs.declared.halt.Halt.{Halt}
 use Rattle.pc_desk.specs.declared.halt.Halt.TheVariants as halts
 use Rattle.pc_desk.specs.Desk.{DeskMeaning, HasHalted, Posted}
-use Rattle.pc_desk.specs.Errand.{HasPassedFirst, HasSetOutFirst, with_copy}
-use Rattle.pc_desk.specs.OwnLog.{IsOwnLog}
+use Rattle.pc_desk.specs.Errand.{HasPassedFirst, HasSetOutFirst, MayBeKept, with_copy}
+use Rattle.pc_desk.specs.OwnLog.{IsOwnLog, LogMeaning}
 use Rattle.pc_desk.specs.Wave.{AreRisingMessages, GoesOut, answered_by, posted_in}
 use Rattle.pc_history.specs.declared.named.Named.{Ghosts}
 use Rattle.pc_history.specs.declared.view.Known.{Known as KnownEntry}
@@ -23,19 +23,21 @@ use Rattle.pc_serving.specs.declared.delivery.Delivery.{Delivery}
 use Rattle.pc_wire.specs.declared.outbox.Stray.{Stray}
 
 -- The messages that wait are taken one after another: one that is evaluated now is set out, and none of the others is.
-pub data SetsOut {C N : Type 0} {G : Ghosts N CommitWorld} : DeskMeaning C → DeskMeaning C → List (Errand N G) → Type 0 where
-  Done : (d : DeskMeaning C) → SetsOut d d []
-  Passed : (old now new : DeskMeaning C) (errands : List (Errand N G)) → HasPassedFirst old now → SetsOut now new errands → SetsOut old new errands
-  SetOut : (old now new : DeskMeaning C) (errand : Errand N G) (errands : List (Errand N G))
-      → HasSetOutFirst old now errand
-      → SetsOut now new errands
-      → SetsOut old new (errand ∷ errands)
+pub data SetsOut {C N : Type 0} {G : Ghosts N CommitWorld} (old : DeskMeaning C) : DeskMeaning C → List (Errand N G) → Type 0 where
+  NoneYet : SetsOut old old []
+  OnePassed : (now new : DeskMeaning C) (errands : List (Errand N G)) → SetsOut old now errands → HasPassedFirst now new → SetsOut old new errands
+  OneSetOut : (now new : DeskMeaning C) (errands : List (Errand N G)) (errand : Errand N G)
+      → SetsOut old now errands
+      → HasSetOutFirst now new errand
+      → SetsOut old new (errands ++ errand ∷ [])
 
 -- The first of the messages that waited were taken, in the order of their numbers, and those that are evaluated now are the wave's, beside what comes of
 -- each evaluation; each goes out behind all that the actor made.
 pub record HasTakenWave {C N : Type 0} {G : Ghosts N CommitWorld} (old new : DeskMeaning C) (wave : List (Delivery N G)) (sequels : List (Sequel N G)) : Type 0 where
   pub errands : List (Errand N G)
   pub each_set_out : SetsOut old new errands
+  pub log : new.log ≡ old.log
+  pub limit : new.range_limit ≡ old.range_limit
   pub messages : map (λ d. d.message) wave ≡ map (λ e. e.message) errands
   pub sequels_are : sequels ≡ map (λ e. e.sequel) errands
   pub rising : AreRisingMessages (posted_in wave)
@@ -71,6 +73,11 @@ pub record HasTakenIn {C N : Type 0} {G : Ghosts N CommitWorld} (old new : DeskM
   pub rest : new ≡ record old { log = record old.log { part = record old.log.part { known = new.log.part.known } }; bag = bag_with (outcome ∷ []) (sequel ∷ []) old.bag }
   pub more : (k : KnownEntry Event) → Contains old.log.part.known k → Contains new.log.part.known k
   pub knows : KnowsOutcome new.log.part outcome sequel
+
+-- The copy of a message that was evaluated, if there is one, may go into the bag.
+abbrev pub MayBeTakenIn : {C N : Type 0} {G : Ghosts N CommitWorld} → LogMeaning C → Result (ReplyMsg N) (ServeFault N G) → Sequel N G → Type 0
+MayBeTakenIn log (Ok r) sequel = MayBeKept log sequel.copy r.note.known
+MayBeTakenIn log (Err fault) sequel = ⊤
 
 -- The actor knows what these outcomes tell, and forgot nothing.
 pub record HasTakenAllIn {C N : Type 0} {G : Ghosts N CommitWorld} (old new : DeskMeaning C) (outcomes : List (Result (ReplyMsg N) (ServeFault N G))) (sequels : List (Sequel N G)) : Type 0 where

@@ -1,9 +1,10 @@
 ghost use Rattle.std.specs.Prelude.{◌≡◌, ◌≤◌, [], true, Err, length, All, IfErr, IfOk, OnErr, OnOk};
+ghost use Rattle.std.specs.List.{AllZip};
 ghost use Rattle.pc_desk.specs.declared.halt.Halt.TheVariants as halts;
 ghost use Rattle.pc_desk.specs.Desk.{HasDelivered, HasHalted, KeepsTrack};
 ghost use Rattle.pc_desk.specs.Ending.{EndsOnly, PostsInCall};
 ghost use Rattle.pc_desk.specs.OwnLog.{IsOwnLog};
-ghost use Rattle.pc_desk.specs.TakenWave.{EndsFor, HasKeptAll, HasTakenIn, HasTakenWave};
+ghost use Rattle.pc_desk.specs.TakenWave.{EndsFor, HasKeptAll, HasTakenIn, HasTakenWave, MayBeTakenIn};
 ghost use Rattle.pc_desk.specs.Wave.{IsReply};
 
 use crate::desk::Desk;
@@ -50,29 +51,35 @@ impl<'a, N: Named<CommitWorld>, C: Clock, V: Wire, G: Gate> Desk<'a, N, C, V, G>
     fn keep_all(&mut self, outcomes: Vec<Outcome<N>>, sequels: Vec<Sequel<N>>) -> Result<(), Halt>
         requires log { IsOwnLog self.old.log }
         requires replies { All IsReply outcomes.items }
-        requires each { length outcomes.items ≡ length sequels.items }
+        requires each { AllZip (MayBeTakenIn self.old.log) outcomes.items sequels.items }
         ensures ok { OnOk result (HasKeptAll self.old self.new outcomes.items sequels.items) }
         ensures clock { self.new.log.clock ≡ self.old.log.clock }
         ensures err { IfErr result (HasHalted self.old self.new) }
         ensures memory { IfErr result (λ halt. halt ≡ halts.NoMemory) }
     {
-        for (outcome, sequel) in outcomes.into_iter().zip(sequels) {
-            let reply = match outcome {
-                Ok(reply) => reply,
-                Err(_) => unreachable!(),
-            };
-            self.take_reply(reply, sequel)?;
+        let mut sequels = sequels.into_iter();
+        for outcome in outcomes {
+            match (outcome, sequels.next()) {
+                (Ok(reply), Some(sequel)) => {
+                    self.take_reply(reply, sequel)?;
+                }
+                _ => unreachable!(),
+            }
         }
         Ok(())
     }
 
     /// Knows what became of the messages of a wave, has the uses of those that were given back, and makes no more entries.
     fn end_for(&mut self, cause: Halt, outcomes: Vec<Outcome<N>>, sequels: Vec<Sequel<N>>) -> Halt
-        requires each { length outcomes.items ≡ length sequels.items }
+        requires each { AllZip (MayBeTakenIn self.old.log) outcomes.items sequels.items }
         ensures ends { EndsFor self.old self.new outcomes.items sequels.items cause result }
         ensures clock { self.new.log.clock ≡ self.old.log.clock }
     {
-        for (outcome, sequel) in outcomes.into_iter().zip(sequels) {
+        let mut sequels = sequels.into_iter();
+        for outcome in outcomes {
+            let Some(sequel) = sequels.next() else {
+                unreachable!()
+            };
             match self.take_in(outcome, sequel) {
                 Ok(()) => {}
                 Err(NoMemory) => return self.want_memory(),
@@ -84,13 +91,16 @@ impl<'a, N: Named<CommitWorld>, C: Clock, V: Wire, G: Gate> Desk<'a, N, C, V, G>
 
     /// Knows what became of a message of a wave; its copy goes into the bag. Where it was given back, it has its use, and its copy's.
     fn take_in(&mut self, outcome: Outcome<N>, sequel: Sequel<N>) -> Result<(), NoMemory>
-        ensures ok { OnOk result (HasTakenIn self.old self.new outcome sequel.entry) }
+        requires copy { MayBeTakenIn self.old.log outcome sequel }
+        ensures ok { OnOk result (HasTakenIn self.old self.new outcome sequel) }
         ensures clock { self.new.log.clock ≡ self.old.log.clock }
     {
         match outcome {
             Ok(reply) => {
-                self.log.take(note_of(reply));
-                self.keep_copy(sequel.copy)
+                let mut note = note_of(reply);
+                self.keep_copy(sequel.copy, &mut note)?;
+                self.log.take(note);
+                Ok(())
             }
             Err(fault) => self.take_back(fault, sequel),
         }
@@ -98,7 +108,7 @@ impl<'a, N: Named<CommitWorld>, C: Clock, V: Wire, G: Gate> Desk<'a, N, C, V, G>
 
     /// Knows the last entry of a full range that gave a message back, and has the message's use, and its copy's.
     fn take_back(&mut self, fault: ServeFault<N>, sequel: Sequel<N>) -> Result<(), NoMemory>
-        ensures ok { OnOk result (HasTakenIn self.old self.new (Err fault) sequel.entry) }
+        ensures ok { OnOk result (HasTakenIn self.old self.new (Err fault) sequel) }
         ensures refused { OnErr result (self.new ≡ self.old) }
         ensures clock { self.new.log.clock ≡ self.old.log.clock }
     {

@@ -1,4 +1,4 @@
-ghost use Rattle.std.specs.Prelude.{◌≡◌, ◌+◌, ◌-◌, ◌<◌, ◌≤◌, ◌^◌, [], true, Err, length, map, None, All, IfErr, IfOk, IfNone, IfSome, OnErr, OnOk};
+ghost use Rattle.std.specs.Prelude.{◌≡◌, ℕ, ◌+◌, ◌-◌, ◌<◌, ◌≤◌, ◌^◌, [], true, Err, length, map, None, All, IfErr, IfOk, IfNone, IfSome, OnErr, OnOk};
 ghost use Rattle.std.specs.BTreeMap.{is_at};
 ghost use Rattle.std.specs.Map.{lookup, remove_entry};
 ghost use Rattle.std.specs.List.Sorted.{IsStrictlySortedBy};
@@ -333,10 +333,12 @@ impl<'a, N: Named<CommitWorld>, C: Clock, V: Wire, G: Gate> Desk<'a, N, C, V, G>
         self.later.first_from(number)
     }
 
-    /// The message of this number, which was set aside, goes with the next wave. No reply waits to be heard then, and none of a wave was heard last.
+    /// The message of this number, which was set aside, goes with the next wave. No reply waits to be heard then, none of a wave was heard last, and each
+    /// that was lost was asked for.
     pub fn join(&mut self, number: u64) -> Result<(), Halt>
         requires track { KeepsTrack self.old }
         requires none_waits { self.old.replies ≡ [] }
+        requires none_lost { self.old.lost ≡ [] }
         requires unheard { EndsUnheard self.old.log.part.own }
         requires aside { 1 ≤ posted_as number self.old.later }
         ensures ok { OnOk result (HasJoinedWave self.old self.new number) }

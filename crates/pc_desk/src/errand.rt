@@ -1,6 +1,6 @@
-ghost use Rattle.std.specs.Prelude.{◌≡◌, ◌≤◌, false, true, None, Some, IfOk, OnOk};
+ghost use Rattle.std.specs.Prelude.{◌≡◌, ◌≤◌, false, true, None, Some, IfOk};
 ghost use Rattle.pc_desk.specs.Desk.{uses_by};
-ghost use Rattle.pc_desk.specs.Errand.{IsCopyOf, IsRepeated, due_by};
+ghost use Rattle.pc_desk.specs.Errand.{IsAlike, IsCopyOf, IsRepeated, due_by};
 ghost use Rattle.pc_history.specs.Parts.{uses_left, without_uses};
 
 use pc_base::{NoMemory, TryCopy};
@@ -54,11 +54,10 @@ impl<N: Named<CommitWorld>> Errand<N> {
     /// The message is evaluated, and its reply heard; a copy is evaluated once its sender has sent so many more.
     pub(crate) fn repeated(message: Message<N>, sends: u32) -> Result<Errand<N>, NoMemory>
         requires uses { 2 ≤ uses_left message.note.known }
-        ensures { IfOk result (IsRepeated message.entry sends) }
+        ensures { IfOk result (IsRepeated message sends) }
     {
-        let mut message = message;
         let due = due_by(message.number, sends);
-        let copy = copy_of(&mut message)?;
+        let (message, copy) = copied(message)?;
         Ok(Errand {
             message,
             sequel: Sequel {
@@ -82,22 +81,31 @@ impl<N: Named<CommitWorld>> Errand<N> {
     }
 }
 
-/// A copy of the message, which gets one of its uses.
-pub(crate) fn copy_of<N: Named<CommitWorld>>(
-    message: &mut Message<N>,
-) -> Result<Message<N>, NoMemory>
-    requires { 1 ≤ uses_left message.old.note.known }
-    ensures copy { IfOk result (IsCopyOf message.old) }
-    ensures rest { OnOk result (message.new ≡ record message.old { note = message.new.note }) }
-    ensures uses { OnOk result (message.new.note.known ≡ without_uses 1 message.old.note.known) }
+/// The message, and a copy of it, which gets one of its uses.
+pub(crate) fn copied<N: Named<CommitWorld>>(
+    message: Message<N>,
+) -> Result<(Message<N>, Message<N>), NoMemory>
+    requires { 1 ≤ uses_left message.note.known }
+    ensures rest { IfOk result (λ both. IsAlike message both.0) }
+    ensures uses { IfOk result (λ both. both.0.note.known ≡ without_uses 1 message.note.known) }
+    ensures copy { IfOk result (λ both. IsCopyOf message both.1) }
 {
-    Ok(Message {
+    let mut note = message.note;
+    let copy = Message {
         sender: message.sender,
         number: message.number,
         range: message.range,
         request: message.request.copy()?,
-        note: message.note.again(1)?,
-    })
+        note: note.again(1)?,
+    };
+    let rest = Message {
+        sender: message.sender,
+        number: message.number,
+        range: message.range,
+        request: message.request,
+        note,
+    };
+    Ok((rest, copy))
 }
 
 /// How many messages a sender has sent when a message of this number is due which is late by so many sends.

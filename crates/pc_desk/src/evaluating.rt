@@ -1,16 +1,14 @@
-ghost use Rattle.std.specs.Prelude.{◌≡◌, ℕ, ◌+◌, ◌≤◌, [], true, length, IfErr, IfNone, IfOk, IfSome, OnErr, OnOk};
+ghost use Rattle.std.specs.Prelude.{◌≡◌, ℕ, ◌+◌, ◌<◌, ◌≤◌, [], true, length, All, None, IfErr, IfNone, IfOk, IfSome, OnErr, OnOk};
 ghost use Rattle.pc_desk.specs.declared.halt.Halt.TheVariants as halts;
-ghost use Rattle.pc_desk.specs.Desk.{DeskMeaning, HasDelivered, HasHalted, HasKept, HasTaken, IsReadyLate, IsReadyToGo, KeepsTrack, Posted, late_as, waiting_as, with_late};
-ghost use Rattle.pc_desk.specs.Ending.{EndsOnly, PostsInCall, PutsInCall};
+ghost use Rattle.pc_desk.specs.Desk.{HasDelivered, HasHalted, HasKept, IsReadyLate, IsReadyToGo, KeepsTrack, late_as, waiting_as, with_late};
+ghost use Rattle.pc_desk.specs.Ending.{EndsOnly, PostsInCall};
 ghost use Rattle.pc_desk.specs.Errand.{HasPassedFirst, HasSetOutFirst, IsErrandOf, IsItsCopy, MayBeKept, due_by, held_by, is_not_now, lost_by, with_copy};
-ghost use Rattle.pc_desk.specs.Evaluating.{HasEvaluated, HasTakenReply, IsRefusedErrand, told_copy};
+ghost use Rattle.pc_desk.specs.Evaluating.{EndsAtFault, HasEvaluated, HasTakenReply, IsFullFault, IsRefusedErrand, told_copy};
 ghost use Rattle.pc_desk.specs.OwnLog.{IsOwnLog, verdict_of};
-ghost use Rattle.pc_desk.specs.Refused.{GivesBack};
 ghost use Rattle.pc_desk.specs.Waiting.{IsNewest};
 ghost use Rattle.pc_desk.specs.Wave.{MayGo, posted_of};
 ghost use Rattle.pc_history.specs.Parts.{told, with_uses, without_uses};
 ghost use Rattle.pc_range.specs.Message.{ComesAfter};
-ghost use Rattle.pc_world.specs.Known.{known_of};
 
 use crate::answered::Answered;
 use crate::desk::Desk;
@@ -75,7 +73,6 @@ impl<'a, N: Named<CommitWorld>, C: Clock, V: Wire, G: Gate> Desk<'a, N, C, V, G>
     /// Takes the message of the least number from those that wait, to be evaluated as its verdict says. None where it is not evaluated now: it is
     /// lost, and in the bag if it is held.
     pub(crate) fn set_out_first(&mut self) -> Result<Option<Errand<N>>, Halt>
-        requires track { KeepsTrack self.old }
         requires some { 1 ≤ length self.old.posted }
         ensures some { IfOk result (λ errand. IfSome errand (HasSetOutFirst self.old self.new)) }
         ensures none { IfOk result (λ errand. IfNone errand (HasPassedFirst self.old self.new)) }
@@ -111,9 +108,9 @@ impl<'a, N: Named<CommitWorld>, C: Clock, V: Wire, G: Gate> Desk<'a, N, C, V, G>
         message: Message<N>,
     ) -> Result<Option<Errand<N>>, Halt>
         requires ready { IsReadyToGo self.old.log.part.id self.old.log.head.splits (verdict_of self.old.log) (waiting_as message.number message.sender verdict (posted_of message)) }
-        ensures some { IfOk result (λ errand. IfSome errand (IsErrandOf verdict message.entry)) }
+        ensures some { IfOk result (λ errand. IfSome errand (IsErrandOf verdict message)) }
         ensures none { IfOk result (λ errand. IfNone errand (is_not_now verdict ≡ true)) }
-        ensures bag { OnOk result (self.new ≡ record self.old { bag = held_by verdict (posted_of message.entry) self.old.bag }) }
+        ensures bag { OnOk result (self.new ≡ record self.old { bag = held_by verdict (posted_of message) self.old.bag }) }
         ensures clock { self.new.log.clock ≡ self.old.log.clock }
         ensures err { IfErr result (HasHalted self.old self.new) }
         ensures memory { IfErr result (λ halt. halt ≡ halts.NoMemory) }
@@ -135,8 +132,8 @@ impl<'a, N: Named<CommitWorld>, C: Clock, V: Wire, G: Gate> Desk<'a, N, C, V, G>
 
     /// Puts a message into the bag, which is late by so many sends.
     fn hold(&mut self, message: Message<N>, sends: u32) -> Result<(), Halt>
-        requires ready { IsReadyLate self.old.log.part.id self.old.log.head.splits (verdict_of self.old.log) (late_as message.number message.sender (posted_of message) []) }
-        ensures ok { OnOk result (self.new ≡ record self.old { bag = with_late (due_by message.number sends) (posted_of message.entry) self.old.bag }) }
+        requires ready { IsReadyLate self.old.log.part.id self.old.log.head.splits (verdict_of self.old.log) (late_as message.number message.sender (posted_of message) None) }
+        ensures ok { OnOk result (self.new ≡ record self.old { bag = with_late (due_by message.number sends) (posted_of message) self.old.bag }) }
         ensures clock { self.new.log.clock ≡ self.old.log.clock }
         ensures err { IfErr result (HasHalted self.old self.new) }
         ensures memory { IfErr result (λ halt. halt ≡ halts.NoMemory) }
@@ -161,11 +158,12 @@ impl<'a, N: Named<CommitWorld>, C: Clock, V: Wire, G: Gate> Desk<'a, N, C, V, G>
     ) -> Result<Note<CommitWorld, N>, Halt>
         requires may { MayGo self.old errand.message }
         requires copy { IsItsCopy (verdict_of self.old.log) errand.message errand.sequel.copy }
-        ensures ok { IfOk result (HasEvaluated self.old self.new errand.entry) }
+        ensures ok { OnOk result (HasEvaluated self.old self.new errand last.known) }
         ensures after { (step : ℕ) → IfOk result (λ n. ComesAfter step n.known → ComesAfter step last.known) }
+        ensures replies { (step : ℕ) → IfOk result (λ n. ComesAfter step n.known → All (λ a. a.step < step) self.old.replies → All (λ a. a.step < step) self.new.replies) }
         ensures clock { self.new.log.clock ≡ self.old.log.clock }
         ensures err { IfErr result (HasHalted self.old self.new) }
-        ensures refused { IfErr result (IsRefusedErrand self.old self.new errand.entry) }
+        ensures refused { IfErr result (IsRefusedErrand self.old self.new errand) }
     {
         let Errand { message, sequel } = errand;
         match self.ranges.serve(rt, message, Some(last)) {
@@ -181,7 +179,7 @@ impl<'a, N: Named<CommitWorld>, C: Clock, V: Wire, G: Gate> Desk<'a, N, C, V, G>
         sequel: Sequel<N>,
     ) -> Result<Note<CommitWorld, N>, Halt>
         requires copy { MayBeKept self.old.log sequel.copy msg.note.known }
-        ensures ok { OnOk result (HasTakenReply self.old self.new (record { number = msg.number; step = msg.step; reply = msg.reply }) (without_uses 0 msg.note.known) sequel.entry) }
+        ensures ok { OnOk result (HasTakenReply self.old self.new (record { number = msg.number; step = msg.step; reply = msg.reply }) (without_uses 0 msg.note.known) sequel) }
         ensures copy { IfOk result (λ n. n.known ≡ with_uses 0 msg.note.known) }
         ensures clock { self.new.log.clock ≡ self.old.log.clock }
         ensures err { IfErr result (HasHalted self.old self.new) }
@@ -205,8 +203,8 @@ impl<'a, N: Named<CommitWorld>, C: Clock, V: Wire, G: Gate> Desk<'a, N, C, V, G>
         first: &mut Note<CommitWorld, N>,
     ) -> Result<(), NoMemory>
         requires copy { MayBeKept self.old.log copy first.old.known }
-        ensures ok { OnOk result (self.new ≡ record self.old { bag = with_copy copy.entry self.old.bag }) }
-        ensures note { OnOk result (with_uses 0 first.new.known ≡ with_uses 0 first.old.known) }
+        ensures ok { OnOk result (self.new ≡ record self.old { bag = with_copy copy self.old.bag }) }
+        ensures note { OnOk result (first.new.known ≡ first.old.known) }
         ensures refused { OnErr result (self.new ≡ self.old) }
     {
         match copy {
@@ -283,10 +281,10 @@ impl<'a, N: Named<CommitWorld>, C: Clock, V: Wire, G: Gate> Desk<'a, N, C, V, G>
     /// Stops where a range refused a message. It has the uses of a message back that a full range gave back, its copy's too: that one is never
     /// evaluated.
     fn refused(&mut self, fault: ServeFault<N>, sequel: Sequel<N>) -> Halt
-        requires { (m : Posted) × (1 ≤ m.uses) × GivesBack self.old.range_limit self.old.log.part.id m fault }
+        requires full { IsFullFault self.old.range_limit fault }
         ensures halted { HasHalted self.old self.new result }
         ensures clock { self.new.log.clock ≡ self.old.log.clock }
-        ensures ended { (old : DeskMeaning C) (m : Posted) → KeepsTrack old → HasTaken old self.old m → 1 ≤ m.uses → GivesBack self.old.range_limit self.old.log.part.id m fault → PutsInCall (known_of old.log.part.own) m.request → EndsOnly (λ made. ⊥) old self.new result }
+        ensures ends { EndsAtFault self.old self.new fault sequel result }
     {
         match fault {
             ServeFault::Full {
@@ -315,7 +313,7 @@ impl<'a, N: Named<CommitWorld>, C: Clock, V: Wire, G: Gate> Desk<'a, N, C, V, G>
 
     /// Has the use back of the copy of a message that is never evaluated.
     pub(crate) fn have_copy_back(&mut self, sequel: Sequel<N>)
-        ensures { self.new ≡ record self.old { log = record self.old.log { part = told_copy sequel.entry.copy self.old.log.part } } }
+        ensures { self.new ≡ record self.old { log = record self.old.log { part = told_copy sequel.copy self.old.log.part } } }
     {
         if let Some(Stray { message, .. }) = sequel.copy {
             self.log.take(message.note);

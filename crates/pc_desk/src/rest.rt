@@ -1,4 +1,4 @@
-ghost use Rattle.std.specs.Prelude.{◌≡◌, ◌≤◌, [], ◌++◌, map, All, IfErr, IfNone, IfOk, IfSome, OnOk};
+ghost use Rattle.std.specs.Prelude.{◌≡◌, ◌≤◌, ◌&&◌, [], ◌++◌, map, Some, All, IfErr, IfNone, IfOk, IfSome, OnOk};
 ghost use Rattle.pc_desk.specs.Desk.{TellsFirst, first_told, posting};
 ghost use Rattle.pc_desk.specs.Left.{IsFirstOf, left_of};
 ghost use Rattle.pc_desk.specs.Refused.{GivesBack};
@@ -6,7 +6,7 @@ ghost use Rattle.pc_desk.specs.Rest.{AreServedLeft, HasOnlyLearnt, IsReadyLeft, 
 ghost use Rattle.pc_desk.specs.Wave.{posted_of};
 ghost use Rattle.pc_history.specs.Parts.{told, uses_left};
 
-use crate::errand::{copy_of, uses_of};
+use crate::errand::copied;
 use crate::late::Late;
 use crate::left::Left;
 use pc_history::{Actor, Named, Note};
@@ -62,25 +62,23 @@ impl<N: Named<CommitWorld>> Rest<N> {
         let waiting = self.outbox.first_from(0);
         let aside = self.later.first_from(0);
         let stray = self.late.first_stray();
-        if comes_before(stray, waiting) && comes_before(stray, aside) {
-            let Late { message, first } = self.late.take_stray()?;
-            return Some(Left {
-                times: 1,
-                message,
-                first,
-            });
+        if comes_first(stray, waiting, aside) {
+            return Some(Left::stray(self.late.take_stray()?));
         }
-        let (verdict, message) = if comes_before(aside, waiting) {
-            self.later.take_first()?
-        } else {
-            self.outbox.take_first()?
-        };
-        Some(Left {
-            times: uses_of(verdict),
-            message,
-            first: None,
-        })
+        if comes_before(aside, waiting) {
+            let (verdict, message) = self.later.take_first()?;
+            return Some(Left::waiting(verdict, message));
+        }
+        let (verdict, message) = self.outbox.take_first()?;
+        Some(Left::waiting(verdict, message))
     }
+}
+
+/// Whether the one number is there, and below the two others, where they are there.
+fn comes_first(one: Option<u64>, other: Option<u64>, third: Option<u64>) -> bool
+    ensures { result ≡ (comes_before one other && comes_before one third) }
+{
+    comes_before(one, other) && comes_before(one, third)
 }
 
 /// Whether the one number is there, and below the other, if that is there.
@@ -126,8 +124,8 @@ fn evaluate<N: Named<CommitWorld>, G: Gate, R: Wait>(
 ) -> Result<(), ServeFault<N>>
     requires ready { IsReadyLeft actor.old.part.id ranges.now.splits (left_of left) }
     ensures same { HasOnlyLearnt actor.old actor.new }
-    ensures all { OnOk result (KnowsTimes actor.new.part (posted_of left.entry.message) (times_known (left_of left.entry))) }
-    ensures err { IfErr result (GivesBack ranges.now.limit actor.old.part.id (posted_of left.entry.message)) }
+    ensures all { OnOk result (KnowsTimes actor.new.part (posted_of left.message) (times_known (left_of left))) }
+    ensures err { IfErr result (GivesBack ranges.now.limit actor.old.part.id (posted_of left.message)) }
 {
     let Left {
         times,
@@ -157,8 +155,8 @@ fn evaluate_once<N: Named<CommitWorld>, G: Gate, R: Wait>(
 ) -> Result<Note<CommitWorld, N>, ServeFault<N>>
     requires may { MayBeServedFor actor.old.part.id ranges.now.splits message }
     ensures same { HasOnlyLearnt actor.old actor.new }
-    ensures ok { IfOk result (λ n. WasEvaluatedNow actor.new.part (posted_of message.entry) (first_told after.entry) n.known) }
-    ensures err { IfErr result (GivesBack ranges.now.limit actor.old.part.id (posted_of message.entry)) }
+    ensures ok { IfOk result (λ n. WasEvaluatedNow actor.new.part (posted_of message) (first_told after) n.known) }
+    ensures err { IfErr result (GivesBack ranges.now.limit actor.old.part.id (posted_of message)) }
 {
     let mut reply = ranges.serve(rt, message, after)?;
     let note = reply.note.again(0)?;
@@ -175,10 +173,10 @@ fn evaluate_again<N: Named<CommitWorld>, G: Gate, R: Wait>(
     ranges: &Ranges<'_, N, G>,
 ) -> Result<(), ServeFault<N>>
     requires may { MayBeServedFor actor.old.part.id ranges.now.splits message }
-    requires tells { TellsFirst actor.old.part.id (posted_of message) first.known }
+    requires tells { TellsFirst actor.old.part.id (posted_of message) (Some first.known) }
     ensures same { HasOnlyLearnt actor.old actor.new }
-    ensures all { OnOk result (KnowsTimes actor.new.part (posted_of message.entry) 2) }
-    ensures err { IfErr result (GivesBack ranges.now.limit actor.old.part.id (posted_of message.entry)) }
+    ensures all { OnOk result (KnowsTimes actor.new.part (posted_of message) 2) }
+    ensures err { IfErr result (GivesBack ranges.now.limit actor.old.part.id (posted_of message)) }
 {
     let mut first = first;
     let copy = first.again(0)?;
@@ -197,11 +195,10 @@ fn evaluate_twice<N: Named<CommitWorld>, G: Gate, R: Wait>(
     requires may { MayBeServedFor actor.old.part.id ranges.now.splits message }
     requires uses { 2 ≤ uses_left message.note.known }
     ensures same { HasOnlyLearnt actor.old actor.new }
-    ensures all { OnOk result (KnowsTimes actor.new.part (posted_of message.entry) 2) }
-    ensures err { IfErr result (GivesBack ranges.now.limit actor.old.part.id (posted_of message.entry)) }
+    ensures all { OnOk result (KnowsTimes actor.new.part (posted_of message) 2) }
+    ensures err { IfErr result (GivesBack ranges.now.limit actor.old.part.id (posted_of message)) }
 {
-    let mut message = message;
-    let copy = copy_of(&mut message)?;
+    let (message, copy) = copied(message)?;
     match evaluate_once(rt, copy, None, actor, ranges) {
         Ok(first) => {
             evaluate_once(rt, message, Some(first), actor, ranges)?;

@@ -63,13 +63,12 @@ impl<'a, N: Named<CommitWorld>, C: Clock, V: Wire, G: Gate> Desk<'a, N, C, V, G>
         ensures err { IfErr result (HasHalted self.old self.new) }
         ensures ended { IfErr result (EndsOnly (λ made. ⊥) self.old self.new) }
     {
-        let (verdict, message) = match self.later.take_first() {
-            Some(first) => first,
+        match self.later.take_first() {
+            Some((verdict, message)) => match self.set_out(verdict, message)? {
+                Some(errand) => self.evaluate(rt, errand.dropped(), last),
+                None => Ok(last),
+            },
             None => unreachable!(),
-        };
-        match self.set_out(verdict, message)? {
-            Some(errand) => self.evaluate(rt, errand.dropped(), last),
-            None => Ok(last),
         }
     }
 
@@ -102,10 +101,10 @@ impl<'a, N: Named<CommitWorld>, C: Clock, V: Wire, G: Gate> Desk<'a, N, C, V, G>
         last: Note<CommitWorld, N>,
     ) -> Result<Note<CommitWorld, N>, Halt>
         requires may { MayGo self.old late.message }
-        ensures ok { OnOk result (HasEvaluatedLate self.old self.new late.entry) }
+        ensures ok { OnOk result (HasEvaluatedLate self.old self.new late) }
         ensures clock { self.new.log.clock ≡ self.old.log.clock }
         ensures err { IfErr result (HasHalted self.old self.new) }
-        ensures refused { IfErr result (IsRefusedLate self.old self.new late.entry) }
+        ensures refused { IfErr result (IsRefusedLate self.old self.new late) }
     {
         let Late { message, first } = late;
         match first {

@@ -1,5 +1,5 @@
 -- What may be sent may be sent again once it was sent and nothing was heard of it.
-use Rattle.std.proofs.Common.{◌≡◌, ℕ, ◌+◌, ◌≤◌, max, Bool, true, false, inl, inr, Contains, List, [], ◌∷◌, ◌++◌, map, All, Any, Option, None, Some, IsTrue, refl, sym, ap, ◌∙◌, subst, arith, ◌||◌, ◌⊎◌}
+use Rattle.std.proofs.Common.{◌≡◌, ◌≢◌, ℕ, ◌+◌, ◌≤◌, max, Bool, true, false, inl, inr, Contains, List, [], ◌∷◌, ◌++◌, map, All, Any, Option, None, Some, IsTrue, refl, sym, ap, ◌∙◌, subst, arith, ◌||◌, ◌⊎◌}
 use Rattle.std.proofs.lemmas.List.Elements.{All-push, All-weaker}
 use Rattle.std.proofs.lemmas.List.Folds.{list_any-append}
 use Rattle.std.specs.List.{list_any}
@@ -30,7 +30,8 @@ use Rattle.pc_world.specs.Send.Push.{MaySendPush}
 use Rattle.pc_world.specs.Send.Recovery.{IsOwnName, MayFind, MaySendQuery, MaySendRecover, QueryOfListed, QueryOfOwn}
 use Rattle.pc_world.specs.Send.Settling.{MaySendRemove, MustSettle}
 use Rattle.pc_world.specs.Send.Stage.{MaySendStage}
-use Rattle.pc_world.specs.StageFate.{OnCommit, OnStage, SentCommit, SentStage, stage_request}
+use Rattle.pc_world.specs.StageFate.{IsLate, OnCommit, OnStage, SentCommit, SentStage, WasCommitRefused, stage_request}
+use Rattle.pc_world.specs.Views.{WasCommitted}
 
 -- a list each of whose elements stays
 all-kept : {X : Type 0} (g : X → X) → ((x : X) → g x ≡ x) → (xs : List X) → map g xs ≡ xs
@@ -92,47 +93,52 @@ module _ (splits : List (List ℕ)) (number range : ℕ) (k : Known) where
     must-again : (id : TxnId) (shown locks : List (List ℕ)) → MustSettle k id shown locks → MustSettle later id shown locks
     must-again id shown locks must = subst (λ txns. MustSettle (record later { txns = txns }) id shown locks) (sym txns-same) must
 
+  -- no call is open
+  never-open : (o : Option Statement) → k.statement ≡ o → ((s : Statement) → k.statement ≡ Some s → ⊥) → (call : Call) → call_in o ≡ Some call → ⊥
+  never-open None is closed call asked = cc
+  never-open (Some s) is closed call asked = closed s is
+
   -- a job's commit
-  commit-again : (c : SentCommit) → ((s : Statement) → k.statement ≡ Some s → ⊥) → MaySendCommit k c → MaySendCommit (with_sent number range (requests.Commit c.meta c.ts c.locks) k) c
-  commit-again c closed may =
-      let request = requests.Commit c.meta c.ts c.locks in
-      record {
-        t = txn_sent request may.t;
-        mine = contains_map (txn_sent request) k.txns may.t may.mine;
-        whose = record { anchored = may.whose.anchored; same = may.whose.same };
-        all_locks = may.all_locks;
-        decided = by may.decided;
-      }
-    where
-      request : Request
-      request = requests.Commit c.meta c.ts c.locks
+  module _ (c : SentCommit) (closed : (s : Statement) → k.statement ≡ Some s → ⊥) where
+    abbrev its_request : Request
+    its_request = requests.Commit c.meta c.ts c.locks
 
-      open_call : (o : Option Statement) → k.statement ≡ o → call_in o ≡ Some calls.Commit → ⊥
-      open_call None is asked = cc
-      open_call (Some s) is asked = closed s is
+    abbrev it_was_sent : Sent
+    it_was_sent = record { number = number; range = range; request = its_request }
 
-      committed : MayCommit k may.t c.ts → may.t.committed ≡ Some c.ts
-      committed (inl now) = absurd (open_call k.statement refl now.1)
-      committed (inr told) = told
+    abbrev committing : Known
+    committing = with_sent number range its_request k
 
-      by : MayDecide k may.t c.ts ⊎ _ → MayDecide (with_sent number range request k) (txn_sent request may.t) c.ts ⊎ _
-      by (inl decides) = inl (record {
-        may = inr (committed decides.may);
-        at_write_ts = decides.at_write_ts;
-        good = record { begun = decides.good.begun; reads = decides.good.reads };
-        proved = decides.proved;
-        stages = All-push (λ (m : Sent). OnStage may.t.id _ m.request) k.sent _ decides.stages tt;
-        commits = All-push (λ (m : Sent). OnCommit may.t.id _ m.request) k.sent _ decides.commits (λ its differs. absurd (differs refl));
-      })
-      by (inr was) = inr was
+    committed-so : (t : Txn) → MayCommit k t c.ts → t.committed ≡ Some c.ts
+    committed-so t (inl now) = absurd (never-open k.statement refl closed calls.Commit now.1)
+    committed-so t (inr told) = told
+
+    decided-again : (t : Txn) → MayDecide k t c.ts ⊎ WasCommitted k.heard t.id c.ts → MayDecide committing (txn_sent its_request t) c.ts ⊎ WasCommitted k.heard t.id c.ts
+    decided-again t (inl decides) =
+        let S : Sent → Type 0 = λ m. OnStage t.id (λ s. s.ts ≢ c.ts → IsLate k.heard s) m.request in
+        let R : Sent → Type 0 = λ m. OnCommit t.id (λ other. other.ts ≢ c.ts → WasCommitRefused k.heard other) m.request in
+        inl (record {
+          may = inr (committed-so t decides.may);
+          at_write_ts = decides.at_write_ts;
+          good = record { begun = decides.good.begun; reads = decides.good.reads };
+          proved = decides.proved;
+          stages = All-push S k.sent it_was_sent decides.stages tt;
+          commits = All-push R k.sent it_was_sent decides.commits (λ its differs. absurd (differs refl));
+        })
+    decided-again t (inr was) = inr was
+
+    commit-again : MaySendCommit k c → MaySendCommit committing c
+    commit-again may = record {
+      t = txn_sent its_request may.t;
+      mine = contains_map (txn_sent its_request) k.txns may.t may.mine;
+      whose = record { anchored = may.whose.anchored; same = may.whose.same };
+      all_locks = may.all_locks;
+      decided = decided-again may.t may.decided;
+    }
 
   -- a stage of a transaction that is over
   stage-again : (s : SentStage) → ((o : Statement) → k.statement ≡ Some o → ⊥) → MaySendStage k s → MaySendStage (with_sent number range (stage_request s) k) s
-  stage-again s closed (inl may) = absurd (no-open k.statement refl may.asked)
-    where
-      no-open : (o : Option Statement) → k.statement ≡ o → call_in o ≡ Some calls.Commit → ⊥
-      no-open None is asked = cc
-      no-open (Some o) is asked = closed o is
+  stage-again s closed (inl may) = absurd (never-open k.statement refl closed calls.Commit may.asked)
   stage-again s closed (inr may) = inr (record {
     t = txn_sent (stage_request s) may.t;
     mine = contains_map (txn_sent (stage_request s)) k.txns may.t may.mine;

@@ -148,8 +148,8 @@ now-after k (events.Tell answer) named a s = now-same k a
 now-after k (events.Meet id step) named a s = now-same k a
 
 module _ (head : Head) (actor : ActorId) (client : IsNoRange actor) where
-  may-do : (own : List (Pair Event)) (event : Event) (named : Option (Entry Event)) → MayComeNext head actor own event named → MayDo head actor (known_of own) event
-  may-do own event named may = by actor client may
+  pub may_do : (own : List (Pair Event)) (event : Event) (named : Option (Entry Event)) → MayComeNext head actor own event named → MayDo head actor (known_of own) event
+  may_do own event named may = by actor client may
     where
       by : (actor : ActorId) → IsNoRange actor → MayComeNext head actor own event named → MayDo head actor (known_of own) event
       by (actors.Session number) client may = may
@@ -166,7 +166,7 @@ module _ (head : Head) (actor : ActorId) (client : IsNoRange actor) where
             let next : MayComeNext head actor (own (protocol head) actor history) e.event named =
             subst (λ (a : ActorId). MayComeNext head a (own (protocol head) a history) e.event named) same may.local.next in
             subst Since (sym (known_same head actor history e same))
-            (now-after k e.event named before (steps-of head actor k e.event before (may-do (own (protocol head) actor history) e.event named next)))
+            (now-after k e.event named before (steps-of head actor k e.event before (may_do (own (protocol head) actor history) e.event named next)))
         | inr differ ↦ subst Since (sym (known_other head actor history e differ)) before
       ])
 
@@ -236,6 +236,13 @@ module _ {C : Type 0} (d : DeskMeaning C) (back : HasAllBack d) where
 
   pub all_heard_or_lost : All (λ m. IsHeardOrPut known.heard m ⊎ (is_losing (verdict_of d.log m.number) ≡ true)) known.sent
   all_heard_or_lost = all_from_contains (λ m. IsHeardOrPut known.heard m ⊎ (is_losing (verdict_of d.log m.number) ≡ true)) known.sent heard-or-lost
+
+  -- replies are to what was sent
+  pub heard_low : All (λ h. h.number ≤ length known.sent) known.heard
+  heard_low =
+      let log = back.track.log in
+      let a : Since known = subst Since (known_there d.log log) (since d.log.head d.log.part.id log.client (history_of d.log log) (is_run d.log log)) in
+      a.behind
 
   -- no message has the next number
   pub next_unsent : times_sent (next_number known) known ≡ 0

@@ -9,26 +9,33 @@ use Rattle.pc_coord.specs.declared.job.Job.{Job}
 use Rattle.pc_call.specs.Finished.{KnowsFate, MayBeCommittedFirst, MayBeSettledAfter}
 use Rattle.pc_coord.specs.Knows.{left_for, messages_of_job}
 use Rattle.pc_desk.specs.Desk.{DeskMeaning}
+use Rattle.pc_desk.specs.Keeping.{LosesNothing}
+use Rattle.pc_desk.specs.OwnLog.{LogMeaning, verdict_of}
 use Rattle.pc_exchange.proofs.Anchored.{anchor_is, own_named}
 use Rattle.pc_exchange.proofs.Aside.{aside_none, goes_on_beside, heard_since, kind_now, left_still, must}
-use Rattle.pc_exchange.proofs.Called.{all_heard_ever}
+use Rattle.pc_exchange.proofs.Called.{all_heard_ever, all_heard_or_lost}
 use Rattle.pc_exchange.proofs.Coordinator.{counted_closed}
-use Rattle.pc_exchange.proofs.Going.{answered_to_by, aside_by, goes_both, goes_none, heard_now_by, jobs_by, known_by_it, not_same, part_by, reply_by, told_by}
+use Rattle.pc_exchange.proofs.Going.{answered_to_by, aside_by, goes_by, heard_by_it, heard_now_by, jobs_by, lost_aside, lost_told, never_quiet, not_same, part_by, reply_by, told_by}
+use Rattle.pc_exchange.proofs.Growing.{goes_both, goes_none}
 use Rattle.pc_exchange.proofs.HeardSince.{shows_fate, shows_told, told_heard}
 use Rattle.pc_exchange.proofs.Messages.{due_first, finishing_left, is_first, left_by_exchange, left_less, less_left, none_left, staged_messages, unstaged_messages}
 use Rattle.pc_exchange.proofs.RowsDecide.{commit_decides}
+use Rattle.pc_exchange.proofs.SameRange.{more_is_heard, went_on}
 use Rattle.pc_exchange.proofs.Silent.{beside_commits_none}
 use Rattle.pc_exchange.proofs.Timely.{IsTimely, may_exchange}
 use Rattle.pc_exchange.proofs.ToldViews.{IsCommittedView}
 use Rattle.pc_exchange.proofs.Waves.{none_awaited}
 use Rattle.pc_exchange.specs.Aside.{IsAside, IsLaterAside}
-use Rattle.pc_exchange.specs.Exchange.{MayExchangeNow, WasExchanged}
+use Rattle.pc_exchange.specs.Exchange.{HasLostAll, MayExchangeNow, WasExchanged}
+use Rattle.pc_exchange.specs.Growing.{HasGoneBeside}
 use Rattle.pc_exchange.specs.Finishing.{IsJobUnderWay, IsMachineOf, is_committed_reply, messages_due, with_rest}
-use Rattle.pc_exchange.specs.Jobs.{HasFinishedJob, MayFinishNow}
-use Rattle.pc_exchange.specs.Told.{KeepsTold, StaysDecided}
+use Rattle.pc_exchange.specs.Jobs.{HasFinishedJob, IsJobMade, MayFinishNow}
+use Rattle.pc_exchange.specs.Told.{KeepsTold, StaysDecided, StillDecides}
+use Rattle.pc_history.specs.declared.pair.Pair.{Pair}
 use Rattle.pc_lists.proofs.Anywhere.{any_last}
 use Rattle.pc_lists.proofs.Lists.{contains_head}
 use Rattle.pc_lists.proofs.Same.{same_txn-self}
+use Rattle.pc_proto.specs.declared.event.Event.{Event}
 use Rattle.pc_proto.specs.declared.machine.MachineNext.{MachineNext}
 use Rattle.pc_proto.specs.declared.machine.MachineNext.TheVariants as machine
 use Rattle.pc_proto.specs.declared.reply.Reply.{Reply}
@@ -61,6 +68,19 @@ undecided_closed : (k : Known) → k.statement ≡ None → (t : Txn) → IsComm
 undecided_closed k closed t (inl (ts, decided)) = let both = sym (ap call_in closed) ∙ decided.asked in cc both
 undecided_closed k closed t (inr (why, decided)) = let both = sym (ap call_in closed) ∙ decided.asked in cc both
 
+-- ---- what a job leaves, however it ended
+
+made_of : {C : Type 0} (old : DeskMeaning C) (job : Job) (start : MayFinishNow old job) (new : DeskMeaning C) (part : List (Pair Event)) → HasGoneBeside old new part → (ts : ℕ)
+    → IsLaterAside start.session (known_of old.log.part.own) (known_of new.log.part.own) ts → KeepsTold (known_of old.log.part.own) (known_of new.log.part.own)
+    → IsJobMade start.session (known_of old.log.part.own) (known_of new.log.part.own) ts
+made_of old job start new part goes ts aside told = record {
+  aside = aside;
+  left = left_still start.session (known_of old.log.part.own) (known_of new.log.part.own) ts aside told (own_named new.log goes.back.track.log);
+  beside = λ c same knows.
+      goes_on_beside start.session (known_of old.log.part.own) (known_of new.log.part.own) ts aside c same (counted_closed true c (known_of old.log.part.own) knows start.closed) true
+      (λ is. absurd (let e : true ≡ false = is in cc e)) (λ is. went_on start.session (known_of old.log.part.own) new ts aside goes.back.track.log (knows.course.one_range refl));
+}
+
 -- it begins, where no commit goes first
 pub finishing_begins : {C : Type 0} (old : DeskMeaning C) (job : Job) (m : Resolving) → MayFinishNow old job → job.staged ≡ None → IsMachineOf job m
     → ((k : Known) → MayFinish k m.id m.anchor m.fate m.locks → ResolveKnows k k m) → IsJobUnderWay old job m old 0
@@ -73,7 +93,7 @@ finishing_begins old job m start none made knows = record {
   began = known_of old.log.part.own;
   knows = knows (known_of old.log.part.own)
       (subst (λ (m : Resolving). MayFinish (known_of old.log.part.own) m.id m.anchor m.fate m.locks) (sym made) (subst (λ o. MayBeSettledAfter o (known_of old.log.part.own) (left_for job)) none start.may.may));
-  waiting = start.oldest ∙ (ap (λ l. l ∷ start.waiting) (unstaged_messages job none) ∙ (sym (finishing_left job start.waiting) ∙ sym (ap (λ m. with_rest (messages_due m) start.waiting) made)));
+  waiting = λ quiet. start.oldest quiet ∙ (ap (λ l. l ∷ start.waiting) (unstaged_messages job none) ∙ (sym (finishing_left job start.waiting) ∙ sym (ap (λ m. with_rest (messages_due m) start.waiting) made)));
   named = ap (λ (m : Resolving). m.id) made;
 }
 
@@ -104,8 +124,8 @@ module _ {C : Type 0} (old : DeskMeaning C) (job : Job) (at : ℕ) (start : MayF
     unqueried = λ t opened. refl;
   }
 
-  commit_timely : IsTimely old.log.pipelining before_known (jobs_of old.log.part.own) commit_of_job
-  commit_timely = record {
+  commit_timely : LosesNothing (verdict_of old.log) → IsTimely old.log.pipelining before_known (jobs_of old.log.part.own) commit_of_job
+  commit_timely quiet = record {
     undecided = undecided_closed before_known start.closed;
     again = λ s opened any. no-call s opened;
     kind = λ s opened. no-call s opened;
@@ -116,14 +136,15 @@ module _ {C : Type 0} (old : DeskMeaning C) (job : Job) (at : ℕ) (start : MayF
     unsent = λ is own. no-call own.0 own.2;
     proved = none_awaited before_known start.closed before_known.sent;
     heard = λ s opened. no-call s opened;
-    due = λ none. record { next = ap first_message (start.oldest ∙ ap (λ l. l ∷ start.waiting) (staged_messages job at staged)); heard = all_heard_ever old start.back };
+    due = λ none. record { next = ap first_message (start.oldest quiet ∙ ap (λ l. l ∷ start.waiting) (staged_messages job at staged)); heard = all_heard_ever old start.back quiet };
   }
 
   -- it may be exchanged
   pub commit_asks : MayExchangeNow old commit_of_job
   commit_asks =
       may_exchange old start.session commit_of_job start.back start.whose commit_aside.kind
-      (record { row = may_first.commit; stamps = subst (λ f. All (λ ts. ts ≤ before_known.top + 1) (fate_stamps f)) may_first.fate may_first.stamps }) commit_timely
+      (record { row = may_first.commit; stamps = subst (λ f. All (λ ts. ts ≤ before_known.top + 1) (fate_stamps f)) may_first.fate may_first.stamps })
+      (λ s opened. no-call s opened) commit_timely
 
   module _ (new : DeskMeaning C) (reply : Reply) (x : WasExchanged old new commit_of_job reply) where
     abbrev after_known : Known
@@ -133,7 +154,7 @@ module _ {C : Type 0} (old : DeskMeaning C) (job : Job) (at : ℕ) (start : MayF
     it_heard = reply_by old new commit_of_job reply x
 
     heard_it : after_known.heard ≡ before_known.heard ++ it_heard ∷ []
-    heard_it = ap (λ (k : Known). k.heard) (known_by_it old new commit_of_job reply start.back x)
+    heard_it = heard_by_it old new commit_of_job reply start.back x
 
     there_heard : Contains after_known.heard it_heard
     there_heard = subst (λ hs. Contains hs it_heard) (sym heard_it) (Contains-push before_known.heard it_heard)
@@ -162,17 +183,17 @@ module _ {C : Type 0} (old : DeskMeaning C) (job : Job) (at : ℕ) (start : MayF
 
     -- its transaction, which was told committed so, is shown committed so
     shown_by : (view : View) → reply ≡ replies.Status view → KnowsFate before_known its_txn may_first.epoch at job.fate → IsCommittedView may_first.epoch at view
-    shown_by view is (inl (own, decides)) = elim (shows_told old new (part_by old new commit_of_job reply x) x.goes start.back.track start.session (max 0 (greatest_of (reply_stamps reply))) its_aside its_txn job.meta.anchor at may_first.commit.mine may_first.commit.whose.anchored (told_so decides.may) it_heard there_since view about_txn (ap view_in is)) [
+    shown_by view is (inl (own, decides)) = elim (shows_told old new (part_by old new commit_of_job reply x) (goes_by old new commit_of_job reply x) start.back.track start.session (max 0 (greatest_of (reply_stamps reply))) its_aside its_txn job.meta.anchor at may_first.commit.mine may_first.commit.whose.anchored (told_so decides.may) it_heard there_since view about_txn (ap view_in is)) [
       | inl shown ↦ subst (λ e. IsCommittedView e at view) (sym own) shown
       | inr staged ↦
           let epoch : its_txn.epoch ≡ job.meta.epoch = sym (ap (λ (m : TxnMeta). m.epoch) may_first.commit.whose.same) in
-          absurd (commit_decides new.log x.goes.back.track.log it_heard there_heard job.meta at job.locks staged.0 refl (is ∙ ap (λ v. replies.Status v) (staged.1 ∙ ap (λ e. views.Staging e at staged.0) epoch)))
+          absurd (commit_decides new.log x.once.goes.back.track.log it_heard there_heard job.meta at job.locks staged.0 refl (is ∙ ap (λ v. replies.Status v) (staged.1 ∙ ap (λ e. views.Staging e at staged.0) epoch)))
     ]
     shown_by view is (inr fate) =
-        shows_fate old new (part_by old new commit_of_job reply x) x.goes start.back.track start.session (max 0 (greatest_of (reply_stamps reply))) its_aside it_heard there_since its_txn may_first.epoch at (subst (MaySendResolve before_known its_txn.id) may_first.fate fate) view about_txn (ap view_in is)
+        shows_fate old new (part_by old new commit_of_job reply x) (goes_by old new commit_of_job reply x) start.back.track start.session (max 0 (greatest_of (reply_stamps reply))) its_aside it_heard there_since its_txn may_first.epoch at (subst (MaySendResolve before_known its_txn.id) may_first.fate fate) view about_txn (ap view_in is)
 
     shown_committed : (shown : List (List ℕ)) × (reply ≡ replies.Status (views.Committed may_first.epoch at shown))
-    shown_committed = by reply refl x.kind
+    shown_committed = by reply refl x.once.kind
       where
         by : (told : Reply) → reply ≡ told → MayAnswer commit_of_job told → (shown : List (List ℕ)) × (reply ≡ replies.Status (views.Committed may_first.epoch at shown))
         by (replies.Status view) is kind = let shown = shown_by view is may_first.known in (shown.0, is ∙ ap (λ v. replies.Status v) shown.1)
@@ -202,7 +223,7 @@ module _ {C : Type 0} (old : DeskMeaning C) (job : Job) (at : ℕ) (start : MayF
       resolve = subst (Any (ShowsFate job.meta.id job.fate)) (sym heard_it)
           (any_last (ShowsFate job.meta.id job.fate) before_known.heard it_heard (record { about = about_it; view = views.Committed may_first.epoch at shown_committed.0; told = view_told; fits = subst (IsFateOf (views.Committed may_first.epoch at shown_committed.0)) (sym may_first.fate) (refl, refl) }));
       stamps = All-weaker (λ ts. ts ≤ before_known.top + 1) (λ ts. ts ≤ after_known.top + 1) (λ ts low. let up = aside_now.top in omega (arith, up, low)) (fate_stamps job.fate) may_first.stamps;
-      anchored = anchor_is new.log x.goes.back.track.log it_heard there_heard job.meta.id job.meta.anchor about_it (ap is_some view_told) refl;
+      anchored = anchor_is new.log x.once.goes.back.track.log it_heard there_heard job.meta.id job.meta.anchor about_it (ap is_some view_told) refl;
       shown = shown_committed.0;
       final = subst (Any (ShowsFinal job.meta.id shown_committed.0)) (sym heard_it) (any_last (ShowsFinal job.meta.id shown_committed.0) before_known.heard it_heard (record { about = about_it; view = views.Committed may_first.epoch at shown_committed.0; told = view_told; final = refl }));
       must = must_settle;
@@ -214,7 +235,7 @@ module _ {C : Type 0} (old : DeskMeaning C) (job : Job) (at : ℕ) (start : MayF
       where
         by : (b : Bool) → same_txn job.meta.id t.id ≡ b → StaysDecided after_known t other
         by true is =
-            inr (told_heard old new (part_by old new commit_of_job reply x) x.goes start.back.track start.session (max 0 (greatest_of (reply_stamps reply))) its_aside t anchor other decides.0 anchored committed it_heard there_since is (views.Committed may_first.epoch at shown_committed.0) view_told
+            inr (told_heard old new (part_by old new commit_of_job reply x) (goes_by old new commit_of_job reply x) start.back.track start.session (max 0 (greatest_of (reply_stamps reply))) its_aside t anchor other decides.0 anchored committed it_heard there_since is (views.Committed may_first.epoch at shown_committed.0) view_told
             (λ staged. let both : views.Committed may_first.epoch at shown_committed.0 ≡ views.Staging t.epoch other staged.0 = staged.1 in cc both))
         by false not = told_by old new commit_of_job reply start.back x commit_aside.kind t other (λ commits. not) refl committed (inl decides)
 
@@ -223,15 +244,15 @@ module _ {C : Type 0} (old : DeskMeaning C) (job : Job) (at : ℕ) (start : MayF
     job_begins m made knows = record {
       start = start;
       part = part_by old new commit_of_job reply x;
-      goes = x.goes;
+      goes = goes_by old new commit_of_job reply x;
       aside = aside_now;
       told = told_now;
       began = after_known;
       knows = knows after_known (subst (λ (m : Resolving). MayFinish after_known m.id m.anchor m.fate m.locks) (sym made) may_finish_now);
-      waiting =
-          jobs_by old new commit_of_job reply x
+      waiting = λ quiet.
+          jobs_by old new commit_of_job reply quiet x
           ∙ (ap (λ s. left_by_exchange s (jobs_of old.log.part.own)) start.closed
-          ∙ (ap without_first (start.oldest ∙ ap (λ l. l ∷ start.waiting) (staged_messages job at staged))
+          ∙ (ap without_first (start.oldest quiet ∙ ap (λ l. l ∷ start.waiting) (staged_messages job at staged))
           ∙ (left_first job ∙ sym (ap (λ m. with_rest (messages_due m) start.waiting) made))));
       named = ap (λ (m : Resolving). m.id) made;
     }
@@ -261,6 +282,13 @@ module _ {C : Type 0} (old : DeskMeaning C) (job : Job) (m : Resolving) (d : Des
   whose : d.log.part.id ≡ actors.Session f.start.session
   whose = ap (λ l. l.part.id) f.goes.grown.rest ∙ f.start.whose
 
+  -- by the same verdicts
+  quiet_before : LosesNothing (verdict_of d.log) → LosesNothing (verdict_of old.log)
+  quiet_before quiet = subst LosesNothing (ap (λ (l : LogMeaning C). verdict_of l) f.goes.grown.rest) quiet
+
+  quiet_now : LosesNothing (verdict_of old.log) → LosesNothing (verdict_of d.log)
+  quiet_now quiet = subst LosesNothing (sym (ap (λ (l : LogMeaning C). verdict_of l) f.goes.grown.rest)) quiet
+
   module _ (request : Request) (due : finishing_next m ≡ machine.Send request) where
     it_aside : IsAside f.start.session start_known request
     it_aside = by (unsettled m) due
@@ -289,8 +317,8 @@ module _ {C : Type 0} (old : DeskMeaning C) (job : Job) (m : Resolving) (d : Des
             subst (IsAside f.start.session start_known) is (record { kind = inl refl; own = record { write = tt; record_of = λ id is mine. absurd cc; query_of = tt }; other = λ t opened. refl; unqueried = λ t opened. refl })
         by None due = ending m.removed due
 
-    timely : IsTimely d.log.pipelining now_known (jobs_of d.log.part.own) request
-    timely =
+    timely : LosesNothing (verdict_of d.log) → IsTimely d.log.pipelining now_known (jobs_of d.log.part.own) request
+    timely quiet =
         let first = due_first m request due in record {
           undecided = undecided_closed now_known closed;
           again = λ s opened any. let both = sym closed ∙ opened in absurd cc;
@@ -303,8 +331,8 @@ module _ {C : Type 0} (old : DeskMeaning C) (job : Job) (m : Resolving) (d : Des
           proved = none_awaited now_known closed now_known.sent;
           heard = λ s opened. let both = sym closed ∙ opened in absurd cc;
           due = λ none. record {
-            next = ap first_message f.waiting ∙ ap (λ l. first_message (with_rest l f.start.waiting)) first.first;
-            heard = all_heard_ever d f.goes.back;
+            next = ap first_message (f.waiting (quiet_before quiet)) ∙ ap (λ l. first_message (with_rest l f.start.waiting)) first.first;
+            heard = all_heard_ever d f.goes.back quiet;
           };
         }
 
@@ -319,7 +347,8 @@ module _ {C : Type 0} (old : DeskMeaning C) (job : Job) (m : Resolving) (d : Des
 
     -- what the machine has due may be exchanged
     may_go : IsAllowed d.log.head.splits (actors.Session f.start.session) now_known request → MayExchangeNow d request
-    may_go allowed = may_exchange d f.start.session request f.goes.back whose (kind_now f.start.session start_known now_known ts f.aside request it_aside.kind) allowed timely
+    may_go allowed = may_exchange d f.start.session request f.goes.back whose (kind_now f.start.session start_known now_known ts f.aside request it_aside.kind) allowed
+        (λ s opened. let both = sym closed ∙ opened in absurd cc) timely
 
     module _ (next : Resolving) (new : DeskMeaning C) (reply : Reply) (x : WasExchanged d new request reply) (made : next ≡ finishing_after reply m) where
       answered : WasAnsweredToIt now_known (known_of new.log.part.own) request reply m
@@ -329,23 +358,23 @@ module _ {C : Type 0} (old : DeskMeaning C) (job : Job) (m : Resolving) (d : Des
       pub finishing_on : ((start k later : Known) (request : Request) → ResolveKnows start k m → finishing_next m ≡ machine.Send request → WasAnsweredToIt k later request reply m → ResolveKnows start later next)
           → IsJobUnderWay old job next new (max ts (greatest_of (reply_stamps reply)))
       finishing_on knows =
-          let first : messages_due m ≡ request ∷ messages_due next = (is_first m next request reply due x.kind made).first in
+          let first : messages_due m ≡ request ∷ messages_due next = (is_first m next request reply due x.once.kind made).first in
           record {
             start = f.start;
             part = f.part ++ part_by d new request reply x;
-            goes = goes_both old d new f.part (part_by d new request reply x) f.goes x.goes;
+            goes = goes_both old d new f.part (part_by d new request reply x) f.goes (goes_by d new request reply x);
             aside = aside_by d new request reply f.goes.back x f.start.session start_known ts f.aside it_aside;
             told = λ t anchor at anchored committed decides.
                 told_by d new request reply f.goes.back x (kind_now f.start.session start_known now_known ts f.aside request it_aside.kind) t at (beside_commits_none request (due_first m request due).beside t.id) (unqueried_by (unsettled m) due t.id) committed
                 (f.told t anchor at anchored committed decides);
             began = f.began;
             knows = knows f.began now_known (known_of new.log.part.own) request f.knows due answered;
-            waiting = jobs_by d new request reply x ∙ (closed_jobs ∙ left_less (messages_due m) (messages_due next) request f.start.waiting first);
+            waiting = λ quiet. jobs_by d new request reply (quiet_now quiet) x ∙ (closed_jobs quiet ∙ left_less (messages_due m) (messages_due next) request f.start.waiting first);
             named = ap (λ (m : Resolving). m.id) made ∙ (same_id m reply ∙ f.named);
           }
         where
-          closed_jobs : left_by_exchange now_known.statement (jobs_of d.log.part.own) ≡ without_first (with_rest (messages_due m) f.start.waiting)
-          closed_jobs = ap (λ s. left_by_exchange s (jobs_of d.log.part.own)) closed ∙ ap without_first f.waiting
+          closed_jobs : LosesNothing (verdict_of old.log) → left_by_exchange now_known.statement (jobs_of d.log.part.own) ≡ without_first (with_rest (messages_due m) f.start.waiting)
+          closed_jobs quiet = ap (λ s. left_by_exchange s (jobs_of d.log.part.own)) closed ∙ ap without_first (f.waiting quiet)
 
   -- what its machine gives to be sent may be exchanged
   pub finishing_asks : (given : MachineNext) (request : Request) → given ≡ finishing_next m → given ≡ machine.Send request
@@ -361,11 +390,54 @@ module _ {C : Type 0} (old : DeskMeaning C) (job : Job) (m : Resolving) (d : Des
     whose = f.start.whose;
     part = f.part;
     goes = f.goes;
-    made = record {
-      aside = f.aside;
-      left = left_still f.start.session start_known now_known ts f.aside f.told (own_named d.log f.goes.back.track.log);
-      beside = λ c same knows. goes_on_beside f.start.session start_known now_known ts f.aside c same (counted_closed c start_known knows f.start.closed);
+    made = made_of old job f.start d f.part f.goes ts f.aside f.told;
+    heard = all_heard_or_lost d f.goes.back;
+    quiet = λ quiet. record {
+      done = f.start.oldest quiet ∙ ap (λ l. messages_of_job job ∷ l) (sym (f.waiting quiet ∙ ap (λ l. with_rest l f.start.waiting) (none_left m over)));
+      beside = λ c same knows.
+          goes_on_beside f.start.session start_known now_known ts f.aside c same (counted_closed false c start_known knows f.start.closed) false
+          (λ is. more_is_heard d f.start.session start_known ts f.aside (all_heard_ever d f.goes.back (quiet_now quiet))) (λ is. absurd (let e : false ≡ true = is in cc e));
     };
-    done = f.start.oldest ∙ ap (λ l. messages_of_job job ∷ l) (sym (f.waiting ∙ ap (λ l. with_rest l f.start.waiting) (none_left m over)));
-    heard = all_heard_ever d f.goes.back;
   }
+
+  -- or one of its messages was lost as often as it may be sent
+  pub finishing_lost : (request : Request) (new : DeskMeaning C) → finishing_next m ≡ machine.Send request → HasLostAll d new request → HasFinishedJob old new job ts
+  finishing_lost request new due lost =
+      let is = it_aside request due in
+      let goes = goes_both old d new f.part lost.some.lost f.goes lost.some.goes in
+      let aside = lost_aside d new request lost f.start.session start_known ts f.aside is in
+      let told : KeepsTold start_known (known_of new.log.part.own) = λ t anchor at anchored committed decides.
+      lost_told d new request lost (kind_now f.start.session start_known now_known ts f.aside request is.kind) t at (beside_commits_none request (due_first m request due).beside t.id) committed
+      (f.told t anchor at anchored committed decides) in
+      record {
+        session = f.start.session;
+        whose = f.start.whose;
+        part = f.part ++ lost.some.lost;
+        goes = goes;
+        made = made_of old job f.start new (f.part ++ lost.some.lost) goes ts aside told;
+        heard = all_heard_or_lost new lost.some.goes.back;
+        quiet = λ quiet. absurd (never_quiet d new request lost (quiet_now quiet));
+      }
+
+-- its commit was lost as often as it may be sent
+pub commit_lost : {C : Type 0} (old : DeskMeaning C) (job : Job) (at : ℕ) (start : MayFinishNow old job) (staged : job.staged ≡ Some at) (new : DeskMeaning C) → HasLostAll old new (requests.Commit job.meta at job.locks) → HasFinishedJob old new job 0
+commit_lost old job at start staged new lost =
+    let request = requests.Commit job.meta at job.locks in
+    let before = known_of old.log.part.own in
+    let is = commit_aside old job at start staged in
+    let aside = lost_aside old new request lost start.session before 0 (aside_none start.session before) is in
+    let told : KeepsTold before (known_of new.log.part.own) = λ t anchor other anchored committed decides. by-name t other committed decides (same_txn job.meta.id t.id) refl in
+    record {
+      session = start.session;
+      whose = start.whose;
+      part = lost.some.lost;
+      goes = lost.some.goes;
+      made = made_of old job start new lost.some.lost lost.some.goes 0 aside told;
+      heard = all_heard_or_lost new lost.some.goes.back;
+      quiet = λ quiet. absurd (never_quiet old new request lost quiet);
+    }
+  where
+    by-name : (t : Txn) (other : ℕ) → t.committed ≡ Some other → StillDecides (known_of old.log.part.own) t other → (b : Bool) → same_txn job.meta.id t.id ≡ b → StaysDecided (known_of new.log.part.own) t other
+    by-name t other committed decides true is = ?
+    by-name t other committed decides false not =
+        lost_told old new (requests.Commit job.meta at job.locks) lost (commit_aside old job at start staged).kind t other (λ commits. not) committed (inl decides)

@@ -85,7 +85,7 @@ module _ {C : Type 0} (d new : DeskMeaning C) (request : Request) (some : HasLos
   own_lost = some.goes.grown.own
 
   -- what each sending keeps
-  lost_keeps : (P : List (Pair Event) → Type 0) → ((own : List (Pair Event)) (sent_at range : ℕ) → P own → P (own ++ sent_pair id sent_at (next_number (known_of own)) range request ∷ []))
+  pub lost_keeps : (P : List (Pair Event) → Type 0) → ((own : List (Pair Event)) (sent_at range : ℕ) → P own → P (own ++ sent_pair id sent_at (next_number (known_of own)) range request ∷ []))
       → P d.log.part.own → P new.log.part.own
   lost_keeps P step p = subst P (sym own_lost) (after_lost id (verdict_of d.log) request P step d.log.part.own some.lost some.unheard p)
 
@@ -106,7 +106,7 @@ module _ {C : Type 0} (d new : DeskMeaning C) (request : Request) (some : HasLos
       })
       (record { statement = refl; heard = refl; heard_now = refl; later = omega arith })
 
-  later_lost : IsLater (known_of d.log.part.own) (known_of new.log.part.own)
+  abbrev later_lost : IsLater (known_of d.log.part.own) (known_of new.log.part.own)
   later_lost = record {
     entries = some.lost;
     messages = all-of-lost id (verdict_of d.log) request (λ p. IsTrue (is_message p.entry.event)) (λ sent_at number range. refl) (next_number (known_of d.log.part.own)) some.lost some.unheard;
@@ -118,8 +118,7 @@ module _ {C : Type 0} (d new : DeskMeaning C) (request : Request) (some : HasLos
   jobs_lost s opened =
       let f = lost_keeps (λ own. ((known_of own).statement ≡ Some s) × (jobs_of own ≡ jobs_of d.log.part.own))
       (λ own sent_at range p.
-      let number = next_number (known_of own) in
-      (
+      let number = next_number (known_of own) in (
         ap (λ (k : Known). k.statement) (known_sent own id sent_at number range request) ∙ p.0,
         jobs_sent own id sent_at number range request ∙ (ap (λ o. left_by_exchange o (jobs_of own)) p.0 ∙ p.1),
       )) (opened, refl) in
@@ -146,8 +145,7 @@ module _ {C : Type 0} (d new : DeskMeaning C) (request : Request) (some : HasLos
       let f = lost_keeps (λ own. ((known_of own).statement ≡ start.statement) × StaysDecided (known_of own) t at)
       (λ own sent_at range p.
       let number = next_number (known_of own) in
-      let k = known_sent own id sent_at number range request in
-      (
+      let k = known_sent own id sent_at number range request in (
         ap (λ (k : Known). k.statement) k ∙ p.0,
         subst (λ (k : Known). StaysDecided k t at) (sym k) (stays_sent number range request (known_of own) (kind_lost start (known_of own) p.0 kind) t at other committed p.1),
       )) (refl, stays) in
@@ -159,7 +157,7 @@ module _ {C : Type 0} (d new : DeskMeaning C) (request : Request) (some : HasLos
       own_lost ∙ (ap (λ l. d.log.part.own ++ l) (none_lost id (verdict_of d.log) request (next_number (known_of d.log.part.own)) some.lost quiet some.unheard) ∙ append-nil d.log.part.own)
 
 -- a lost sending says nothing that was heard, whatever comes of it later
-pub answered_later : (since mid now : Known) (request : Request) (reply : Reply) → IsLater since mid → next_number since ≤ next_number mid → WasAnswered mid now request reply → WasAnswered since now request reply
+abbrev pub answered_later : (since mid now : Known) (request : Request) (reply : Reply) → IsLater since mid → next_number since ≤ next_number mid → WasAnswered mid now request reply → WasAnswered since now request reply
 answered_later since mid now request reply later low a = record {
   before = a.before;
   later = later-later since mid a.before later a.later;

@@ -23,6 +23,7 @@ pub mod Listed
 pub mod Lists
 pub mod LocalSteps
 pub mod Losing
+pub mod LostTimes
 pub mod Messages
 pub mod NextTurn
 pub mod PastEpochs
@@ -32,6 +33,7 @@ pub mod Recovering
 pub mod Rounding
 pub mod Rounds
 pub mod RowsDecide
+pub mod SameRange
 pub mod ShownStages
 pub mod Silent
 pub mod StagesPast

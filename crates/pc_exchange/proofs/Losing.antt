@@ -54,14 +54,14 @@ module _ (id : ActorId) (verdict : ℕ → Verdict) (request : Request) (P : Lis
       subst P (append_assoc own (q ∷ []) lost) (after_lost (own ++ q ∷ []) lost (subst (λ n. AreLostSends id verdict request n lost) (sym next) are.2) here)
 
 -- the next number then
-next-lost : (id : ActorId) (verdict : ℕ → Verdict) (request : Request) (own lost : List (Pair Event)) → AreLostSends id verdict request (next_number (known_of own)) lost
+pub next_lost : (id : ActorId) (verdict : ℕ → Verdict) (request : Request) (own lost : List (Pair Event)) → AreLostSends id verdict request (next_number (known_of own)) lost
     → next_number (known_of (own ++ lost)) ≡ next_number (known_of own) + length lost
-next-lost id verdict request own [] are = ap (λ l. next_number (known_of l)) (append-nil own) ∙ (let e : next_number (known_of own) ≡ next_number (known_of own) + length {A = Pair Event} [] = omega arith in e)
-next-lost id verdict request own (q ∷ lost) are =
+next_lost id verdict request own [] are = ap (λ l. next_number (known_of l)) (append-nil own) ∙ (let e : next_number (known_of own) ≡ next_number (known_of own) + length {A = Pair Event} [] = omega arith in e)
+next_lost id verdict request own (q ∷ lost) are =
     let at = are.0 in
     let next : next_number (known_of (own ++ q ∷ [])) ≡ next_number (known_of own) + 1 =
     ap (λ (x : Pair Event). next_number (known_of (own ++ x ∷ []))) at.2 ∙ next_after own id at.0 (next_number (known_of own)) at.1 request in
-    let on = next-lost id verdict request (own ++ q ∷ []) lost (subst (λ n. AreLostSends id verdict request n lost) (sym next) are.2) in
+    let on = next_lost id verdict request (own ++ q ∷ []) lost (subst (λ n. AreLostSends id verdict request n lost) (sym next) are.2) in
     ap (λ l. next_number (known_of l)) (sym (append_assoc own (q ∷ []) lost)) ∙ (on ∙ (let e : next_number (known_of (own ++ q ∷ [])) + length lost ≡ next_number (known_of own) + length (q ∷ lost) = omega (arith, next) in e))
 
 -- a session keeps all of a sending where something was lost
@@ -138,12 +138,12 @@ module _ {C : Type 0} (request : Request) where
   lost_at_first d may = record { some = record { lost = []; unheard = tt; goes = goes_none d may.back }; each = refl; may = may }
 
   module _ (old d new : DeskMeaning C) (times : ℕ) (f : HasLostTimes old d request times) where
-    both-lost : HasLostSome d new request → HasLostSome old new request
+    abbrev both-lost : HasLostSome d new request → HasLostSome old new request
     both-lost some =
         let one = f.some in
         let own : d.log.part.own ≡ old.log.part.own ++ one.lost = one.goes.grown.own in
         let next : next_number (known_of d.log.part.own) ≡ next_number (known_of old.log.part.own) + length one.lost =
-        ap (λ l. next_number (known_of l)) own ∙ next-lost old.log.part.id (verdict_of old.log) request old.log.part.own one.lost one.unheard in
+        ap (λ l. next_number (known_of l)) own ∙ next_lost old.log.part.id (verdict_of old.log) request old.log.part.own one.lost one.unheard in
         let id : d.log.part.id ≡ old.log.part.id = id-same old d request one in
         let verdicts : verdict_of d.log ≡ verdict_of old.log = ap (λ (t : Terms). t.verdict) (terms-same old d request one) in
         let there : AreLostSends old.log.part.id (verdict_of old.log) request (next_number (known_of old.log.part.own) + length one.lost) some.lost =

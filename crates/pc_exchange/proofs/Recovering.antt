@@ -12,17 +12,18 @@ use Rattle.pc_call.specs.Paced.{IsBehindPushOf}
 use Rattle.pc_coord.specs.declared.pusher.Pusher.{Pusher}
 use Rattle.pc_coord.specs.Rounds.{IsBehindPush, LeavesRoundOn}
 use Rattle.pc_desk.specs.Desk.{DeskMeaning}
-use Rattle.pc_desk.specs.OwnLog.{LogMeaning}
+use Rattle.pc_desk.specs.Keeping.{LosesNothing}
+use Rattle.pc_desk.specs.OwnLog.{LogMeaning, verdict_of}
 use Rattle.pc_exchange.proofs.Anchored.{anchor_is}
 use Rattle.pc_exchange.proofs.Aside.{heard_since, kind_now, open_same}
 use Rattle.pc_exchange.proofs.Behind.{once_push}
 use Rattle.pc_exchange.proofs.Called.{all_heard_in_call}
-use Rattle.pc_exchange.proofs.Going.{answered_by, aside_by, goes_both, goes_none, heard_now_by, jobs_by, not_same, part_by, reply_by, rounds_by, told_by}
+use Rattle.pc_exchange.proofs.Going.{answered_by, aside_by, goes_by, heard_now_by, jobs_in_call, not_same, part_by, reply_by, rounds_by, told_by}
+use Rattle.pc_exchange.proofs.Growing.{goes_both, goes_none}
 use Rattle.pc_exchange.proofs.HeardKinds.{heard_now_kind}
 use Rattle.pc_exchange.proofs.HeardSince.{shows_told, told_heard}
 use Rattle.pc_exchange.proofs.InTurn.{goes_on}
 use Rattle.pc_exchange.proofs.Listed.{SeqsRise, staging_rises}
-use Rattle.pc_exchange.proofs.Messages.{left_by_exchange}
 use Rattle.pc_exchange.proofs.NextTurn.{recovers_next}
 use Rattle.pc_exchange.proofs.Places.{one_more, seqs_before}
 use Rattle.pc_exchange.proofs.Rounding.{IsMade, behind_timely, pushes_recovered, query_aside, recover_aside, recovered_come, restood as stood_same, round_same}
@@ -215,7 +216,7 @@ module _ {C : Type 0} (d : DeskMeaning C) (own : TxnId) (holder : TxnMeta) (met 
         aside = subst (IsLaterAside session old_known mid) (sym zero_is) under.aside;
         told = λ t anchor at anchored committed decides differ. under.told t anchor at anchored committed decides;
         jobs = under.jobs;
-        begun = refl;
+        begun = λ quiet. refl;
         epoch = stands.epoch;
         ts = stands.ts;
         writes = stands.writes;
@@ -276,8 +277,18 @@ module _ {C : Type 0} (d : DeskMeaning C) (own : TxnId) (holder : TxnMeta) (met 
         once = f.once;
       }
 
-  begun_one : rounds_begun now_known ≡ rounds_begun first_known + 1
-  begun_one = f.begun ∙ (round.begun ∙ ap (λ p. rounds_begun first_known + pushes_sent p) start.decides.unsure)
+  -- by the same verdicts
+  quiet_back : LosesNothing (verdict_of now.log) → LosesNothing (verdict_of d.log)
+  quiet_back quiet = subst LosesNothing (ap (λ (l : LogMeaning C). verdict_of l) f.goes.grown.rest) quiet
+
+  quiet_now : LosesNothing (verdict_of d.log) → LosesNothing (verdict_of now.log)
+  quiet_now quiet = subst LosesNothing (sym (ap (λ (l : LogMeaning C). verdict_of l) f.goes.grown.rest)) quiet
+
+  quiet_first : LosesNothing (verdict_of now.log) → LosesNothing (verdict_of start.decides.old.log)
+  quiet_first quiet = subst LosesNothing (ap (λ (l : LogMeaning C). verdict_of l) round.goes.grown.rest) (quiet_back quiet)
+
+  begun_one : LosesNothing (verdict_of now.log) → rounds_begun now_known ≡ rounds_begun first_known + 1
+  begun_one quiet = f.begun (quiet_back quiet) ∙ (round.begun (quiet_first quiet) ∙ ap (λ p. rounds_begun first_known + pushes_sent p) start.decides.unsure)
 
   made_now : IsMade number start.decides.old.log.pipelining first_known round.start.number start.decides.conflict start.decides.reader round.start.met pushing
   made_now = made_it start.decides.old start.decides.pusher start.decides.reading start.decides.conflict start.decides.reader pushing d start.decides.ts round
@@ -286,14 +297,14 @@ module _ {C : Type 0} (d : DeskMeaning C) (own : TxnId) (holder : TxnMeta) (met 
   kinds_now = heard_now_kind now.log f.goes.back.track.log
 
   -- while nothing was decided the round goes on
-  round_goes_on : HasQueriedInRound r f.heard → IsNextRound first_known round.start.met.h → IsInRound now_known pushing.holder.id round.start.met.key
-  round_goes_on q next =
+  round_goes_on : LosesNothing (verdict_of now.log) → HasQueriedInRound r f.heard → IsNextRound first_known round.start.met.h → IsInRound now_known pushing.holder.id round.start.met.key
+  round_goes_on quiet q next =
       let was : WasPushedOnceFor round.start.met.holder.id pushing.goal (replies.Unsure met) f.heard first_known now_known = subst (λ (h : TxnMeta). WasPushedOnceFor h.id pushing.goal (replies.Unsure met) f.heard first_known now_known) round.holder was_pushed in
       let undone : WasDone round.start.met.holder.id round.start.met.key pushing.goal (replies.Unsure met) f.heard → ⊥ = λ done.
       let there : Contains f.heard done.recovery = subst (λ l. Contains l done.recovery) (sym done.whole) (Contains-append_right done.before (done.recovery ∷ done.after) done.recovery (contains_head done.recovery done.after)) in
       All-contains (λ h. (shown : View) → RecoveredTo round.start.met.holder.id shown h.request h.reply → ⊥) f.heard done.recovery (queries_decide_none r round.start.met.holder.id f.heard q) there done.view done.shown in
       subst (λ (h : TxnMeta). IsInRound now_known h.id round.start.met.key) (sym round.holder)
-      (goes_on first_known now_known round.start.met.h next round.start.met.holder round.start.met.ts round.start.met.key (round.start.met.told ∙ round.start.met.is) pushing.goal (replies.Unsure met) f.heard was begun_one undone)
+      (goes_on first_known now_known round.start.met.h next round.start.met.holder round.start.met.ts round.start.met.key (round.start.met.told ∙ round.start.met.is) pushing.goal (replies.Unsure met) f.heard was (begun_one quiet) undone)
 
   -- so where writes are pipelined
   round_recovers : HasQueriedInRound r f.heard → IsFirstConflict first_known round.start.met.h → RecoversInRound now_known pushing.holder.id
@@ -316,24 +327,24 @@ module _ {C : Type 0} (d : DeskMeaning C) (own : TxnId) (holder : TxnMeta) (met 
       ap (λ (b : Who). goes_beside (requests.Query r.holder.id r.epoch w.1 r.ts w.0 b)) by_is ∙ ap not no
 
   -- a query of it, or its recovery, goes out in its turn
-  queries_in_turn : HasQueriedInRound r f.heard → (pipelining : Bool) → IsNextRoundIn pipelining first_known round.start.met.h → (w : List ℕ × ℕ) → IsTurnIn pipelining now_known (query_of r w)
-  queries_in_turn q false next w = inr (round.start.met.key, subst (λ i. IsInRound now_known i round.start.met.key) (its_id ∙ sym (ap (λ (h : TxnMeta). h.id) holder_is)) (round_goes_on q next))
-  queries_in_turn q true next w = inr (subst (RecoversInRound now_known) (its_id ∙ sym (ap (λ (h : TxnMeta). h.id) holder_is)) (round_recovers q next))
+  queries_in_turn : LosesNothing (verdict_of now.log) → HasQueriedInRound r f.heard → (pipelining : Bool) → IsNextRoundIn pipelining first_known round.start.met.h → (w : List ℕ × ℕ) → IsTurnIn pipelining now_known (query_of r w)
+  queries_in_turn quiet q false next w = inr (round.start.met.key, subst (λ i. IsInRound now_known i round.start.met.key) (its_id ∙ sym (ap (λ (h : TxnMeta). h.id) holder_is)) (round_goes_on quiet q next))
+  queries_in_turn quiet q true next w = inr (subst (RecoversInRound now_known) (its_id ∙ sym (ap (λ (h : TxnMeta). h.id) holder_is)) (round_recovers q next))
 
-  recovers_in_turn : HasQueriedInRound r f.heard → (pipelining : Bool) → IsNextRoundIn pipelining first_known round.start.met.h → (finding : Finding) → IsTurnIn pipelining now_known (recover_of r finding)
-  recovers_in_turn q false next finding = (round.start.met.key, subst (λ i. IsInRound now_known i round.start.met.key) (its_id ∙ sym (ap (λ (h : TxnMeta). h.id) holder_is)) (round_goes_on q next))
-  recovers_in_turn q true next finding = subst (RecoversInRound now_known) (its_id ∙ sym (ap (λ (h : TxnMeta). h.id) holder_is)) (round_recovers q next)
+  recovers_in_turn : LosesNothing (verdict_of now.log) → HasQueriedInRound r f.heard → (pipelining : Bool) → IsNextRoundIn pipelining first_known round.start.met.h → (finding : Finding) → IsTurnIn pipelining now_known (recover_of r finding)
+  recovers_in_turn quiet q false next finding = (round.start.met.key, subst (λ i. IsInRound now_known i round.start.met.key) (its_id ∙ sym (ap (λ (h : TxnMeta). h.id) holder_is)) (round_goes_on quiet q next))
+  recovers_in_turn quiet q true next finding = subst (RecoversInRound now_known) (its_id ∙ sym (ap (λ (h : TxnMeta). h.id) holder_is)) (round_recovers q next)
 
   -- What may be asked for now: beside the coordinator, in time, and not before.
   record MayAskNow (request : Request) : Type 0 where
     aside : IsAside number first_known request
-    timely : IsTimely start.decides.old.log.pipelining now_known (jobs_of now.log.part.own) request
+    timely : LosesNothing (verdict_of now.log) → IsTimely start.decides.old.log.pipelining now_known (jobs_of now.log.part.own) request
     behind : IsBehindPushOf holder.id request
     fresh : All (λ h. h.request ≡ request → ⊥) f.heard
 
-  timely_now : (request : Request) → IsBehindPushOf holder.id request → All (λ h. h.request ≡ request → ⊥) f.heard → (MetEighth now_known request → ⊥) → IsTurnIn start.decides.old.log.pipelining now_known request × IsBeforeEighth start.decides.old.log.pipelining now_known request → IsTimely start.decides.old.log.pipelining now_known (jobs_of now.log.part.own) request
-  timely_now request of fresh unmet turn =
-      behind_timely number start.decides.old.log.pipelining first_known round.start.number start.decides.conflict start.decides.reader round.start.met now_known (max start.decides.ts (last_recovered r.progress)) f.aside round.start.goes (all_heard_in_call now f.goes.back) kinds_now (jobs_of now.log.part.own) pushing made_now request
+  timely_now : LosesNothing (verdict_of now.log) → (request : Request) → IsBehindPushOf holder.id request → All (λ h. h.request ≡ request → ⊥) f.heard → (MetEighth now_known request → ⊥) → IsTurnIn start.decides.old.log.pipelining now_known request × IsBeforeEighth start.decides.old.log.pipelining now_known request → IsTimely start.decides.old.log.pipelining now_known (jobs_of now.log.part.own) request
+  timely_now quiet request of fresh unmet turn =
+      behind_timely number start.decides.old.log.pipelining first_known round.start.number start.decides.conflict start.decides.reader round.start.met now_known (max start.decides.ts (last_recovered r.progress)) f.aside (round.start.goes (quiet_first quiet)) (round.start.beaten (quiet_first quiet)) (all_heard_in_call now f.goes.back quiet) kinds_now (jobs_of now.log.part.own) pushing made_now request
       (subst (λ i. IsBehindPushOf i request) (sym its_id) of) (replies.Unsure met) f.heard was_pushed fresh unmet turn
 
   -- the next listed write may be asked for
@@ -351,13 +362,12 @@ module _ {C : Type 0} (d : DeskMeaning C) (own : TxnId) (holder : TxnMeta) (met 
       let less = seqs_before r.writes n w from.0 rise at from.1 in
       absurd (omega (arith, seq, less))) in
       let q : HasQueriedInRound r f.heard = record { count = n; asked = asked } in
-      let turn = queries_in_turn q start.decides.old.log.pipelining round.start.next w in
       record {
         aside =
             subst (λ i. IsAside number first_known (requests.Query i r.epoch w.1 r.ts w.0 r.by)) id_is
             (query_aside number start.decides.old.log.pipelining first_known round.start.number start.decides.conflict start.decides.reader round.start.met pushing made_now r.epoch w.1 r.ts w.0 r.by
             (subst (λ i. goes_beside (requests.Query i r.epoch w.1 r.ts w.0 r.by) ≡ true) (sym id_is) (asks_other w)));
-        timely = timely_now (query_of r w) of fresh (query_unmet now_known kinds_now r.holder.id r.epoch w.1 r.ts w.0 r.by) (turn, tt);
+        timely = λ quiet. timely_now quiet (query_of r w) of fresh (query_unmet now_known kinds_now r.holder.id r.epoch w.1 r.ts w.0 r.by) (queries_in_turn quiet q start.decides.old.log.pipelining (round.start.next (quiet_first quiet)) w, tt);
         behind = of;
         fresh = fresh;
       }
@@ -372,10 +382,9 @@ module _ {C : Type 0} (d : DeskMeaning C) (own : TxnId) (holder : TxnMeta) (met 
       let of : IsBehindPushOf holder.id (recover_of r finding) = record { about = ap (λ (h : TxnMeta). Some h.id) holder_is; no_push = refl; beside = refl } in
       let fresh : All (λ h. h.request ≡ recover_of r finding → ⊥) f.heard =
       all_from_contains (λ h. h.request ≡ recover_of r finding → ⊥) f.heard (λ h there same. let from = queries_are r q.count f.heard q.asked h there in let one : query_of r from.0 ≡ recover_of r finding = sym from.2 ∙ same in cc) in
-      let turn = recovers_in_turn q start.decides.old.log.pipelining round.start.next finding in
       record {
         aside = recover_aside number start.decides.old.log.pipelining first_known round.start.number start.decides.conflict start.decides.reader round.start.met pushing made_now (recover_of r finding) (sym id_is);
-        timely = timely_now (recover_of r finding) of fresh (recover_unmet now_known kinds_now r.holder.id r.epoch r.ts r.holder.anchor finding) (turn, tt);
+        timely = λ quiet. timely_now quiet (recover_of r finding) of fresh (recover_unmet now_known kinds_now r.holder.id r.epoch r.ts r.holder.anchor finding) (recovers_in_turn quiet q start.decides.old.log.pipelining (round.start.next (quiet_first quiet)) finding, tt);
         behind = of;
         fresh = fresh;
       }
@@ -401,7 +410,8 @@ module _ {C : Type 0} (d : DeskMeaning C) (own : TxnId) (holder : TxnMeta) (met 
       let allowed : IsAllowed now.log.head.splits (actors.Session number) now_known request =
       subst (RecoveringMayCome now.log.head.splits (actors.Session number) mid_known now_known r) is (may now.log.head.splits (actors.Session number) mid_known now_known f.knows) in
       may_exchange now number request f.goes.back whose_now (kind_now number first_known now_known (max start.decides.ts (last_recovered r.progress)) f.aside request ask.aside.kind) allowed
-      (subst (λ b. IsTimely b now_known (jobs_of now.log.part.own) request) (sym (ap (λ (l : LogMeaning C). l.pipelining) f.goes.grown.rest ∙ ap (λ (l : LogMeaning C). l.pipelining) round.goes.grown.rest)) ask.timely)
+      (λ s opened. (holder.id, ask.behind.about))
+      (λ quiet. subst (λ b. IsTimely b now_known (jobs_of now.log.part.own) request) (sym (ap (λ (l : LogMeaning C). l.pipelining) f.goes.grown.rest ∙ ap (λ (l : LogMeaning C). l.pipelining) round.goes.grown.rest)) (ask.timely quiet))
 
   module _ (request : Request) (due : recovering_next r ≡ machine.Send request) (new : DeskMeaning C) (reply : Reply) (x : WasExchanged now new request reply) where
     abbrev h : Heard
@@ -453,21 +463,21 @@ module _ {C : Type 0} (d : DeskMeaning C) (own : TxnId) (holder : TxnMeta) (met 
             before = now_known;
             since = f.knows.since;
             answered = subst (λ y. WasAnswered now_known new_known request y) told answered_now;
-            possible = subst (λ y. IsPossibleReply request y) told x.possible;
+            possible = subst (λ y. IsPossibleReply request y) told x.once.possible;
           },
           omega (arith, last, low),
         )
     decided_on finding low queried asked other told kind before = absurd kind
 
     found_on : (n : ℕ) (w : Option (List ℕ × ℕ)) → r.progress ≡ progresses.Found n → slice_get r.writes n ≡ w → AreQueries r n f.heard → request ≡ asked_for w r → To (progress_after w reply n)
-    found_on n (Some w) at_n at come asked = queried_on n w at_n at come asked reply refl (subst (λ q. MayAnswer q reply) asked x.kind)
-    found_on n None at_n at come asked = decided_on findings.All (ap last_recovered at_n) (record { count = n; asked = come }) asked reply refl (subst (λ q. MayAnswer q reply) asked x.kind) (progresses.Found n)
+    found_on n (Some w) at_n at come asked = queried_on n w at_n at come asked reply refl (subst (λ q. MayAnswer q reply) asked x.once.kind)
+    found_on n None at_n at come asked = decided_on findings.All (ap last_recovered at_n) (record { count = n; asked = come }) asked reply refl (subst (λ q. MayAnswer q reply) asked x.once.kind) (progresses.Found n)
 
     come_on : (p : Progress) → r.progress ≡ p → HasRecoveredUpTo p r f.heard mid_known now_known → recovering_due p r ≡ machine.Send request → To (recovering_heard p reply r)
     come_on (progresses.Found n) at come e = let asked : request ≡ asked_for (slice_get r.writes n) r = cc in found_on n (slice_get r.writes n) at refl come asked
     come_on (progresses.Missing key) at come e =
         let asked : request ≡ recover_of r (findings.Missing key r.by) = cc in
-        decided_on (findings.Missing key r.by) (ap last_recovered at) come asked reply refl (subst (λ q. MayAnswer q reply) asked x.kind) (progresses.Missing key)
+        decided_on (findings.Missing key r.by) (ap last_recovered at) come asked reply refl (subst (λ q. MayAnswer q reply) asked x.once.kind) (progresses.Missing key)
     come_on (progresses.Over view) at come e = absurd (over_none (is_final_view view) view request e)
 
     restood : (p progress : Progress) → HasRecoveredUpTo p r (f.heard ++ h ∷ []) mid_known new_known → HasRecoveredUpTo p (recovering_at progress r) (f.heard ++ h ∷ []) mid_known new_known
@@ -490,7 +500,7 @@ module _ {C : Type 0} (d : DeskMeaning C) (own : TxnId) (holder : TxnMeta) (met 
     }
 
     unmet_it : MayAskNow request → is_conflict reply ≡ false
-    unmet_it ask = plain request ask.behind x.kind
+    unmet_it ask = plain request ask.behind x.once.kind
       where
         plain : (q : Request) → IsBehindPushOf holder.id q → MayAnswer q reply → is_conflict reply ≡ false
         plain (requests.Query id epoch seq ts key by) of may = plain_query reply may
@@ -500,7 +510,7 @@ module _ {C : Type 0} (d : DeskMeaning C) (own : TxnId) (holder : TxnMeta) (met 
         plain q of may = let e = of.about in absurd cc
 
     held_it : MayAskNow request → unrefreshed_by reply ≡ None
-    held_it ask = plain request ask.behind x.kind
+    held_it ask = plain request ask.behind x.once.kind
       where
         plain : (q : Request) → IsBehindPushOf holder.id q → MayAnswer q reply → unrefreshed_by reply ≡ None
         plain (requests.Query id epoch seq ts key by) of may = held_query reply may
@@ -520,16 +530,17 @@ module _ {C : Type 0} (d : DeskMeaning C) (own : TxnId) (holder : TxnMeta) (met 
         let last : max (max start.decides.ts (last_recovered r.progress)) (greatest_of (reply_stamps reply)) ≡ max start.decides.ts (last_recovered next.progress) = to.1 ∙ ap (λ (r : Recovering). max start.decides.ts (last_recovered r.progress)) (sym made) in
         record {
           part = f.part ++ part_by now new request reply x;
-          goes = goes_both d now new f.part (part_by now new request reply x) f.goes x.goes;
+          goes = goes_both d now new f.part (part_by now new request reply x) f.goes (goes_by now new request reply x);
           aside = subst (IsLaterAside number first_known new_known) last (aside_by now new request reply f.goes.back x number first_known (max start.decides.ts (last_recovered r.progress)) f.aside ask.aside);
           told = λ t anchor at anchored committed decides differ.
               told_by now new request reply f.goes.back x (kind_now number first_known now_known (max start.decides.ts (last_recovered r.progress)) f.aside request ask.aside.kind) t at
               (beside_commits_none request ask.behind.beside t.id) (behind_unqueried holder.id request ask.behind t.id differ) committed (f.told t anchor at anchored committed decides differ);
-          jobs = jobs_by now new request reply x ∙ (ap (λ s. left_by_exchange s (jobs_of now.log.part.own)) (f.aside.statement ∙ round.start.met.opened) ∙ f.jobs);
-          begun =
-              let sent = rounds_by now new request reply f.goes.back x in
+          jobs = jobs_in_call now new request reply x round.start.met.s (f.aside.statement ∙ round.start.met.opened) ∙ f.jobs;
+          begun = λ quiet.
+              let sent = rounds_by now new request reply f.goes.back x (quiet_now quiet) in
+              let was = f.begun quiet in
               let none : one_if (is_some (goal_in request)) ≡ 0 = ap (λ o. one_if (is_some o)) ask.behind.no_push in
-              omega (arith, sent, none, f.begun);
+              omega (arith, sent, none, was);
           epoch = f.epoch;
           ts = f.ts;
           writes = f.writes;
@@ -538,7 +549,7 @@ module _ {C : Type 0} (d : DeskMeaning C) (own : TxnId) (holder : TxnMeta) (met 
               made
               ∙ (ap (recovering_at (recovering_heard r.progress reply r)) f.same
               ∙ ap (λ (p : Progress). record { holder = holder; epoch = f.epoch; ts = f.ts; writes = f.writes; by = whos.Txn own; progress = p }) (sym (ap (λ (r : Recovering). r.progress) made)));
-          knows = knows (actors.Session number) mid_known now_known new_known request f.knows due answered_now x.possible;
+          knows = knows (actors.Session number) mid_known now_known new_known request f.knows due answered_now x.once.possible;
           heard = f.heard ++ h ∷ [];
           more = heard_now_by now new request reply f.goes.back x ∙ (ap (λ l. l ++ h ∷ []) f.more ∙ append_assoc mid_known.heard_now f.heard (h ∷ []));
           behind = All-push (IsBehindPush holder.id) f.heard h f.behind of;
@@ -642,6 +653,10 @@ module _ {C : Type 0} (d : DeskMeaning C) (own : TxnId) (holder : TxnMeta) (met 
       by true is = inr (recovered_shown t anchor at decides.0 anchored committed (same_txn-is t.id holder.id is))
       by false not = f.told t anchor at anchored committed decides (λ same. let both : false ≡ true = sym not ∙ (ap (λ i. same_txn i holder.id) same ∙ same_txn-self holder.id) in cc both)
 
+  -- by the same verdicts
+  quiet_since : LosesNothing (verdict_of start.decides.old.log) → LosesNothing (verdict_of new.log)
+  quiet_since quiet = subst LosesNothing (sym (ap (λ (l : LogMeaning C). verdict_of l) its_goes.grown.rest)) quiet
+
   after_is : round_after told mine ≡ round_heard (pushes.Unsure met) told mine
   after_is = ap (λ p. round_heard p told mine) start.decides.unsure
 
@@ -673,8 +688,8 @@ module _ {C : Type 0} (d : DeskMeaning C) (own : TxnId) (holder : TxnMeta) (met 
         holder = ap (λ (m : Pushing). m.holder) made ∙ (same.0 ∙ u.holder);
         key = ap (λ (m : Pushing). m.key) made ∙ (same.1 ∙ u.key);
         aims = ap (λ (m : Pushing). m.goal) made ∙ (same.2 ∙ u.aims);
-        begun =
-            let one = begun_one d own holder met start h.r new f in
+        begun = λ quiet.
+            let one = begun_one d own holder met start h.r new f (quiet_since quiet) in
             let sent : pushes_sent next.progress ≡ 1 = ap (λ (m : Pushing). pushes_sent m.progress) (made ∙ after_is) ∙ pushes_recovered told in
             omega (arith, one, sent);
       }

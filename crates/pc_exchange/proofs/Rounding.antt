@@ -8,7 +8,6 @@ use Rattle.pc_base.specs.declared.transaction.TxnId.{TxnId}
 use Rattle.pc_base.specs.declared.transaction.Who.{Who}
 use Rattle.pc_base.specs.declared.transaction.Who.TheVariants as whos
 use Rattle.pc_base.specs.Transaction.{same_txn}
-use Rattle.pc_call.proofs.Beating.{beaten_so}
 use Rattle.pc_call.specs.Paced.{IsBehindPushOf, KeepsBehindPushes, was_met, was_pushed}
 use Rattle.pc_call.specs.Sending.{IsConflictNow, read_at}
 use Rattle.pc_coord.proofs.Rounds.{behind_no_push, round_no_put}
@@ -160,7 +159,7 @@ module _ (session : ℕ) (pipelining : Bool) (start : Known) (number : ℕ) (con
     unqueried = other-holder m made;
   }
 
-  module _ (k : Known) (last : ℕ) (later : IsLaterAside session start k last) (free : MayGoInCall pipelining start) (answered : All (IsHeardOrPut k.heard_now) k.sent_now) (kinds : (h : Heard) → Contains k.heard_now h → MayAnswer h.request h.reply) (waiting : List (List Request)) where
+  module _ (k : Known) (last : ℕ) (later : IsLaterAside session start k last) (free : MayGoInCall pipelining start) (beaten : HasBeaten start met.t) (answered : All (IsHeardOrPut k.heard_now) k.sent_now) (kinds : (h : Heard) → Contains k.heard_now h → MayAnswer h.request h.reply) (waiting : List (List Request)) where
     -- the next message may go out as this one did
     now_free : MayGoInCall pipelining k
     now_free = free_still session start k last later pipelining free answered
@@ -188,7 +187,7 @@ module _ (session : ℕ) (pipelining : Bool) (start : Known) (number : ℕ) (con
       beats = λ s t opened is.
           let open_then : open_txn start ≡ Some t = sym (open_same session start k last later) ∙ is in
           let is_t : met.t ≡ t = let both = sym met.open_is ∙ open_then in cc both in
-          subst (HasBeaten k) is_t (beaten_still session start k last later met.t (beaten_so false start met.t met.beaten refl));
+          subst (HasBeaten k) is_t (beaten_still session start k last later met.t beaten);
       beaten_last = λ s opened. now_free.beaten_last;
       unsent = now_free.unsent;
       proved = now_free.proved;
@@ -519,15 +518,15 @@ pub of_conflict : (conflict : Reply) (m : Pushing) (holder : TxnMeta) (ts : ℕ)
 of_conflict conflict m holder ts key is one two = subst (λ r. IsOfConflict r m) (sym is) (one, two)
 
 -- a refused push ends it so
-pub ends_refused : (conflict : Reply) (m : Pushing) (start k : Known) → IsOfConflict conflict m → IsRefusedRound m.holder.id start k → EndsRound false conflict rounds.Refused start k
-ends_refused (replies.Conflict holder ts key) m start k of ended = subst (λ (h : TxnMeta). IsRefusedRound h.id start k) of.0 ended
-ends_refused conflict m start k of ended = absurd of
+pub ends_refused : (loses : Bool) (conflict : Reply) (m : Pushing) (start k : Known) → IsOfConflict conflict m → IsRefusedRound m.holder.id start k → EndsRound loses conflict rounds.Refused start k
+ends_refused loses (replies.Conflict holder ts key) m start k of ended = subst (λ (h : TxnMeta). IsRefusedRound h.id start k) of.0 ended
+ends_refused loses conflict m start k of ended = absurd of
 
 -- and the settling of the intent so
-pub ends_settled : (conflict : Reply) (m : Pushing) (start k : Known) → IsOfConflict conflict m → IsSettledRound m.holder.id m.key start k → EndsRound false conflict rounds.Again start k
-ends_settled (replies.Conflict holder ts key) m start k of ended =
+pub ends_settled : (loses : Bool) (conflict : Reply) (m : Pushing) (start k : Known) → IsOfConflict conflict m → IsSettledRound m.holder.id m.key start k → EndsRound loses conflict rounds.Again start k
+ends_settled loses (replies.Conflict holder ts key) m start k of ended =
     subst (λ key. IsSettledRound holder.id key start k) of.1 (subst (λ (h : TxnMeta). IsSettledRound h.id m.key start k) of.0 ended)
-ends_settled conflict m start k of ended = absurd of
+ends_settled loses conflict m start k of ended = absurd of
 
 pub at_refused : (p : Progress) (m : Pushing) (id : TxnId) (start k : Known) → round_due p m ≡ machine.Refused id → HasComeTo p m start k → IsRefusedRound m.holder.id start k
 at_refused progresses.Refused m id start k is come = come

@@ -11,26 +11,34 @@ use Rattle.pc_coord.specs.declared.round.Round.{Round}
 use Rattle.pc_coord.specs.declared.round.Round.TheVariants as rounds
 use Rattle.pc_coord.specs.Rounds.{EndsRound}
 use Rattle.pc_desk.specs.Desk.{DeskMeaning}
-use Rattle.pc_desk.specs.OwnLog.{LogMeaning}
+use Rattle.pc_desk.specs.Keeping.{LosesNothing}
+use Rattle.pc_desk.specs.OwnLog.{LogMeaning, verdict_of}
 use Rattle.pc_exchange.proofs.Anchored.{own_named}
 use Rattle.pc_exchange.proofs.Aside.{aside_none, goes_on_beside, kind_now, left_still}
-use Rattle.pc_exchange.proofs.Called.{all_heard_in_call}
+use Rattle.pc_exchange.proofs.Called.{all_heard_ever, all_heard_in_call}
 use Rattle.pc_exchange.proofs.Coordinator.{counted_met}
-use Rattle.pc_exchange.proofs.Going.{answered_by, aside_by, goes_both, goes_none, heard_now_by, jobs_by, not_same, part_by, reply_by, rounds_by, told_by}
+use Rattle.pc_exchange.proofs.Going.{answered_by, aside_by, goes_by, heard_none, heard_now_by, jobs_in_call, lost_aside, lost_jobs, lost_told, never_quiet, not_same, part_by, reply_by, rounds_by, told_by}
+use Rattle.pc_exchange.proofs.Growing.{goes_both, goes_none}
 use Rattle.pc_exchange.proofs.HeardKinds.{heard_begun, heard_now_kind, top_below}
 use Rattle.pc_exchange.proofs.InTurn.{fate_of, goes_on}
-use Rattle.pc_exchange.proofs.Messages.{left_by_exchange}
+use Rattle.pc_exchange.proofs.LostTimes.{lost_so_often}
 use Rattle.pc_exchange.proofs.NextTurn.{settles_next}
-use Rattle.pc_exchange.proofs.Rounding.{IsMade, at_finished, at_refused, at_unsure, behind_timely, come_on, ends_refused, ends_settled, goal_reads, may_push, of_conflict, one_finished, one_refused, push_aside, push_timely, pushes_on, recover_aside, resolve_aside, round_same, sends_asks}
+use Rattle.pc_exchange.proofs.Rounding.{IsMade, IsOfConflict, at_finished, at_refused, at_unsure, behind_timely, come_on, ends_refused, ends_settled, goal_reads, may_push, of_conflict, one_finished, one_refused, push_aside, push_timely, pushes_on, recover_aside, resolve_aside, round_same, sends_asks}
+use Rattle.pc_exchange.proofs.SameRange.{more_is_heard, went_on}
 use Rattle.pc_exchange.proofs.Silent.{asks_commits_none, asks_unqueried}
 use Rattle.pc_exchange.proofs.Timely.{IsTimely, IsTurnIn, may_exchange}
 use Rattle.pc_exchange.proofs.Unmet.{resolve_unmet}
-use Rattle.pc_exchange.specs.Aside.{IsAside}
-use Rattle.pc_exchange.specs.Exchange.{MayExchangeNow, WasExchanged}
+use Rattle.pc_exchange.specs.Aside.{IsAside, IsLaterAside}
+use Rattle.pc_exchange.specs.Exchange.{HasLostAll, MayExchangeNow, WasExchanged}
+use Rattle.pc_exchange.specs.Growing.{HasGoneBeside}
 use Rattle.pc_exchange.specs.InTurn.{IsNextRoundIn}
 use Rattle.pc_exchange.specs.Recovering.{MayDecideNow}
 use Rattle.pc_exchange.specs.Rounding.{HasComeTo, IsRoundUnderWay, LeavesFateSince, WasPushedOnceFor, pushes_sent}
-use Rattle.pc_exchange.specs.Rounds.{HasMadeRoundOf, MayMakeRound}
+use Rattle.pc_exchange.specs.Rounds.{HasMadeRoundOf, IsRoundMade, MayMakeRound}
+use Rattle.pc_exchange.specs.Told.{KeepsTold}
+use Rattle.pc_follows.specs.CallMessages.{IsOfRound}
+use Rattle.pc_history.specs.declared.pair.Pair.{Pair}
+use Rattle.pc_proto.specs.declared.event.Event.{Event}
 use Rattle.pc_lists.proofs.Anywhere.{any_behind, any_later, any_of}
 use Rattle.pc_lists.proofs.Lists.{contains_head}
 use Rattle.pc_lists.proofs.Same.{same_txn-self}
@@ -44,7 +52,8 @@ use Rattle.pc_proto.specs.declared.reply.Reply.TheVariants as replies
 use Rattle.pc_proto.specs.declared.request.Request.{Request}
 use Rattle.pc_proto.specs.declared.view.View.{View}
 use Rattle.pc_proto.specs.Replies.{is_conflict}
-use Rattle.pc_proto.specs.Requests.{is_resolve_of}
+use Rattle.pc_proto.specs.Requests.{Recovers, is_resolve_of, round_of}
+use Rattle.pc_world.specs.Tell.Refusal.{WasLost}
 use Rattle.pc_proto.specs.Stamps.{greatest_of, reply_stamps}
 use Rattle.pc_proto.specs.Views.{final_fate}
 use Rattle.pc_push.specs.declared.progress.Progress.{Progress}
@@ -115,8 +124,30 @@ module _ {C : Type 0} (old : DeskMeaning C) (pusher : Pusher) (reading : ℕ) (c
         holder = holder;
         key = ap (λ (m : Pushing). m.key) made;
         aims = ap (λ (m : Pushing). m.goal) made ∙ (ap goal_of met.reads ∙ goal_reads met.h.request);
-        begun = sym (ap (λ (p : Progress). rounds_begun k + pushes_sent p) (ap (λ (m : Pushing). m.progress) made) ∙ plus_none (rounds_begun k));
+        begun = λ quiet. sym (ap (λ (p : Progress). rounds_begun k + pushes_sent p) (ap (λ (m : Pushing). m.progress) made) ∙ plus_none (rounds_begun k));
       }
+
+recovers_round : (id : TxnId) (request : Request) → Recovers id request → round_of request ≡ Some id
+recovers_round id (requests.Recover other epoch ts anchor finding) is = ap (λ i. Some i) is
+recovers_round id request is = absurd is
+
+-- a round is made, however it ended
+pub round_made : {C : Type 0} (old : DeskMeaning C) (pusher : Pusher) (reading : ℕ) (conflict : Reply) (reader : Option ℕ) (start : MayMakeRound old pusher reading conflict reader) (new : DeskMeaning C) (part : List (Pair Event)) → HasGoneBeside old new part
+    → (round : Round) (ts : ℕ) → EndsRound true conflict round (known_of old.log.part.own) (known_of new.log.part.own) → IsLaterAside start.session (known_of old.log.part.own) (known_of new.log.part.own) ts
+    → KeepsTold (known_of old.log.part.own) (known_of new.log.part.own) → IsRoundMade start.session (known_of old.log.part.own) (known_of new.log.part.own) conflict round ts
+round_made old pusher reading conflict reader start new part goes round ts ends aside told = record {
+  ends = ends;
+  aside = aside;
+  left = left_still start.session (known_of old.log.part.own) (known_of new.log.part.own) ts aside told (own_named new.log goes.back.track.log);
+  beside = λ c number reader same knows next.
+      goes_on_beside start.session (known_of old.log.part.own) (known_of new.log.part.own) ts aside c same (counted_met true c (known_of old.log.part.own) number conflict reader knows next) true
+      (λ is. absurd (let e : true ≡ false = is in cc e)) (λ is. went_on start.session (known_of old.log.part.own) new ts aside goes.back.track.log (knows.course.one_range refl));
+}
+
+-- a round of which a message was lost so often ends so
+pub ends_lost : (conflict : Reply) (m : Pushing) (start k : Known) (faults : ℕ) → IsOfConflict conflict m → WasLost k faults → EndsRound true conflict (rounds.Lost faults) start k
+ends_lost (replies.Conflict holder ts key) m start k faults of lost = (refl, lost)
+ends_lost conflict m start k faults of lost = absurd of
 
 module _ {C : Type 0} (old : DeskMeaning C) (pusher : Pusher) (reading : ℕ) (conflict : Reply) (reader : Option ℕ) (m : Pushing) (d : DeskMeaning C) (ts : ℕ) (r : IsRoundUnderWay old pusher reading conflict reader m d ts) where
   -- What the session knew when the round began, and what it knows now.
@@ -184,22 +215,37 @@ module _ {C : Type 0} (old : DeskMeaning C) (pusher : Pusher) (reading : ℕ) (c
       let fates = fate_of start_known now_known r.start.met.h next r.start.met.holder r.start.met.ts r.start.met.key conflict_is m.goal l.reply l.later was begun fate left in
       subst (λ (h : TxnMeta). IsInRound now_known h.id m.key × IsFateOfRound now_known h.id fate) (sym r.holder) (subst (λ key. IsInRound now_known r.start.met.holder.id key) (sym r.key) on, fates)
 
-  asks_timely : (p : Progress) (request : Request) → HasComeTo p m start_known now_known → rounds_begun now_known ≡ rounds_begun start_known + pushes_sent p → round_due p m ≡ machine.Send request → IsTimely old.log.pipelining now_known (jobs_of d.log.part.own) request
-  asks_timely progresses.Push request come begun due =
+  -- by the same verdicts
+  quiet_before : LosesNothing (verdict_of d.log) → LosesNothing (verdict_of old.log)
+  quiet_before quiet = subst LosesNothing (ap (λ (l : LogMeaning C). verdict_of l) r.goes.grown.rest) quiet
+
+  quiet_now : LosesNothing (verdict_of old.log) → LosesNothing (verdict_of d.log)
+  quiet_now quiet = subst LosesNothing (sym (ap (λ (l : LogMeaning C). verdict_of l) r.goes.grown.rest)) quiet
+
+  -- what it asks for is of a round
+  asks_round : (p : Progress) (request : Request) → AsksAt p m request → IsOfRound request
+  asks_round progresses.Push request asks = (m.holder.id, ap round_of asks)
+  asks_round progresses.Refused request asks = absurd asks
+  asks_round (progresses.Unsure view) request asks = (m.holder.id, recovers_round m.holder.id request asks)
+  asks_round (progresses.Resolve fate) request asks = (m.holder.id, ap round_of asks)
+  asks_round progresses.Over request asks = absurd asks
+
+  asks_timely : LosesNothing (verdict_of d.log) → (p : Progress) (request : Request) → HasComeTo p m start_known now_known → rounds_begun now_known ≡ rounds_begun start_known + pushes_sent p → round_due p m ≡ machine.Send request → IsTimely old.log.pipelining now_known (jobs_of d.log.part.own) request
+  asks_timely quiet progresses.Push request come begun due =
       let asks : push_of m ≡ request = cc in
       subst (IsTimely old.log.pipelining now_known (jobs_of d.log.part.own)) asks
-      (push_timely r.start.session old.log.pipelining start_known r.start.number conflict reader r.start.met now_known ts r.aside r.start.goes (all_heard_in_call d r.goes.back) kinds (jobs_of d.log.part.own) m made_it r.start.next r.aims (begun ∙ plus_nothing (rounds_begun start_known)) come)
-  asks_timely progresses.Refused request come begun due = absurd cc
-  asks_timely (progresses.Unsure view) request come begun due = absurd cc
-  asks_timely (progresses.Resolve fate) request come begun due =
+      (push_timely r.start.session old.log.pipelining start_known r.start.number conflict reader r.start.met now_known ts r.aside (r.start.goes (quiet_before quiet)) (r.start.beaten (quiet_before quiet)) (all_heard_in_call d r.goes.back quiet) kinds (jobs_of d.log.part.own) m made_it (r.start.next (quiet_before quiet)) r.aims (begun ∙ plus_nothing (rounds_begun start_known)) come)
+  asks_timely quiet progresses.Refused request come begun due = absurd cc
+  asks_timely quiet (progresses.Unsure view) request come begun due = absurd cc
+  asks_timely quiet (progresses.Resolve fate) request come begun due =
       let asks : holder_resolve m fate ≡ request = cc in
       let fresh : All (λ (g : Heard). g.request ≡ holder_resolve m fate → ⊥) come.later =
       All-weaker (λ (g : Heard). is_resolve_of m.holder.id g.request ≡ false) (λ g. g.request ≡ holder_resolve m fate → ⊥)
       (λ g not same. let e : true ≡ false = sym (same_txn-self m.holder.id) ∙ (sym (ap (is_resolve_of m.holder.id) same) ∙ not) in cc) come.later come.unsettled in
       subst (IsTimely old.log.pipelining now_known (jobs_of d.log.part.own)) asks
-      (behind_timely r.start.session old.log.pipelining start_known r.start.number conflict reader r.start.met now_known ts r.aside r.start.goes (all_heard_in_call d r.goes.back) kinds (jobs_of d.log.part.own) m made_it (holder_resolve m fate)
-      (record { about = refl; no_push = refl; beside = refl }) come.reply come.later come.was fresh (resolve_unmet now_known kinds m fate) (resolves_in_turn fate come begun old.log.pipelining r.start.next, tt))
-  asks_timely progresses.Over request come begun due = absurd cc
+      (behind_timely r.start.session old.log.pipelining start_known r.start.number conflict reader r.start.met now_known ts r.aside (r.start.goes (quiet_before quiet)) (r.start.beaten (quiet_before quiet)) (all_heard_in_call d r.goes.back quiet) kinds (jobs_of d.log.part.own) m made_it (holder_resolve m fate)
+      (record { about = refl; no_push = refl; beside = refl }) come.reply come.later come.was fresh (resolve_unmet now_known kinds m fate) (resolves_in_turn fate come begun old.log.pipelining (r.start.next (quiet_before quiet)), tt))
+  asks_timely quiet progresses.Over request come begun due = absurd cc
 
   -- what it gives to be sent is what it asks for
   pub given_asks : (given : MachineNext) (request : Request) → given ≡ next_due m → given ≡ machine.Send request → Asks m request
@@ -213,11 +259,12 @@ module _ {C : Type 0} (old : DeskMeaning C) (pusher : Pusher) (reading : ℕ) (c
       let allowed : IsAllowed d.log.head.splits (actors.Session r.start.session) now_known request =
       subst (RoundMayCome d.log.head.splits (actors.Session r.start.session) start_known now_known m) is (may d.log.head.splits (actors.Session r.start.session) start_known now_known r.knows) in
       may_exchange d r.start.session request r.goes.back whose (kind_now r.start.session start_known now_known ts r.aside request (asks_aside m.progress request asks).kind) allowed
-      (subst (λ b. IsTimely b now_known (jobs_of d.log.part.own) request) (sym (ap (λ (l : LogMeaning C). l.pipelining) r.goes.grown.rest)) (asks_timely m.progress request r.come r.begun (sym due ∙ is)))
+      (λ s opened. asks_round m.progress request asks)
+      (λ quiet. subst (λ b. IsTimely b now_known (jobs_of d.log.part.own) request) (sym (ap (λ (l : LogMeaning C). l.pipelining) r.goes.grown.rest)) (asks_timely quiet m.progress request r.come (r.begun (quiet_before quiet)) (sym due ∙ is)))
 
   module _ (next : Pushing) (new : DeskMeaning C) (request : Request) (reply : Reply) (asks : Asks m request) (x : WasExchanged d new request reply) where
-    pub still_jobs : left_by_exchange now_known.statement (jobs_of d.log.part.own) ≡ jobs_of d.log.part.own
-    still_jobs = ap (λ s. left_by_exchange s (jobs_of d.log.part.own)) (r.aside.statement ∙ r.start.met.opened)
+    pub still_jobs : jobs_of new.log.part.own ≡ jobs_of d.log.part.own
+    still_jobs = jobs_in_call d new request reply x r.start.met.s (r.aside.statement ∙ r.start.met.opened)
 
     -- one exchange more
     pub round_on : next ≡ round_after reply m
@@ -231,39 +278,41 @@ module _ {C : Type 0} (old : DeskMeaning C) (pusher : Pusher) (reading : ℕ) (c
         record {
           start = r.start;
           part = r.part ++ part_by d new request reply x;
-          goes = goes_both old d new r.part (part_by d new request reply x) r.goes x.goes;
+          goes = goes_both old d new r.part (part_by d new request reply x) r.goes (goes_by d new request reply x);
           aside = aside_by d new request reply r.goes.back x r.start.session start_known ts r.aside aside;
           told = λ t anchor at anchored committed decides.
               told_by d new request reply r.goes.back x (kind_now r.start.session start_known now_known ts r.aside request aside.kind) t at (asks_commits_none m.progress m request asks t.id) (asks_unqueried m.progress m request asks t.id) committed
               (r.told t anchor at anchored committed decides);
-          jobs = jobs_by d new request reply x ∙ (still_jobs ∙ r.jobs);
-          knows = knows (actors.Session r.start.session) start_known now_known k request r.knows asks answered x.possible;
+          jobs = still_jobs ∙ r.jobs;
+          knows = knows (actors.Session r.start.session) start_known now_known k request r.knows asks answered x.once.possible;
           come = subst (λ (m : Pushing). HasComeTo m.progress m start_known k) (sym made)
-              (come_on m start_known now_known k (reply_by d new request reply x) (heard_now_by d new request reply r.goes.back x) (answered_stamps now_known k request reply answered) r.come asks x.kind x.possible);
+              (come_on m start_known now_known k (reply_by d new request reply x) (heard_now_by d new request reply r.goes.back x) (answered_stamps now_known k request reply answered) r.come asks x.once.kind x.once.possible);
           holder = ap (λ (m : Pushing). m.holder) made ∙ (same.0 ∙ r.holder);
           key = ap (λ (m : Pushing). m.key) made ∙ (same.1 ∙ r.key);
           aims = ap (λ (m : Pushing). m.goal) made ∙ (same.2 ∙ r.aims);
-          begun =
-              let sent = rounds_by d new request reply r.goes.back x in
-              let more = pushes_on start_known now_known m request reply r.come asks x.kind x.possible in
+          begun = λ quiet.
+              let sent = rounds_by d new request reply r.goes.back x (quiet_now quiet) in
+              let was = r.begun quiet in
+              let more = pushes_on start_known now_known m request reply r.come asks x.once.kind x.once.possible in
               let is : pushes_sent next.progress ≡ pushes_sent (round_after reply m).progress = ap (λ (m : Pushing). pushes_sent m.progress) made in
-              omega (arith, sent, more, is, r.begun);
+              omega (arith, sent, more, is, was);
         }
 
   -- ---- its end
 
-  made_round : (round : Round) → EndsRound false conflict round start_known now_known → pushes_sent m.progress ≡ 1 → HasMadeRoundOf old d conflict round ts
-  made_round round ends one = record {
+  made_round : (round : Round) → EndsRound true conflict round start_known now_known → EndsRound false conflict round start_known now_known → pushes_sent m.progress ≡ 1 → HasMadeRoundOf old d conflict round ts
+  made_round round ends quiet_ends one = record {
     session = r.start.session;
     whose = r.start.whose;
     part = r.part;
     goes = r.goes;
-    made = record {
-      ends = ends;
-      begun = r.begun ∙ ap (λ n. rounds_begun start_known + n) one;
-      aside = r.aside;
-      left = left_still r.start.session start_known now_known ts r.aside r.told (own_named d.log r.goes.back.track.log);
-      beside = λ c number reader same knows next. goes_on_beside r.start.session start_known now_known ts r.aside c same (counted_met c start_known number conflict reader knows next);
+    made = round_made old pusher reading conflict reader r.start d r.part r.goes round ts ends r.aside r.told;
+    quiet = λ quiet. record {
+      ends = quiet_ends;
+      begun = r.begun quiet ∙ ap (λ n. rounds_begun start_known + n) one;
+      beside = λ c number reader same knows next.
+          goes_on_beside r.start.session start_known now_known ts r.aside c same (counted_met false c start_known number conflict reader knows next) false
+          (λ is. more_is_heard d r.start.session start_known ts r.aside (all_heard_ever d r.goes.back (quiet_now quiet))) (λ is. absurd (let e : false ≡ true = is in cc e));
     };
     jobs = r.jobs;
   }
@@ -271,18 +320,38 @@ module _ {C : Type 0} (old : DeskMeaning C) (pusher : Pusher) (reading : ℕ) (c
   -- its push was refused
   pub round_refused : (given : MachineNext) (id : TxnId) → given ≡ next_due m → given ≡ machine.Refused id → HasMadeRoundOf old d conflict rounds.Refused ts
   round_refused given id due is =
-      made_round rounds.Refused
-      (ends_refused conflict m start_known now_known (of_conflict conflict m r.start.met.holder r.start.met.ts r.start.met.key r.start.met.is r.holder r.key)
-      (at_refused m.progress m id start_known now_known (sym due ∙ is) r.come))
+      let of = of_conflict conflict m r.start.met.holder r.start.met.ts r.start.met.key r.start.met.is r.holder r.key in
+      let at = at_refused m.progress m id start_known now_known (sym due ∙ is) r.come in
+      made_round rounds.Refused (ends_refused true conflict m start_known now_known of at) (ends_refused false conflict m start_known now_known of at)
       (one_refused m.progress m id (sym due ∙ is))
 
   -- or its intent was settled
   pub round_settled : (given : MachineNext) → given ≡ next_due m → given ≡ machine.Finished → HasMadeRoundOf old d conflict rounds.Again ts
   round_settled given due is =
-      made_round rounds.Again
-      (ends_settled conflict m start_known now_known (of_conflict conflict m r.start.met.holder r.start.met.ts r.start.met.key r.start.met.is r.holder r.key)
-      (at_finished m.progress m start_known now_known (sym due ∙ is) r.come))
+      let of = of_conflict conflict m r.start.met.holder r.start.met.ts r.start.met.key r.start.met.is r.holder r.key in
+      let at = at_finished m.progress m start_known now_known (sym due ∙ is) r.come in
+      made_round rounds.Again (ends_settled true conflict m start_known now_known of at) (ends_settled false conflict m start_known now_known of at)
       (one_finished m.progress m (sym due ∙ is))
+
+  -- or a message of it was lost as often as it may be sent
+  pub round_lost : (request : Request) (new : DeskMeaning C) → Asks m request → HasLostAll d new request → HasMadeRoundOf old new conflict (rounds.Lost new.log.tries) ts
+  round_lost request new asks lost =
+      let is = asks_aside m.progress request asks in
+      let goes = goes_both old d new r.part lost.some.lost r.goes lost.some.goes in
+      let aside = lost_aside d new request lost r.start.session start_known ts r.aside is in
+      let told : KeepsTold start_known (known_of new.log.part.own) = λ t anchor at anchored committed decides.
+      lost_told d new request lost (kind_now r.start.session start_known now_known ts r.aside request is.kind) t at (asks_commits_none m.progress m request asks t.id) committed (r.told t anchor at anchored committed decides) in
+      let was = lost_so_often d new request r.goes.back lost (kind_now r.start.session start_known now_known ts r.aside request is.kind) in
+      record {
+        session = r.start.session;
+        whose = r.start.whose;
+        part = r.part ++ lost.some.lost;
+        goes = goes;
+        made = round_made old pusher reading conflict reader r.start new (r.part ++ lost.some.lost) goes (rounds.Lost new.log.tries) ts
+            (ends_lost conflict m start_known (known_of new.log.part.own) new.log.tries (of_conflict conflict m r.start.met.holder r.start.met.ts r.start.met.key r.start.met.is r.holder r.key) was) aside told;
+        quiet = λ quiet. absurd (never_quiet d new request lost (quiet_now quiet));
+        jobs = lost_jobs d new request lost r.start.met.s (r.aside.statement ∙ r.start.met.opened) ∙ r.jobs;
+      }
 
   -- where it gives a record, the push met that staging
   pub round_unsure : (given : MachineNext) (view : View) → given ≡ next_due m → given ≡ machine.Settled view → (own : TxnId) → pusher.id ≡ own → MayDecideNow d own m view

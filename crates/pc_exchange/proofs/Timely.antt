@@ -3,24 +3,22 @@ use Rattle.std.proofs.Common.{◌≡◌, ℕ, ◌⊎◌, inl, inr, Bool, true, f
 use Rattle.std.proofs.lemmas.List.Elements.{All-weaker}
 use Rattle.pc_base.specs.declared.actor.ActorId.{ActorId}
 use Rattle.pc_base.specs.declared.actor.ActorId.TheVariants as actors
-use Rattle.pc_base.specs.declared.transaction.TxnId.{TxnId}
 use Rattle.pc_desk.specs.Desk.{DeskMeaning}
-use Rattle.pc_desk.specs.Keeping.{KeepsAs, KeepsSessionStep}
+use Rattle.pc_desk.specs.Keeping.{KeepsAs, KeepsOverQuiet, LosesNothing, Terms}
+use Rattle.pc_desk.specs.OwnLog.{terms_of, verdict_of}
 use Rattle.pc_exchange.proofs.Called.{all_heard_ever}
 use Rattle.pc_exchange.proofs.Waves.{ends_where_heard, puts_where_heard}
 use Rattle.pc_exchange.specs.Aside.{IsOfRoundOrJob}
 use Rattle.pc_exchange.specs.Exchange.{MayExchangeNow}
 use Rattle.pc_exchange.specs.Growing.{HasAllBack}
 use Rattle.pc_history.specs.declared.pair.Pair.{Pair}
-use Rattle.pc_proto.specs.declared.call.Call.{Call}
-use Rattle.pc_proto.specs.declared.call.Call.TheVariants as calls
 use Rattle.pc_proto.specs.declared.event.Event.{Event}
 use Rattle.pc_proto.specs.declared.event.Event.TheVariants as events
 use Rattle.pc_proto.specs.declared.request.Request.{Request}
 use Rattle.pc_proto.specs.declared.request.Request.TheVariants as requests
 use Rattle.pc_proto.specs.Requests.{is_commit, is_put, is_refresh, round_of}
 use Rattle.pc_world.specs.Exchange.{IsAllowed}
-use Rattle.pc_follows.specs.CallMessages.{IsFor, IsForCall, IsOfRound, IsPipelinedFor, IsPlainFor, IsPutAgain, ShowsLife}
+use Rattle.pc_follows.specs.CallMessages.{IsForCall, IsOfRound}
 use Rattle.pc_follows.specs.EarlyTell.{IsCommitDecided}
 use Rattle.pc_follows.specs.Eighth.{IsBeforeEighth, MetEighth}
 use Rattle.pc_follows.specs.FinishingJobs.{IsDue, jobs_of}
@@ -190,7 +188,7 @@ module _ (session : ℕ) (splits : List (List ℕ)) (pipelining : Bool) (own : L
   abbrev k : Known
   k = known_of own
 
-  sends-round : goes_beside request ≡ true → KeepsSessionStep splits pipelining own (events.Send number range request) None
+  sends-round : goes_beside request ≡ true → KeepsOverQuiet splits pipelining own (events.Send number range request) None
   sends-round kind = record {
     wire = tt;
     early_tell = t.undecided;
@@ -222,7 +220,7 @@ module _ (session : ℕ) (splits : List (List ℕ)) (pipelining : Bool) (own : L
   }
 
   -- a job's commit goes out between calls
-  sends-commit : k.statement ≡ None → is_commit request ≡ true → KeepsSessionStep splits pipelining own (events.Send number range request) None
+  sends-commit : k.statement ≡ None → is_commit request ≡ true → KeepsOverQuiet splits pipelining own (events.Send number range request) None
   sends-commit closed kind = record {
     wire = tt;
     early_tell = t.undecided;
@@ -256,65 +254,32 @@ module _ (session : ℕ) (splits : List (List ℕ)) (pipelining : Bool) (own : L
       no-call : (s : Statement) → k.statement ≡ Some s → ⊥
       no-call s opened = let both = sym closed ∙ opened in cc both
 
-  sends-as : (id : ActorId) → id ≡ actors.Session session → IsOfRoundOrJob k request → KeepsAs id splits pipelining own (events.Send number range request) None
-  sends-as id whose (inl kind) = subst (λ i. KeepsAs i splits pipelining own (events.Send number range request) None) (sym whose) (sends-round kind)
-  sends-as id whose (inr kind) = subst (λ i. KeepsAs i splits pipelining own (events.Send number range request) None) (sym whose) (sends-commit kind.0 kind.1)
+  sends-quiet : IsOfRoundOrJob k request → KeepsOverQuiet splits pipelining own (events.Send number range request) None
+  sends-quiet (inl kind) = sends-round kind
+  sends-quiet (inr kind) = sends-commit kind.0 kind.1
 
--- in a call it is one of a round, since it is of no kind that is sent for a call
-plain-none : (call : Call) (id : TxnId) (anchor : List ℕ) → IsPlainFor call (requests.Remove id anchor) → ⊥
-plain-none calls.Commit id anchor (inl is) = cc
-plain-none calls.Commit id anchor (inr is) = cc
-plain-none (calls.Get key) id anchor is = cc
-plain-none (calls.Scan span) id anchor is = cc
-plain-none (calls.Put key value) id anchor is = is
-plain-none (calls.Delete key) id anchor is = is
-plain-none calls.Rollback id anchor is = cc
-plain-none call id anchor is = is
-
-put-none : (k : Known) (call : Call) (id : TxnId) (anchor : List ℕ) → IsPutAgain k call (requests.Remove id anchor) → ⊥
-put-none k call id anchor is = let e = is.put in cc e
-
-piped-none : (k : Known) (call : Call) (id : TxnId) (anchor : List ℕ) → IsPipelinedFor k call (requests.Remove id anchor) → ⊥
-piped-none k calls.Commit id anchor (inl is) = put-none k calls.Commit id anchor is
-piped-none k calls.Commit id anchor (inr (inl is)) = cc
-piped-none k calls.Commit id anchor (inr (inr is)) = is
-piped-none k (calls.Get key) id anchor is = put-none k (calls.Get key) id anchor is
-piped-none k (calls.Scan span) id anchor is = put-none k (calls.Scan span) id anchor is
-piped-none k (calls.Put key value) id anchor is = put-none k (calls.Put key value) id anchor is
-piped-none k (calls.Delete key) id anchor is = put-none k (calls.Delete key) id anchor is
-piped-none k call id anchor is = is
-
-for-none : (pipelining : Bool) (k : Known) (call : Call) (id : TxnId) (anchor : List ℕ) → IsFor pipelining k call (requests.Remove id anchor) → ⊥
-for-none false k call id anchor is = plain-none call id anchor is
-for-none true k call id anchor (inl is) = plain-none call id anchor is
-for-none true k call id anchor (inr is) = piped-none k call id anchor is
-
-kind-none : (pipelining : Bool) (k : Known) (call : Call) (id : TxnId) (anchor : List ℕ) → IsFor pipelining k call (requests.Remove id anchor) ⊎ ShowsLife call (requests.Remove id anchor) → ⊥
-kind-none pipelining k call id anchor (inl is) = for-none pipelining k call id anchor is
-kind-none pipelining k call id anchor (inr life) = beat-none (requests.Remove id anchor) refl life.1
-
-of-round : (pipelining : Bool) (k : Known) (request : Request) → goes_beside request ≡ true → IsForCall pipelining k request ⊎ IsOfRound request → IsOfRound request
-of-round pipelining k (requests.Push holder by level now goal) is kind = (holder.id, refl)
-of-round pipelining k (requests.Query id epoch seq ts key by) is kind = (id, refl)
-of-round pipelining k (requests.Recover id epoch ts anchor finding) is kind = (id, refl)
-of-round pipelining k (requests.Resolve id key fate) is kind = (id, refl)
-of-round pipelining k (requests.Remove id anchor) is (inl kind) = absurd (kind-none pipelining k kind.s.call id anchor kind.kind)
-of-round pipelining k (requests.Remove id anchor) is (inr round) = round
-of-round pipelining k request is kind = absurd cc
+-- a session that may send it where nothing is lost may send it
+sends-as : (session : ℕ) (id : ActorId) (splits : List (List ℕ)) (terms : Terms) (own : List (Pair Event)) (number range : ℕ) (request : Request) → id ≡ actors.Session session
+    → (LosesNothing terms.verdict → KeepsOverQuiet splits terms.pipelining own (events.Send number range request) None) → KeepsAs id splits terms own (events.Send number range request) None
+sends-as session id splits terms own number range request whose quiet =
+    subst (λ i. KeepsAs i splits terms own (events.Send number range request) None) (sym whose) (record { wire = tt; losses = tt; quiet = quiet })
 
 -- such a message may be exchanged
 pub may_exchange : {C : Type 0} (d : DeskMeaning C) (session : ℕ) (request : Request) → HasAllBack d → d.log.part.id ≡ actors.Session session → IsOfRoundOrJob (known_of d.log.part.own) request
-    → IsAllowed d.log.head.splits (actors.Session session) (known_of d.log.part.own) request → IsTimely d.log.pipelining (known_of d.log.part.own) (jobs_of d.log.part.own) request → MayExchangeNow d request
-may_exchange d session request back whose kind allowed timely = record {
+    → IsAllowed d.log.head.splits (actors.Session session) (known_of d.log.part.own) request → ((s : Statement) → (known_of d.log.part.own).statement ≡ Some s → IsOfRound request)
+    → (LosesNothing (verdict_of d.log) → IsTimely d.log.pipelining (known_of d.log.part.own) (jobs_of d.log.part.own) request) → MayExchangeNow d request
+may_exchange d session request back whose kind allowed round timely = record {
   back = back;
   may = record {
     allowed = subst (λ i. IsAllowed d.log.head.splits i (known_of d.log.part.own) request) (sym whose) allowed;
     one = one kind;
-    keeps = λ number range. sends-as session d.log.head.splits d.log.pipelining d.log.part.own number range request timely (ends_where_heard d.log.part.own (all_heard_ever d back)) d.log.part.id whose kind;
+    keeps = λ number range.
+        sends-as session d.log.part.id d.log.head.splits (terms_of d.log) d.log.part.own number range request whose
+        (λ quiet. sends-quiet session d.log.head.splits d.log.pipelining d.log.part.own number range request (timely quiet) (ends_where_heard d.log.part.own (all_heard_ever d back quiet)) kind);
   };
   no_put = no-put kind;
   no_refresh = no-refresh kind;
-  round = λ s opened. round s opened kind;
+  round = round;
 }
   where
     one : IsOfRoundOrJob (known_of d.log.part.own) request → IsForOne d.log.head.splits request
@@ -328,7 +293,3 @@ may_exchange d session request back whose kind allowed timely = record {
     no-refresh : IsOfRoundOrJob (known_of d.log.part.own) request → is_refresh request ≡ false
     no-refresh (inl is) = refreshes-none request is
     no-refresh (inr is) = commit-no_refresh request is.1
-
-    round : (s : Statement) → (known_of d.log.part.own).statement ≡ Some s → IsOfRoundOrJob (known_of d.log.part.own) request → IsOfRound request
-    round s opened (inl is) = of-round d.log.pipelining (known_of d.log.part.own) request is (timely.kind s opened)
-    round s opened (inr is) = absurd (let both = sym is.0 ∙ opened in cc both)

@@ -22,6 +22,7 @@ use Rattle.pc_proto.specs.declared.event.Event.{Event}
 use Rattle.pc_proto.specs.declared.reply.Reply.{Reply}
 use Rattle.pc_follows.specs.EarlyTell.{IsCommitDecided}
 use Rattle.pc_follows.specs.FinishingJobs.{jobs_of}
+use Rattle.pc_follows.specs.Heartbeats.{HasBeaten}
 use Rattle.pc_follows.specs.LastBeats.{HasSentLastBeat}
 use Rattle.pc_follows.specs.Proving.{HasSentOwn}
 use Rattle.pc_follows.specs.Rounds.{rounds_begun}
@@ -44,7 +45,8 @@ pub record MayGoInCall (pipelining : Bool) (k : Known) : Type 0 where
   pub proved : AreAwaitedHeard k k.sent
   pub heard : All (λ m. IsTrue (is_heard k.heard_now m)) k.sent_now
 
--- The session's open call, which was asked at this reading, met this conflict, and its round is due: where nothing is lost, it is the next one, and may go out.
+-- The session's open call, which was asked at this reading, met this conflict, and its round is due: where nothing is lost, it is the next one, and may go out, once the
+-- heartbeats went out that were due.
 pub record MayMakeRound {C : Type 0} (d : DeskMeaning C) (pusher : Pusher) (reading : ℕ) (conflict : Reply) (reader : Option ℕ) : Type 0 where
   pub back : HasAllBack d
   pub session : ℕ
@@ -55,6 +57,7 @@ pub record MayMakeRound {C : Type 0} (d : DeskMeaning C) (pusher : Pusher) (read
   pub read : reading_of (known_of d.log.part.own) ≡ Some reading
   pub next : LosesNothing (verdict_of d.log) → IsNextRoundIn d.log.pipelining (known_of d.log.part.own) met.h
   pub goes : LosesNothing (verdict_of d.log) → MayGoInCall d.log.pipelining (known_of d.log.part.own)
+  pub beaten : LosesNothing (verdict_of d.log) → HasBeaten (known_of d.log.part.own) met.t
 
 -- Since then the session has made the round of this conflict, which ended so, and done nothing else. This is the greatest timestamp that it heard in it. What
 -- its jobs may do they may do still.

@@ -34,9 +34,8 @@ pub fn exchange<N: Named<CommitWorld>, C: Clock, V: Wire, G: Gate, R: Wait>(
             Ok(copy) => copy,
             Err(NoMemory) => return Err(desk.want_memory()),
         };
-        let reply = exchange_once(desk, rt, copy)?;
-        if reply.is_some() {
-            return Ok(reply);
+        if let Some(reply) = exchange_once(desk, rt, copy)? {
+            return Ok(Some(reply));
         }
     }
     Ok(None)

@@ -117,8 +117,7 @@ impl<M: Drop> Outbox<M> {
         ensures first { result ≡ slice_get (map (λ e. e.0) self.now.bag) 0 }
         ensures in_order { IsStrictlySortedBy nat_cmp (keys_of self.now.bag) }
     {
-        let (number, _) = self.bag.first_key_value()?;
-        Some(*number)
+        self.bag.keys().next().copied()
     }
 
     /// Takes the stray of the least number.

@@ -2,8 +2,8 @@ use Rattle.std.proofs.Common.{length}
 use Rattle.pc_desk.proofs.Leaving.{IsUnderWay}
 use Rattle.pc_desk.proofs.rest.deliver_rest.Given as goal
 
-abbrev pub invariant-loop-message : goal.invariant-loop-message
-invariant-loop-message g l = IsUnderWay l.ranges.splits l.initial.rest l.rest l.initial.actor l.actor
+abbrev pub invariant-loop-left : goal.invariant-loop-left
+invariant-loop-left g l = IsUnderWay l.ranges.splits l.initial.rest l.rest l.initial.actor l.actor
 
-abbrev pub decreases-loop-message : goal.decreases-loop-message
-decreases-loop-message g l = length l.rest
+abbrev pub decreases-loop-left : goal.decreases-loop-left
+decreases-loop-left g l = length l.rest

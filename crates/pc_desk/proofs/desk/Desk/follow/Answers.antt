@@ -1,4 +1,4 @@
-use Rattle.pc_desk.proofs.Desking.{track_took}
+use Rattle.pc_desk.proofs.Learning.{track_took}
 use Rattle.pc_desk.proofs.desk.Desk.follow.Goals as goal
 
 pub returns-clause-track : goal.returns-clause-track

@@ -41,4 +41,4 @@ returns-in-Ok-clause-ok g c =
     none_under i.ranges.now.splits i.log _ (λ e. e.1.message.number) (λ e. refl) (λ e. refl) i.outbox.waiting c.args.number c.self.invariant.0
     (posted_none _ i.outbox.waiting c.args.number (subst (λ d. posted_as c.args.number d.posted ≡ 0) (sym c.self.view_is) (not_waiting c.args.self.now c.args.number c.requires.track c.requires.aside))) in
     has_joined i.ranges.now.splits i.log _ _ (λ e. refl) (λ e. refl) c.args.number i.later.waiting i.outbox.waiting c.move_message.new.from.waiting c.move_message.new.to.waiting (ap (λ o. o.waiting) c.move_message.ensures.gone) c.self.invariant.1 free
-    (ap (λ o. o.waiting) c.in-Ok.ensures.moved) _ c.args.self.now c.self.view_is refl refl c.requires.track c.requires.none_waits c.requires.unheard c.requires.aside
+    (ap (λ o. o.waiting) c.in-Ok.ensures.moved) _ c.args.self.now c.self.view_is refl refl c.requires.track c.requires.none_waits c.requires.none_lost c.requires.unheard c.requires.aside

@@ -1,7 +1,9 @@
-use Rattle.std.proofs.Common.{◌≡◌, ◌≤◌, length, refl, sym, ap, subst, ◌∙◌, arith}
+use Rattle.std.proofs.Common.{◌≡◌, ◌-◌, ◌≤◌, length, refl, sym, ap, subst, ◌∙◌, arith}
 use Rattle.std.proofs.lemmas.Result.{on_err_weaker, on_ok_weaker}
-use Rattle.pc_desk.proofs.Desking.{desk_noted, desk_posted, gave_so, has_posted, none_under, one_use, posted_none}
+use Rattle.pc_desk.proofs.Desking.{bag_noted, desk_noted, desk_posted, gave_so, has_posted, none_under, noted_after, noted_uses, posted_none}
 use Rattle.pc_desk.specs.Desk.{posted_as, posting, uses_by}
+use Rattle.pc_desk.specs.OwnLog.{verdict_of}
+use Rattle.pc_history.specs.Parts.{gave, uses_left}
 use Rattle.pc_desk.proofs.desk.Desk.post.Goals as goal
 
 pub add-requires : goal.add-requires
@@ -14,20 +16,21 @@ invariant_of-self-2 g c =
     let i = c.self.inside in
     let none = none_under i.ranges.now.splits i.log _ (λ e. e.1.message.number) (λ e. refl) (λ e. refl) i.outbox.waiting c.args.number c.self.invariant.0
     (posted_none _ i.outbox.waiting c.args.number (subst (λ d. posted_as c.args.number d.posted ≡ 0) (sym c.self.view_is) c.requires.fresh)) in
-    let quiet = c.verdict-verdict.ensures.given ∙ c.self.invariant.2 c.args.number in
-    let once = one_use c.args.self.now.log i.log c.args.number c.args.range c.uses_of.result c.args.request c.verdict-verdict.result c.in_ok-note.note.known (ap (λ d. d.log) c.self.view_is) c.requires.last c.uses_of.ensures quiet c.in_ok-note.ensures.note in (
-      desk_posted i.ranges.now.splits i.log c.note.new.self c.note.new.self.part.given _ c.args.number _ i.outbox.waiting c.add.new.self.waiting c.add.result c.note.ensures.same c.self.invariant.0 none
+    let log = noted_after i.log c.verdict-verdict.new.self c.note.new.self c.verdict-verdict.ensures.same c.note.ensures.same in
+    let uses : uses_left c.in_ok-note.note.known ≡ uses_by c.verdict-verdict.result =
+    noted_uses c.args.self.now.log c.verdict-verdict.new.self c.args.number c.args.range c.uses_of.result c.args.request c.in_ok-note.note.known (c.verdict-verdict.ensures.same ∙ ap (λ d. d.log) c.self.view_is) c.requires.last c.in_ok-note.ensures.note ∙ c.uses_of.ensures in (
+      desk_posted i.ranges.now.splits i.log c.note.new.self c.note.new.self.part.given _ c.args.number _ i.outbox.waiting c.add.new.self.waiting c.add.result log c.self.invariant.0 none
           (on_ok_weaker c.add.result (λ e. ap (λ o. o.waiting) e) c.add.ensures.ok) (on_err_weaker c.add.result (λ e. ap (λ o. o.waiting) e) c.add.ensures.err)
           (record {
             numbered = refl;
-            whose = c.id.ensures ∙ ap (λ l. l.part.id) c.note.ensures.same;
-            delivered = quiet;
+            whose = c.id.ensures ∙ ap (λ l. l.part.id) log;
+            ruled = c.verdict-verdict.ensures.given;
             there = subst (λ d. c.args.range ≤ length d.log.head.splits) (sym c.self.view_is) c.requires.there;
-            use_left = omega (arith, once);
+            uses = omega (arith, uses);
             below = c.requires.below;
           }),
-      desk_noted i.ranges.now.splits i.log c.note.new.self c.note.new.self.part.given _ c.note.ensures.same c.self.invariant.1,
-      λ number. ap (λ r. r number) c.verdict-verdict.ensures.kept ∙ c.self.invariant.2 number,
+      desk_noted i.ranges.now.splits i.log c.note.new.self c.note.new.self.part.given _ log c.self.invariant.1,
+      bag_noted i.log c.note.new.self c.note.new.self.part.given _ log c.self.invariant.2,
     )
 
 pub returns-clause-ok : goal.returns-clause-ok
@@ -35,8 +38,11 @@ returns-clause-ok g c =
     let i = c.self.inside in
     let none = none_under i.ranges.now.splits i.log _ (λ e. e.1.message.number) (λ e. refl) (λ e. refl) i.outbox.waiting c.args.number c.self.invariant.0
     (posted_none _ i.outbox.waiting c.args.number (subst (λ d. posted_as c.args.number d.posted ≡ 0) (sym c.self.view_is) c.requires.fresh)) in
-    let quiet = c.verdict-verdict.ensures.given ∙ c.self.invariant.2 c.args.number in
-    let once = one_use c.args.self.now.log i.log c.args.number c.args.range c.uses_of.result c.args.request c.verdict-verdict.result c.in_ok-note.note.known (ap (λ d. d.log) c.self.view_is) c.requires.last c.uses_of.ensures quiet c.in_ok-note.ensures.note in
+    let log = noted_after i.log c.verdict-verdict.new.self c.note.new.self c.verdict-verdict.ensures.same c.note.ensures.same in
+    let by : c.uses_of.result ≡ uses_by (verdict_of i.log c.args.number) = c.uses_of.ensures ∙ ap uses_by c.verdict-verdict.ensures.given in
+    let uses : uses_left c.in_ok-note.note.known ≡ uses_by (verdict_of i.log c.args.number) =
+    noted_uses c.args.self.now.log c.verdict-verdict.new.self c.args.number c.args.range c.uses_of.result c.args.request c.in_ok-note.note.known (c.verdict-verdict.ensures.same ∙ ap (λ d. d.log) c.self.view_is) c.requires.last c.in_ok-note.ensures.note ∙ by in
+    let given = subst (λ l. c.note.new.self.part ≡ gave (length l.part.own - 1) c.uses_of.result l.part) c.verdict-verdict.ensures.same c.in_ok-note.ensures.given in
     on_ok_weaker c.add.result
     (λ put. has_posted _ c.args.self.now c.note.new.self _ i.outbox.waiting c.add.new.self.waiting c.args.number c.args.range c.args.request _ c.self.view_is refl none (ap (λ o. o.waiting) put)
-    (ap (posting c.args.number c.args.range c.args.request) once) (gave_so i.log c.note.new.self _ c.uses_of.result c.note.ensures.same c.in_ok-note.ensures.given (c.uses_of.ensures ∙ ap uses_by quiet))) c.add.ensures.ok
+    (ap (posting c.args.number c.args.range c.args.request) uses) (gave_so i.log c.note.new.self _ c.uses_of.result (uses_by (verdict_of i.log c.args.number)) log given by)) c.add.ensures.ok

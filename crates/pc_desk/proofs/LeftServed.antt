@@ -1,0 +1,76 @@
+-- An actor that has a message of its own evaluated behind its last entry, and takes the note of that.
+use Rattle.std.proofs.Common.{◌≡◌, ℕ, ◌<◌, ◌≤◌, All, Contains, List, [], ◌∷◌, ◌++◌, Option, None, Some, IfSome, refl, sym, ap, subst, ◌∙◌}
+use Rattle.std.proofs.lemmas.List.Elements.{All-head, Contains-append_left, Contains-push}
+use Rattle.pc_base.specs.declared.actor.ActorId.{ActorId}
+use Rattle.pc_desk.proofs.Leaving.{knows_at_on}
+use Rattle.pc_desk.specs.Desk.{ComesAfterFirst, Posted, TellsFirst, first_told}
+use Rattle.pc_desk.specs.Rest.{HasOnlyLearnt, KnowsAt, KnowsTimes, WasEvaluatedNow}
+use Rattle.pc_history.specs.declared.view.Known.{Known as KnownEntry}
+use Rattle.pc_history.specs.Meanings.{ActorMeaning, NoteMeaning}
+use Rattle.pc_history.specs.Parts.{known_entry, told, with_uses, without_uses}
+use Rattle.pc_proto.specs.declared.event.Event.{Event}
+use Rattle.pc_proto.specs.declared.reply.Reply.{Reply}
+use Rattle.pc_range.specs.Message.{ComesAfter, IsEvalNote, evaluation}
+use Rattle.pc_world.specs.Local.{Head}
+
+-- who takes a note only learns
+pub learnt_note : (old new : ActorMeaning Head Event) (note : List (KnownEntry Event)) → new ≡ record old { part = told note old.part } → HasOnlyLearnt old new
+learnt_note old new note took = record {
+  rest = took ∙ ap (λ ks. record old { part = record old.part { known = ks } }) (sym (ap (λ (a : ActorMeaning Head Event). a.part.known) took));
+  more = λ k there. subst (λ l. Contains l k) (sym (ap (λ (a : ActorMeaning Head Event). a.part.known) took)) (Contains-append_left old.part.known note k there);
+}
+
+-- a note without uses is told as it is
+pub eval_note_same : (sender : ActorId) (number range step : ℕ) (reply : Reply) (note : List (KnownEntry Event)) → IsEvalNote sender number range step reply note → without_uses 0 note ≡ note
+eval_note_same sender number range step reply note tells = ap (without_uses 0) tells.tells ∙ sym tells.tells
+
+pub eval_note_copy : (sender : ActorId) (number range step : ℕ) (reply : Reply) (note : List (KnownEntry Event)) → IsEvalNote sender number range step reply note → with_uses 0 note ≡ note
+eval_note_copy sender number range step reply note tells = ap (with_uses 0) tells.tells ∙ sym tells.tells
+
+-- who took the note of an evaluation of its message knows it
+pub took_evaluation : (old new : ActorMeaning Head Event) (m : Posted) (step : ℕ) (reply : Reply) (note : List (KnownEntry Event)) → IsEvalNote old.part.id m.number m.range step reply note → new ≡ record old { part = told (without_uses 0 note) old.part } → KnowsAt new.part m step
+took_evaluation old new m step reply note tells took =
+    let k : KnownEntry Event = known_entry (evaluation step m.range old.part.id m.number reply) tells.place 0 in
+    let known : new.part.known ≡ old.part.known ++ k ∷ [] = ap (λ (a : ActorMeaning Head Event). a.part.known) took ∙ ap (λ n. old.part.known ++ n) (eval_note_same old.part.id m.number m.range step reply note tells ∙ tells.tells) in
+    let here : Contains new.part.known k = subst (λ l. Contains l k) (sym known) (Contains-push old.part.known k) in
+    record {
+      reply = reply;
+      place = tells.place;
+      knows = subst (λ (i : ActorId). Contains new.part.known (known_entry (evaluation step m.range i m.number reply) tells.place 0)) (sym (ap (λ (a : ActorMeaning Head Event). a.part.id) took)) here;
+    }
+
+-- what comes after the copy of an evaluation's note comes after the evaluation
+pub after_evaluation : (sender : ActorId) (number range step : ℕ) (reply : Reply) (note : List (KnownEntry Event)) (other : ℕ) → IsEvalNote sender number range step reply note → ComesAfter other (with_uses 0 note) → step < other
+after_evaluation sender number range step reply note other tells after =
+    let k : KnownEntry Event = known_entry (evaluation step range sender number reply) tells.place 0 in
+    let all : ComesAfter other (k ∷ []) = subst (ComesAfter other) (eval_note_copy sender number range step reply note tells ∙ tells.tells) after in
+    All-head (λ (e : KnownEntry Event). e.entry.step < other) k [] all
+
+pub after_told : (step : ℕ) (after : Option (NoteMeaning Head Event)) → IfSome after (λ n. ComesAfter step n.known) → ComesAfterFirst step (first_told after)
+after_told step None behind = tt
+after_told step (Some note) behind = behind
+
+-- it was evaluated now
+pub now_evaluated : (old new : ActorMeaning Head Event) (m : Posted) (sender : ActorId) (step : ℕ) (reply : Reply) (note : List (KnownEntry Event)) (after : Option (NoteMeaning Head Event)) → sender ≡ old.part.id → IsEvalNote sender m.number m.range step reply note
+    → IfSome after (λ n. ComesAfter step n.known) → new ≡ record old { part = told (without_uses 0 note) old.part } → WasEvaluatedNow new.part m (first_told after) (with_uses 0 note)
+now_evaluated old new m sender step reply note after whose tells behind took =
+    let own : IsEvalNote old.part.id m.number m.range step reply note = subst (λ i. IsEvalNote i m.number m.range step reply note) whose tells in
+    record {
+      step = step;
+      knows = took_evaluation old new m step reply note own took;
+      behind = after_told step after behind;
+      before = λ other. after_evaluation sender m.number m.range step reply note other tells;
+    }
+
+-- both evaluations are known: the first one, whose note was taken, and this one
+pub both_known : (old mid new : ActorMeaning Head Event) (m : Posted) (first note : List (KnownEntry Event)) → TellsFirst old.part.id m (Some first) → mid ≡ record old { part = told (without_uses 0 first) old.part } → HasOnlyLearnt mid new
+    → WasEvaluatedNow new.part m (Some (with_uses 0 first)) note → KnowsTimes new.part m 2
+both_known old mid new m first note tells took learnt now =
+    let id : new.part.id ≡ mid.part.id = ap (λ (a : ActorMeaning Head Event). a.part.id) learnt.rest in
+    (tells.0, now.step, after_evaluation old.part.id m.number m.range tells.0 tells.1 first now.step tells.2 now.behind, knows_at_on mid.part new.part m tells.0 id learnt.more (took_evaluation old mid m tells.0 tells.1 first tells.2 took), now.knows)
+
+-- both evaluations are known: one after the other
+pub twice_known : (mid new : ActorMeaning Head Event) (m : Posted) (before : Option (List (KnownEntry Event))) (first note : List (KnownEntry Event)) → WasEvaluatedNow mid.part m before first → HasOnlyLearnt mid new → WasEvaluatedNow new.part m (Some first) note → KnowsTimes new.part m 2
+twice_known mid new m before first note one learnt other =
+    let id : new.part.id ≡ mid.part.id = ap (λ (a : ActorMeaning Head Event). a.part.id) learnt.rest in
+    (one.step, other.step, one.before other.step other.behind, knows_at_on mid.part new.part m one.step id learnt.more one.knows, other.knows)
