@@ -1,5 +1,5 @@
 -- What a recoverer does for a transaction that a range listed.
-use Rattle.std.proofs.Common.{◌≡◌, ◌+◌, ◌≤◌, true, All, Any, inl, List, [], ◌∷◌, ◌++◌, Some, refl, sym, ap, ◌∙◌, subst, arith}
+use Rattle.std.proofs.Common.{◌≡◌, ◌+◌, ◌≤◌, true, All, Any, IfNone, IfSome, inl, List, [], ◌∷◌, ◌++◌, Option, Some, refl, sym, ap, ◌∙◌, subst, arith}
 use Rattle.std.proofs.lemmas.List.Elements.{All-head, All-nil, All-weaker}
 use Rattle.std.specs.Prelude.{is_some}
 use Rattle.pc_desk.specs.declared.halt.Halt.{Halt}
@@ -13,6 +13,8 @@ use Rattle.pc_proto.specs.declared.fate.Goal.TheVariants as goals
 use Rattle.pc_proto.specs.declared.meta.TxnMeta.{TxnMeta}
 use Rattle.pc_proto.specs.declared.reply.Reply.{Reply}
 use Rattle.pc_proto.specs.declared.reply.Reply.TheVariants as replies
+use Rattle.pc_proto.specs.declared.request.Request.{Request}
+use Rattle.pc_proto.specs.declared.request.Request.TheVariants as requests
 use Rattle.pc_proto.specs.declared.view.View.{View}
 use Rattle.pc_proto.specs.declared.view.View.TheVariants as views
 use Rattle.pc_proto.specs.Replies.{view_in}
@@ -24,7 +26,7 @@ use Rattle.pc_recoverer.proofs.Fronts.{front_weaker, said}
 use Rattle.pc_recoverer.proofs.Lost.{lists_nothing}
 use Rattle.pc_recoverer.proofs.Settling.{may_send_now}
 use Rattle.pc_recoverer.specs.Broken.{AreFrontOf, AreFrontOfOne, BreaksOffIn, IsOneMessage}
-use Rattle.pc_recoverer.proofs.Traffic.{given_up_of, heard_there, made_both, made_lost, made_none, made_one, message_of, still_making, was_answered}
+use Rattle.pc_recoverer.proofs.Traffic.{given_up_of, heard_there, if_none, if_some, made_both, made_lost, made_none, made_one, message_of, still_making, was_answered}
 use Rattle.pc_recoverer.specs.declared.maker.RoundMaker.{RoundMaker}
 use Rattle.pc_recoverer.specs.Exchanges.{AreDoneInTurn, RoundMessage, Sending}
 use Rattle.pc_recoverer.specs.InRound.{HasDealtWith, HasLeftOff, HasMadeTraffic, HasRecovered, HasSettled, IsMakingRound, MayPushNow, MayRecoverNow, MaySettleNow, WasShown, sending_of}
@@ -209,3 +211,16 @@ dealt_unpushed maker old new meta x =
       exchanged = made_lost old new (listed_push maker meta) 0 x (λ records. absurd (lists_nothing (listed_push maker meta) refl records));
       is = record { push = push; after = []; whole = refl; asked = refl; follows = refl };
     }
+
+-- The push, as it is made of a copy of the transaction's metadata.
+abbrev copied_push : RoundMaker → TxnMeta → Request
+copied_push maker holder = requests.Push holder (name_of maker) maker.level maker.reading goals.Abort
+
+module _ {C : Type 0} (maker : RoundMaker) (old new : DeskMeaning C) (meta holder : TxnMeta) (reply : Option Reply) (copied : holder ≡ meta) where
+  -- the reply to the push
+  pub push_heard : (told : Reply) → reply ≡ Some told → IfSome reply (WasExchanged old new (copied_push maker holder)) → WasExchanged old new (listed_push maker meta) told
+  push_heard told is heard = subst (λ h. WasExchanged old new (copied_push maker h) told) copied (if_some reply told (WasExchanged old new (copied_push maker holder)) is heard)
+
+  -- or none
+  pub push_unheard : ((told : Reply) → reply ≡ Some told → ⊥) → IfNone reply (HasLostAll old new (copied_push maker holder)) → HasDealtWith maker meta old new
+  push_unheard none lost = dealt_unpushed maker old new meta (subst (λ h. HasLostAll old new (copied_push maker h)) copied (if_none reply (HasLostAll old new (copied_push maker holder)) none lost))

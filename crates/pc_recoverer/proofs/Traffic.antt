@@ -1,5 +1,5 @@
 -- A recoverer in its round goes on by one message after another.
-use Rattle.std.proofs.Common.{◌≡◌, ℕ, ◌≤◌, List, [], ◌∷◌, ◌++◌, length, map, is_some, IfErr, Any, Option, None, Some, OnOk, Result, Ok, Err, refl, sym, ap, ◌∙◌, subst}
+use Rattle.std.proofs.Common.{◌≡◌, ℕ, ◌≤◌, List, [], ◌∷◌, ◌++◌, length, map, is_some, IfErr, Any, Option, None, Some, OnOk, IfNone, IfSome, Result, Ok, Err, refl, sym, ap, ◌∙◌, subst}
 use Rattle.std.specs.Prelude.{IsTrue}
 use Rattle.std.proofs.lemmas.List.{append_assoc, append-nil, map-append}
 use Rattle.pc_desk.specs.declared.halt.Halt.{Halt}
@@ -169,3 +169,12 @@ on_ok (Err halt) P Q f p = tt
 pub if_err : {X : Type 0} (r : Result X Halt) (P Q : Halt → Type 0) → ((halt : Halt) → P halt → Q halt) → IfErr r P → IfErr r Q
 if_err (Ok x) P Q f p = tt
 if_err (Err halt) P Q f p = f halt p
+
+-- what holds for a value that is there
+pub if_some : {A : Type 0} (o : Option A) (x : A) (P : A → Type 0) → o ≡ Some x → IfSome o P → P x
+if_some o x P is holds = subst (λ o. IfSome o P) is holds
+
+-- and where none is
+pub if_none : {A : Type 0} (o : Option A) (P : Type 0) → ((x : A) → o ≡ Some x → ⊥) → IfNone o P → P
+if_none None P none holds = holds
+if_none (Some x) P none holds = absurd (none x refl)

@@ -2,7 +2,7 @@ use Rattle.std.proofs.Common.{is_some, IfNone, IfSome, refl, sym, ap, subst, ◌
 use Rattle.std.proofs.lemmas.Result.{err_from_is_err_and}
 use Rattle.pc_desk.proofs.InCall.{statement_sent}
 use Rattle.pc_desk.specs.Desk.{HasSentNext, MaySendNow}
-use Rattle.pc_recoverer.proofs.Trying.{heard_at_last, in_round_still, lost_all, lost_more, lost_nothing, may_send_again, one_more_lost, try_ends_sent, try_ends_unsent}
+use Rattle.pc_recoverer.proofs.Trying.{heard_at_last, in_round_still, lost_more, lost_nothing, may_send_again, one_more_lost, try_ends_sent, try_ends_unsent}
 use Rattle.pc_recoverer.specs.InRound.{WasHeardOnce, WasLostOnce}
 use Rattle.pc_recoverer.proofs.message.exchange.Goals as goal
 
