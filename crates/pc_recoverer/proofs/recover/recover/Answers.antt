@@ -3,7 +3,7 @@ use Rattle.std.proofs.lemmas.Result.{err_from_is_err_and}
 use Rattle.pc_recover.specs.Recovering.{IsRecoveryOf}
 use Rattle.pc_proto.specs.declared.reply.Reply.TheVariants as replies
 use Rattle.pc_recoverer.proofs.Breaking.{traffic_breaks}
-use Rattle.pc_recoverer.proofs.Recovering.{is_staging, recovering_asks, recovering_begins, recovering_breaks, recovering_ends, recovering_kind}
+use Rattle.pc_recoverer.proofs.Recovering.{is_staging, recovering_asks, recovering_begins, recovering_breaks, recovering_ends, recovering_kind, recovering_left}
 use Rattle.pc_recoverer.proofs.Traffic.{recoverer_in_round}
 use Rattle.pc_recoverer.specs.Broken.{AreFrontOf, AreFrontOfOne}
 use Rattle.pc_recoverer.specs.InRound.{sending_of}
@@ -42,9 +42,14 @@ pub returns-in-Changed-clause-ok : goal.returns-in-Changed-clause-ok
 returns-in-Changed-clause-ok g c =
     recovering_ends c.args.maker c.args.desk.now c.args.meta.now c.args.met c.loop.machine c.loop.desk c.loop.invariant.0 c.in-Ok-next.next c.in-Changed.view c.in-Ok-next.ensures.due (inr c.in-Changed.is)
 
+pub returns-then-not-branch-clause-lost : goal.returns-then-not-branch-clause-lost
+returns-then-not-branch-clause-lost g c =
+    recovering_left c.args.maker c.args.desk.now c.args.meta.now c.args.met c.loop.machine c.loop.desk c.loop.invariant.0 c.in-Send.request (sym c.in-Ok-next.ensures.due ∙ c.in-Send.is) c.recover_on.new.desk
+    (c.in_ok-recover_on-in-Send.ensures.lost c.if-not-branch.true)
+
 pub loop-preserved : goal.loop-preserved
 loop-preserved g c = (
-  c.in_ok-recover_on-in-Send.ensures.ok c.args.maker c.args.desk.now c.args.meta.now c.args.met c.loop.invariant.0 (sym c.in-Ok-next.ensures.due ∙ c.in-Send.is),
+  c.in_ok-recover_on-in-Send.ensures.ok c.args.maker c.args.desk.now c.args.meta.now c.args.met c.loop.invariant.0 (sym c.in-Ok-next.ensures.due ∙ c.in-Send.is) c.if-not-branch.false,
   c.in_ok-recover_on-in-Send.ensures.clock ∙ c.loop.invariant.1,
 )
 

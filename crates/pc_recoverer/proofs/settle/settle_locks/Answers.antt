@@ -1,7 +1,7 @@
 use Rattle.std.proofs.Common.{◌≡◌, refl, sym, ◌∙◌}
 use Rattle.std.proofs.lemmas.Result.{err_from_is_err_and}
 use Rattle.pc_recoverer.proofs.Breaking.{traffic_breaks}
-use Rattle.pc_recoverer.proofs.Settling.{settling_asks, settling_begins, settling_breaks, settling_ends, settling_kind}
+use Rattle.pc_recoverer.proofs.Settling.{settling_asks, settling_begins, settling_breaks, settling_ends, settling_given_up, settling_kind}
 use Rattle.pc_recoverer.proofs.Traffic.{recoverer_in_round}
 use Rattle.pc_recoverer.specs.Broken.{AreFrontOf, AreFrontOfOne}
 use Rattle.pc_recoverer.specs.Exchanges.{AreDoneInTurn}
@@ -31,9 +31,14 @@ settle_on-requires-clause-kind g c =
 pub returns-in-Finished-clause-ok : goal.returns-in-Finished-clause-ok
 returns-in-Finished-clause-ok g c = settling_ends c.args.desk.now c.args.meta.now c.args.fate c.args.locks c.loop.machine c.loop.desk c.loop.invariant.0 (sym c.in-Ok-next.ensures.due ∙ c.in-Finished.is)
 
+pub returns-then-not-branch-clause-ok : goal.returns-then-not-branch-clause-ok
+returns-then-not-branch-clause-ok g c =
+    settling_given_up c.args.desk.now c.args.meta.now c.args.fate c.args.locks c.loop.machine c.loop.desk c.loop.invariant.0 c.in-Send.request (sym c.in-Ok-next.ensures.due ∙ c.in-Send.is) c.settle_on.new.desk
+    (c.in_ok-settle_on-in-Send.ensures.lost c.if-not-branch.true)
+
 pub loop-preserved : goal.loop-preserved
 loop-preserved g c = (
-  c.in_ok-settle_on-in-Send.ensures.ok c.args.desk.now c.args.meta.now c.args.fate c.args.locks c.loop.invariant.0 (sym c.in-Ok-next.ensures.due ∙ c.in-Send.is),
+  c.in_ok-settle_on-in-Send.ensures.ok c.args.desk.now c.args.meta.now c.args.fate c.args.locks c.loop.invariant.0 (sym c.in-Ok-next.ensures.due ∙ c.in-Send.is) c.if-not-branch.false,
   c.in_ok-settle_on-in-Send.ensures.clock ∙ c.loop.invariant.1,
 )
 
