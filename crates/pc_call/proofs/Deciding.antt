@@ -61,7 +61,7 @@ module _ (loses : Bool) (k : Known) (x : OpenTxn) (s : Statement) (why : Why) (f
       g.1 g.2
 
   -- as the call begins no put of it met an intent, and each may be put again
-  fresh_again : (seq : ℕ) → list_any (λ other. is_put_of f.t.id f.t.epoch seq other.request) (sent_before k) ≡ true → MayBePutAgain loses k f.t seq 0
+  fresh_again : (seq : ℕ) → list_any (λ other. is_put_of f.t.id f.t.epoch seq other.request) (sent_before k) ≡ true → MayBePutAgain loses k f.t seq 0 0
   fresh_again seq before = record {
     before = before;
     counts = (
@@ -74,6 +74,9 @@ module _ (loses : Bool) (k : Known) (x : OpenTxn) (s : Statement) (why : Why) (f
     left = λ loses some. absurd (none_of_it seq some);
     answered = λ quiet.
         All-weaker (λ (m : Sent). is_heartbeat m.request ≡ true) (λ m. IsTrue (is_put_of f.t.id f.t.epoch seq m.request) → IsTrue (is_heard k.heard_now m)) (λ m beat put. absurd (beat_puts_nothing f.t seq m.request beat put)) k.sent_now f.sent;
+    unlost = λ quiet. refl;
+    tried = λ loses r put. tt;
+    lately = λ some. absurd (omega (arith, some));
   }
 
   -- it goes on to commit as it was asked
@@ -81,7 +84,7 @@ module _ (loses : Bool) (k : Known) (x : OpenTxn) (s : Statement) (why : Why) (f
   commits_fresh anchor call anchored = record {
     on = commit_asked_now loses k x s why anchor f call anchored;
     passed = late_passed k [] f.t x.staging f.stands.staging (All-nil (IsLate k.heard));
-    counted = all_from_contains (λ (w : WriteInFlight). MayBePutAgain loses k f.t w.seq 0) x.in_flight (λ w there. fresh_again w.seq (sent_earlier loses k x s why f w there));
+    counted = all_from_contains (λ (w : WriteInFlight). MayBePutAgain loses k f.t w.seq 0 0) x.in_flight (λ w there. fresh_again w.seq (sent_earlier loses k x s why f w there));
   }
 
 -- where its reads are good at its write timestamp, it decides there

@@ -21,6 +21,7 @@ use Rattle.pc_call.proofs.Facts.{are_numbered, open_is, unsent_goes, unsent_unlo
 use Rattle.pc_call.proofs.Full.{full_stays, full_back, full_from}
 use Rattle.pc_call.proofs.Holders.{holders_heard}
 use Rattle.pc_call.proofs.Intents.{put_again_on}
+use Rattle.pc_call.proofs.PutTries.{row_still}
 use Rattle.pc_call.proofs.Kept.{kept_on, none_kept}
 use Rattle.pc_call.proofs.Lists.{all_behind, all_changed, all_unmapped, all_with, any_other, kept_by, only_found}
 use Rattle.pc_call.proofs.Meeting.{any_changed, any_goes_on, gone_out_on, low-more, low_now, met-more}
@@ -34,7 +35,7 @@ use Rattle.pc_call.specs.Ended.{landed_awaited, landed_by, landed_with}
 use Rattle.pc_call.specs.Learned.{known_heard}
 use Rattle.pc_call.specs.Missing.{IsAboveMisses}
 use Rattle.pc_call.specs.Paced.{IsPaced, was_met, was_pushed}
-use Rattle.pc_call.specs.Serving.{AreReadsOf, HasBeatenBy, InCall, IsAnswerTo, IsMetUpTo, IsOpenFor, IsOpenIn, IsReadFor, IsRefreshGoneOut, IsRefusedBy, IsSplit, KeepsStages, LaysLast, LaysNext, MayBePutAgain, MeetsByPut, MetNoOtherWrite, NoOtherMetEighth, NoneMetEighth, ReadsNothing, SendsAgain, Serves, ServesProve, ServesRead, ServesRefresh, ServesWrite, WaitsMeanwhile, WasRefusedIfCommit, conflicts_before, holders_met, out_of, IsOutOrLost}
+use Rattle.pc_call.specs.Serving.{AreReadsOf, HasBeatenBy, InCall, IsAnswerTo, IsMetUpTo, IsOpenFor, IsOpenIn, IsReadFor, IsRefreshGoneOut, IsRefusedBy, IsSplit, KeepsStages, LaysLast, LaysNext, MayBePutAgain, MeetsByPut, MetNoOtherWrite, NoOtherMetEighth, NoneMetEighth, ReadsNothing, SendsAgain, Serves, ServesProve, ServesRead, ServesRefresh, ServesWrite, WaitsMeanwhile, WasRefusedIfCommit, conflicts_before, holders_met, losses_before, out_of, IsOutOrLost}
 use Rattle.pc_call.specs.Suiting.{SuitsFlightIn}
 use Rattle.pc_call.specs.Waiting.{waits_on}
 use Rattle.pc_follows.specs.OwnStages.{refuses_stage}
@@ -329,8 +330,9 @@ module _ (session clock count : ℕ) (set : Setting) (k : Known) (x : OpenTxn) (
         none_eighth = eighth_on plain r.none_eighth;
         settled = settled_heard k w.t h w.open_in plain (λ rounds. still_goes_on (Some w.t) h h.request h.reply rounds still) r.settled;
         counted =
-            All-weaker (λ f. MayBePutAgain set.course.loses k w.t f.seq (conflicts_before f.seq puts)) (λ f. MayBePutAgain set.course.loses k2 w.t f.seq (conflicts_before f.seq puts))
-            (λ f c. put_again_on k k2 [] (h ∷ []) more set.course.loses w.t f.seq (conflicts_before f.seq puts) (All-nil (λ m. is_put m.request ≡ false)) (All-cons (λ h. is_put h.request ≡ false) h [] (still_no_put h.request still) (All-nil (λ h. is_put h.request ≡ false))) c) x.in_flight r.counted;
+            All-weaker (λ f. MayBePutAgain set.course.loses k w.t f.seq (conflicts_before f.seq puts) (losses_before f.seq puts)) (λ f. MayBePutAgain set.course.loses k2 w.t f.seq (conflicts_before f.seq puts) (losses_before f.seq puts))
+            (λ f c. put_again_on k k2 [] (h ∷ []) more set.course.loses w.t f.seq (conflicts_before f.seq puts) (losses_before f.seq puts) (All-nil (λ m. is_put m.request ≡ false)) (All-cons (λ h. is_put h.request ≡ false) h [] (still_no_put h.request still) (All-nil (λ h. is_put h.request ≡ false)))
+            (λ r put. row_still w.t.id w.t.epoch f.seq r put (losses_before f.seq puts) k k2 h number is.asked is.numbered more (still_no_put h.request still)) c) x.in_flight r.counted;
       }
     where
       awaited_met : (m : Message) → awaits_at number m ≡ true → unrefreshed_in m.progress ≡ None

@@ -15,6 +15,7 @@ use Rattle.pc_proto.specs.Requests.{is_put, is_put_of}
 use Rattle.pc_wave.proofs.ForCall.{for_call-kept}
 use Rattle.pc_wave.proofs.Lists.{any_before, at_least-before, at_least-kept}
 use Rattle.pc_wave.specs.Standing.{HasMore}
+use Rattle.pc_wave.specs.Tries.{WasLostInARow}
 use Rattle.pc_world.specs.Counting.{AtLeast}
 use Rattle.pc_world.specs.Known.{Known}
 use Rattle.pc_world.specs.Known.Traffic.{Heard, Sent}
@@ -33,11 +34,11 @@ no_same_put (requests.Put meta seq ts key value) q none same = same
 no_same_put r q none same = same
 
 -- a put is of one request with no other than a put
-other_put : (id : TxnId) (epoch seq : ℕ) (r q : Request) → IsTrue (is_put_of id epoch seq r) → is_put q ≡ false → IsSameRequest r q → ⊥
+pub other_put : (id : TxnId) (epoch seq : ℕ) (r q : Request) → IsTrue (is_put_of id epoch seq r) → is_put q ≡ false → IsSameRequest r q → ⊥
 other_put id epoch seq r q put none (inl e) = of_put id epoch seq r (ap is_put e ∙ none) put
 other_put id epoch seq r q put none (inr same) = no_same_put r q none same
 
-module _ (k now : Known) (sent_more : List Sent) (heard_more : List Heard) (more : HasMore k now sent_more heard_more) (loses : Bool) (t : Txn) (seq n : ℕ) (no_sent : All (λ m. is_put m.request ≡ false) sent_more) (no_heard : All (λ h. is_put h.request ≡ false) heard_more) where
+module _ (k now : Known) (sent_more : List Sent) (heard_more : List Heard) (more : HasMore k now sent_more heard_more) (loses : Bool) (t : Txn) (seq n lost : ℕ) (no_sent : All (λ m. is_put m.request ≡ false) sent_more) (no_heard : All (λ h. is_put h.request ≡ false) heard_more) where
   none_met : All (λ h. IsPutInConflict t.id t.epoch seq h → ⊥) heard_more
   none_met = All-weaker (λ h. is_put h.request ≡ false) (λ h. IsPutInConflict t.id t.epoch seq h → ⊥) (λ h none c. of_put t.id t.epoch seq h.request none c.put) heard_more no_heard
 
@@ -79,8 +80,8 @@ module _ (k now : Known) (sent_more : List Sent) (heard_more : List Heard) (more
       inr (any_before P k.heard_now heard_more (All-weaker (λ h. is_put h.request ≡ false) (λ h. P h → ⊥) (λ h none put. of_put t.id t.epoch seq h.request none put) heard_more no_heard) (subst (λ hs. Any P hs) more.heard_now told))
 
   -- a put may go out again on
-  pub put_again_on : MayBePutAgain loses k t seq n → MayBePutAgain loses now t seq n
-  put_again_on c = record {
+  pub put_again_on : ((r : Request) → IsTrue (is_put_of t.id t.epoch seq r) → WasLostInARow k r lost → WasLostInARow now r lost) → MayBePutAgain loses k t seq n lost → MayBePutAgain loses now t seq n lost
+  put_again_on keeps c = record {
     before = ap (λ ms. list_any (λ other. is_put_of t.id t.epoch seq other.request) ms) before_on ∙ c.before;
     counts = counts_on c.counts;
     sent = for_call-kept k now sent_more heard_more more (λ m. IsTrue (is_put_of t.id t.epoch seq m.request)) n c.sent;
@@ -94,4 +95,7 @@ module _ (k now : Known) (sent_more : List Sent) (heard_more : List Heard) (more
         (subst (λ ms. All (P (k.heard_now ++ heard_more)) ms) (sym more.sent_now)
         (All-append (P (k.heard_now ++ heard_more)) k.sent_now sent_more (All-weaker (P k.heard_now) (P (k.heard_now ++ heard_more)) (λ m was put. heard_longer k.heard_now heard_more m (was put)) k.sent_now (c.answered quiet))
         (All-weaker (λ m. is_put m.request ≡ false) (P (k.heard_now ++ heard_more)) (λ m none put. absurd (of_put t.id t.epoch seq m.request none put)) sent_more no_sent)));
+    unlost = c.unlost;
+    tried = λ loses r put. keeps r put (c.tried loses r put);
+    lately = λ some. for_call-kept k now sent_more heard_more more (λ m. IsTrue (is_put_of t.id t.epoch seq m.request)) 1 (c.lately some);
   }

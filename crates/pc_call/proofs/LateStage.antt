@@ -16,7 +16,7 @@ use Rattle.pc_call.specs.declared.call.OpenCall.{OpenCall}
 use Rattle.pc_call.specs.declared.purpose.Purpose.{Purpose}
 use Rattle.pc_call.specs.declared.purpose.Purpose.TheVariants as purposes
 use Rattle.pc_call.specs.Met.{AreMetBy, IsWithoutConflict}
-use Rattle.pc_call.specs.Serving.{HasBeatenBy, InCall, IsOpenFor, IsRefreshUpTo, MayBePutAgain, NoOtherMetEighth, NoneMetEighth, SendsAgain, Serves, ServesStage, StageStands, WaitsMeanwhile, conflicts_before, out_of, is_last_beat}
+use Rattle.pc_call.specs.Serving.{HasBeatenBy, InCall, IsOpenFor, IsRefreshUpTo, MayBePutAgain, NoOtherMetEighth, NoneMetEighth, SendsAgain, Serves, ServesStage, StageStands, WaitsMeanwhile, conflicts_before, losses_before, out_of, is_last_beat}
 use Rattle.pc_call.specs.Setting.{Setting}
 use Rattle.pc_call.specs.Stages.{CallStagesOn, CommitsOnFrom, MayStageOn, eighth_holder, holder_of, is_at_eighth}
 use Rattle.pc_flight.specs.declared.write.WriteInFlight.{WriteInFlight}
@@ -188,7 +188,7 @@ module _ (set : Setting) (k : Known) (x : OpenTxn) (p : Purpose) (ms : List Mess
       done = done;
     };
     passed = late_passed k w.stages w.t x.staging st.staging all_behind_it.0;
-    counted = subst (λ fs. All (λ f. MayBePutAgain set.course.loses k w.t f.seq (conflicts_before f.seq ms)) fs) (sym none_flies) (All-nil (λ f. MayBePutAgain set.course.loses k w.t f.seq (conflicts_before f.seq ms)));
+    counted = subst (λ fs. All (λ f. MayBePutAgain set.course.loses k w.t f.seq (conflicts_before f.seq ms) (losses_before f.seq ms)) fs) (sym none_flies) (All-nil (λ f. MayBePutAgain set.course.loses k w.t f.seq (conflicts_before f.seq ms) (losses_before f.seq ms)));
   }
 
   -- none met its eighth

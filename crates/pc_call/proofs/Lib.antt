@@ -48,6 +48,7 @@ pub mod Proven
 pub mod Proving
 pub mod PushRefused
 pub mod PutAgain
+pub mod PutTries
 pub mod QueryBegins
 pub mod QueryFound
 pub mod QueryMissed

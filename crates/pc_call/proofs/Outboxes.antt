@@ -9,7 +9,7 @@ use Rattle.pc_call.proofs.Taken.{waits_as_before}
 use Rattle.pc_call.specs.declared.later.LaterPut.{LaterPut}
 use Rattle.pc_call.specs.Outbox.{AreToSendOrOnWay, IsApartFrom, IsBeforeAll, IsHeardOrLeft, IsOnWayAs, IsReplyToMessage, IsSentAs, OutboxStands, has_put, is_later_of, proof_by, proof_in, proofs_in, waiting_put, without_put, without_puts}
 use Rattle.pc_call.specs.Stages.{HasOutbox, KeepsOutbox, put_messages}
-use Rattle.pc_call.specs.Serving.{conflicts_before}
+use Rattle.pc_call.specs.Serving.{conflicts_before, losses_before}
 use Rattle.pc_call.specs.Waiting.{waits_on}
 use Rattle.pc_flight.specs.declared.write.WriteInFlight.{WriteInFlight}
 use Rattle.pc_lists.proofs.Anywhere.{any_head, any_kept, any_later, any_weaker}
@@ -247,15 +247,15 @@ commit_keeps k x later o anchor =
 
 module _ (x : OpenTxn) (later : List LaterPut) (anchor : List ℕ) where
   -- the message that proves a write puts it
-  proof_puts : (conflicts : ℕ) (w : WriteInFlight) → has_put w.seq (proof_in x later anchor conflicts w).request ≡ true
-  proof_puts conflicts w = by (waiting_put w.seq later) refl
+  proof_puts : (conflicts lost : ℕ) (w : WriteInFlight) → has_put w.seq (proof_in x later anchor conflicts lost w).request ≡ true
+  proof_puts conflicts lost w = by (waiting_put w.seq later) refl
     where
-      by : (o : Option LaterPut) → waiting_put w.seq later ≡ o → has_put w.seq (proof_by o (own_put x anchor w) conflicts).request ≡ true
+      by : (o : Option LaterPut) → waiting_put w.seq later ≡ o → has_put w.seq (proof_by o (own_put x anchor w) conflicts lost).request ≡ true
       by (Some put) is = found_passes (is_later_of w.seq) later put is
       by None is = eq-eqb w.seq w.seq refl
 
-  proof_joins : (conflicts : ℕ) (w : WriteInFlight) (put : LaterPut) → waiting_put w.seq later ≡ Some put → IsJoined put (proof_in x later anchor conflicts w)
-  proof_joins conflicts w put is = ap (λ o. proof_by o (own_put x anchor w) conflicts) is
+  proof_joins : (conflicts lost : ℕ) (w : WriteInFlight) (put : LaterPut) → waiting_put w.seq later ≡ Some put → IsJoined put (proof_in x later anchor conflicts lost w)
+  proof_joins conflicts lost w put is = ap (λ o. proof_by o (own_put x anchor w) conflicts lost) is
 
   module _ (call : Call) (all : Bool) where
     abbrev waited : WriteInFlight → Bool
@@ -266,11 +266,11 @@ module _ (x : OpenTxn) (later : List LaterPut) (anchor : List ℕ) where
     proofs_join (v ∷ ws) w there put is = by (λ l. proofs_join ws w l put is) (waited v) there
       where
         by : (Contains (filter waited ws) w → Any (IsJoined put) (proofs_in call all x later anchor ws)) → (b : Bool) → Contains (cond b (v ∷ filter waited ws) (filter waited ws)) w
-            → Any (IsJoined put) (cond b (proof_in x later anchor 0 v ∷ proofs_in call all x later anchor ws) (proofs_in call all x later anchor ws))
+            → Any (IsJoined put) (cond b (proof_in x later anchor 0 0 v ∷ proofs_in call all x later anchor ws) (proofs_in call all x later anchor ws))
         by rest true there =
             elim (contains_cons v (filter waited ws) w there) [
-              | inl same ↦ any_head (IsJoined put) (proof_in x later anchor 0 v) (proofs_in call all x later anchor ws) (proof_joins 0 v put (ap (λ (w : WriteInFlight). waiting_put w.seq later) same ∙ is))
-              | inr l ↦ any_later (IsJoined put) (proof_in x later anchor 0 v) (proofs_in call all x later anchor ws) (rest l)
+              | inl same ↦ any_head (IsJoined put) (proof_in x later anchor 0 0 v) (proofs_in call all x later anchor ws) (proof_joins 0 0 v put (ap (λ (w : WriteInFlight). waiting_put w.seq later) same ∙ is))
+              | inr l ↦ any_later (IsJoined put) (proof_in x later anchor 0 0 v) (proofs_in call all x later anchor ws) (rest l)
             ]
         by rest false there = rest there
 
@@ -283,9 +283,9 @@ module _ (x : OpenTxn) (later : List LaterPut) (anchor : List ℕ) where
     proofs_say (v ∷ ws) = by (proofs_say ws) (waited v)
       where
         by : All (PutsOneOf (filter waited ws)) (proofs_in call all x later anchor ws) → (b : Bool)
-            → All (PutsOneOf (cond b (v ∷ filter waited ws) (filter waited ws))) (cond b (proof_in x later anchor 0 v ∷ proofs_in call all x later anchor ws) (proofs_in call all x later anchor ws))
+            → All (PutsOneOf (cond b (v ∷ filter waited ws) (filter waited ws))) (cond b (proof_in x later anchor 0 0 v ∷ proofs_in call all x later anchor ws) (proofs_in call all x later anchor ws))
         by rest true =
-            All-cons (PutsOneOf (v ∷ filter waited ws)) (proof_in x later anchor 0 v) (proofs_in call all x later anchor ws) (inl (v, (0, omega arith, refl), proof_puts 0 v))
+            All-cons (PutsOneOf (v ∷ filter waited ws)) (proof_in x later anchor 0 0 v) (proofs_in call all x later anchor ws) (inl (v, (0, omega arith, refl), proof_puts 0 0 v))
             (All-weaker (PutsOneOf (filter waited ws)) (PutsOneOf (v ∷ filter waited ws)) (puts_more v (filter waited ws)) (proofs_in call all x later anchor ws) rest)
         by rest false = rest
 
@@ -294,10 +294,10 @@ module _ (x : OpenTxn) (later : List LaterPut) (anchor : List ℕ) where
     proofs_keep k o = keeps_outbox k x later o (filter waited x.in_flight) (proofs_in call all x later anchor x.in_flight) (proofs_join x.in_flight) (proofs_say x.in_flight)
 
   -- each is to be sent, or on its way
-  proof_goes : (conflicts : ℕ) (w : WriteInFlight) → (is_to_send (proof_in x later anchor conflicts w) ≡ true) ⊎ (is_out (proof_in x later anchor conflicts w) ≡ true)
-  proof_goes conflicts w = by (waiting_put w.seq later)
+  proof_goes : (conflicts lost : ℕ) (w : WriteInFlight) → (is_to_send (proof_in x later anchor conflicts lost w) ≡ true) ⊎ (is_out (proof_in x later anchor conflicts lost w) ≡ true)
+  proof_goes conflicts lost w = by (waiting_put w.seq later)
     where
-      by : (o : Option LaterPut) → (is_to_send (proof_by o (own_put x anchor w) conflicts) ≡ true) ⊎ (is_out (proof_by o (own_put x anchor w) conflicts) ≡ true)
+      by : (o : Option LaterPut) → (is_to_send (proof_by o (own_put x anchor w) conflicts lost) ≡ true) ⊎ (is_out (proof_by o (own_put x anchor w) conflicts lost) ≡ true)
       by (Some put) = inr refl
       by None = inl refl
 
@@ -305,26 +305,26 @@ module _ (x : OpenTxn) (later : List LaterPut) (anchor : List ℕ) where
   proofs_go call all [] = All-nil (λ m. (is_to_send m ≡ true) ⊎ (is_out m ≡ true))
   proofs_go call all (w ∷ ws) = by (waits_on call all w.key) (proofs_go call all ws)
     where
-      by : (b : Bool) → AreToSendOrOnWay (proofs_in call all x later anchor ws) → AreToSendOrOnWay (cond b (proof_in x later anchor 0 w ∷ proofs_in call all x later anchor ws) (proofs_in call all x later anchor ws))
-      by true rest = All-cons (λ m. (is_to_send m ≡ true) ⊎ (is_out m ≡ true)) (proof_in x later anchor 0 w) (proofs_in call all x later anchor ws) (proof_goes 0 w) rest
+      by : (b : Bool) → AreToSendOrOnWay (proofs_in call all x later anchor ws) → AreToSendOrOnWay (cond b (proof_in x later anchor 0 0 w ∷ proofs_in call all x later anchor ws) (proofs_in call all x later anchor ws))
+      by true rest = All-cons (λ m. (is_to_send m ≡ true) ⊎ (is_out m ≡ true)) (proof_in x later anchor 0 0 w) (proofs_in call all x later anchor ws) (proof_goes 0 0 w) rest
       by false rest = rest
 
   module _ (puts : List Message) where
     abbrev proof : WriteInFlight → Message
-    proof w = proof_in x later anchor (conflicts_before w.seq puts) w
+    proof w = proof_in x later anchor (conflicts_before w.seq puts) (losses_before w.seq puts) w
 
     puts_join : (ws : List WriteInFlight) → (w : WriteInFlight) → Contains ws w → (put : LaterPut) → waiting_put w.seq later ≡ Some put → Any (IsJoined put) (put_messages x later anchor puts ws)
     puts_join [] w there put is = absurd (contains_nil w there)
     puts_join (v ∷ ws) w there put is =
         elim (contains_cons v ws w there) [
-          | inl same ↦ any_head (IsJoined put) (proof v) (put_messages x later anchor puts ws) (proof_joins (conflicts_before v.seq puts) v put (ap (λ (w : WriteInFlight). waiting_put w.seq later) same ∙ is))
+          | inl same ↦ any_head (IsJoined put) (proof v) (put_messages x later anchor puts ws) (proof_joins (conflicts_before v.seq puts) (losses_before v.seq puts) v put (ap (λ (w : WriteInFlight). waiting_put w.seq later) same ∙ is))
           | inr l ↦ any_later (IsJoined put) (proof v) (put_messages x later anchor puts ws) (puts_join ws w l put is)
         ]
 
     puts_say : (ws : List WriteInFlight) → All (PutsOneOf ws) (put_messages x later anchor puts ws)
     puts_say [] = All-nil (PutsOneOf [])
     puts_say (v ∷ ws) =
-        All-cons (PutsOneOf (v ∷ ws)) (proof v) (put_messages x later anchor puts ws) (inl (v, (0, omega arith, refl), proof_puts (conflicts_before v.seq puts) v))
+        All-cons (PutsOneOf (v ∷ ws)) (proof v) (put_messages x later anchor puts ws) (inl (v, (0, omega arith, refl), proof_puts (conflicts_before v.seq puts) (losses_before v.seq puts) v))
         (All-weaker (PutsOneOf ws) (PutsOneOf (v ∷ ws)) (more v ws) (put_messages x later anchor puts ws) (puts_say ws))
       where
         more : (v : WriteInFlight) (ws : List WriteInFlight) (m : Message) → PutsOneOf ws m → PutsOneOf (v ∷ ws) m
@@ -340,7 +340,7 @@ module _ (x : OpenTxn) (later : List LaterPut) (anchor : List ℕ) where
 
     pub puts_go : (ws : List WriteInFlight) → AreToSendOrOnWay (put_messages x later anchor puts ws)
     puts_go [] = All-nil (λ m. (is_to_send m ≡ true) ⊎ (is_out m ≡ true))
-    puts_go (w ∷ ws) = All-cons (λ m. (is_to_send m ≡ true) ⊎ (is_out m ≡ true)) (proof w) (put_messages x later anchor puts ws) (proof_goes (conflicts_before w.seq puts) w) (puts_go ws)
+    puts_go (w ∷ ws) = All-cons (λ m. (is_to_send m ≡ true) ⊎ (is_out m ≡ true)) (proof w) (put_messages x later anchor puts ws) (proof_goes (conflicts_before w.seq puts) (losses_before w.seq puts) w) (puts_go ws)
 
 -- ---- one write after another
 
@@ -350,13 +350,13 @@ proofs-append call all x later anchor [] other = refl
 proofs-append call all x later anchor (w ∷ one) other = by (waits_on call all w.key) (proofs-append call all x later anchor one other)
   where
     by : (b : Bool) → proofs_in call all x later anchor (one ++ other) ≡ proofs_in call all x later anchor one ++ proofs_in call all x later anchor other
-        → cond b (proof_in x later anchor 0 w ∷ proofs_in call all x later anchor (one ++ other)) (proofs_in call all x later anchor (one ++ other)) ≡ cond b (proof_in x later anchor 0 w ∷ proofs_in call all x later anchor one) (proofs_in call all x later anchor one) ++ proofs_in call all x later anchor other
-    by true rest = ap (λ ms. proof_in x later anchor 0 w ∷ ms) rest
+        → cond b (proof_in x later anchor 0 0 w ∷ proofs_in call all x later anchor (one ++ other)) (proofs_in call all x later anchor (one ++ other)) ≡ cond b (proof_in x later anchor 0 0 w ∷ proofs_in call all x later anchor one) (proofs_in call all x later anchor one) ++ proofs_in call all x later anchor other
+    by true rest = ap (λ ms. proof_in x later anchor 0 0 w ∷ ms) rest
     by false rest = rest
 
 pub put_messages-append : (x : OpenTxn) (later : List LaterPut) (anchor : List ℕ) (puts : List Message) (one other : List WriteInFlight) → put_messages x later anchor puts (one ++ other) ≡ put_messages x later anchor puts one ++ put_messages x later anchor puts other
 put_messages-append x later anchor puts [] other = refl
-put_messages-append x later anchor puts (w ∷ one) other = ap (λ ms. proof_in x later anchor (conflicts_before w.seq puts) w ∷ ms) (put_messages-append x later anchor puts one other)
+put_messages-append x later anchor puts (w ∷ one) other = ap (λ ms. proof_in x later anchor (conflicts_before w.seq puts) (losses_before w.seq puts) w ∷ ms) (put_messages-append x later anchor puts one other)
 
 pub without_puts-append : (one other : List WriteInFlight) (later : List LaterPut) → without_puts (one ++ other) later ≡ without_puts other (without_puts one later)
 without_puts-append [] other later = refl

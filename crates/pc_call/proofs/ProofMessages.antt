@@ -37,7 +37,6 @@ use Rattle.pc_txn.specs.Standing.{TxnStands}
 use Rattle.pc_txn.specs.Writing.{WasAskedAt}
 use Rattle.pc_wave.proofs.Changed.{found_all, found_passes}
 use Rattle.pc_wave.proofs.Lists.{at_least-before}
-use Rattle.pc_wave.proofs.Tries.{ready_tries}
 use Rattle.pc_wave.specs.declared.message.Message.{Message}
 use Rattle.pc_wave.specs.Messages.{is_in_conflict, message_again, message_on_way}
 use Rattle.pc_wave.specs.Standing.{AreAnsweredBut, AreCounted, CountsTries, IsMessageAt, MayGoOut, MessageStands, Pairwise, goes_beside, messages_for}
@@ -100,12 +99,13 @@ pub record Proves (set : Setting) (k : Known) (t : Txn) (x : OpenTxn) (w : Write
   pub said : m.request ≡ requests.Put whose w.seq ts w.key w.value
   pub again : (call : Call) (all : Bool) → waits_on call all w.key ≡ true → SendsAgain call all k t x m
 
--- The write may be put again by this request, which met so many intents in the call.
-pub record GoesAgain (set : Setting) (k : Known) (r : Request) (n : ℕ) : Type 0 where
+-- The write may be put again by this request, which in the call met so many intents, and was lost so often in a row.
+pub record GoesAgain (set : Setting) (k : Known) (r : Request) (n lost : ℕ) : Type 0 where
   pub goes : MayGoOut set.course k r
   pub counted : AreCounted k r n
   pub sent : AtLeast (λ m. IsSameRequest r m.request) n (sent_for_call k)
   pub few : n < MOST_CONFLICTS
+  pub tries : CountsTries set.course.loses set.course k (message_again r n lost)
 
 -- messages of two writes are of two requests
 pub proofs_differ : (set : Setting) (k : Known) (t : Txn) (x : OpenTxn) (a b : WriteInFlight) (m q : Message) → Proves set k t x a m → Proves set k t x b q → (a.seq ≡ b.seq → ⊥) → IsSameRequest m.request q.request → ⊥
@@ -123,12 +123,12 @@ unheld [] a = refl
 unheld (m ∷ ms) a = ap (λ o. option_to_list o ++ holders_met ms) (All-head (λ m. holder_met m.progress ≡ None) m ms a) ∙ unheld ms (All-tail (λ m. holder_met m.progress ≡ None) m ms a)
 
 -- a put that may go again stands
-pub again_stands : (set : Setting) (k : Known) (r : Request) (n : ℕ) → goes_beside r ≡ false → GoesAgain set k r n → MessageStands set.course k (message_again r n)
-again_stands set k r n own g = record {
+pub again_stands : (set : Setting) (k : Known) (r : Request) (n lost : ℕ) → goes_beside r ≡ false → GoesAgain set k r n lost → MessageStands set.course k (message_again r n lost)
+again_stands set k r n lost own g = record {
   as_far = (free_to_go set.course.loses set.course k r g.goes, g.few);
   counted = g.counted;
   sent = g.sent;
-  tries = ready_tries set.course.loses set.course k (message_again r n) refl refl g.goes;
+  tries = g.tries;
   no_round = own;
 }
 
@@ -158,11 +158,11 @@ module _ (set : Setting) (k : Known) (t : Txn) (x : OpenTxn) (stages : List Sent
       put_of : (q : Request) → IsSameRequest (own_put x anchor w) q → is_put_of t.id t.epoch w.seq q ≡ true
       put_of q same = sym (ap (λ i. is_put_of i x.epoch w.seq q) id ∙ ap (λ e. is_put_of t.id e w.seq q) epoch) ∙ same_put (meta_now x anchor) w.seq x.write_ts w.key w.value q same
 
-  module _ (w : WriteInFlight) (there : Contains x.in_flight w) (before : list_any (λ other. is_put_of t.id t.epoch w.seq other.request) (sent_before k) ≡ true) (n : ℕ) (may_again : waiting_put w.seq later ≡ None → GoesAgain set k (own_put x anchor w) n) where
+  module _ (w : WriteInFlight) (there : Contains x.in_flight w) (before : list_any (λ other. is_put_of t.id t.epoch w.seq other.request) (sent_before k) ≡ true) (n lost : ℕ) (may_again : waiting_put w.seq later ≡ None → GoesAgain set k (own_put x anchor w) n lost) where
     -- where it does not wait, its put goes out again
-    goes_again : waiting_put w.seq later ≡ None → Proves set k t x w (message_again (own_put x anchor w) n)
+    goes_again : waiting_put w.seq later ≡ None → Proves set k t x w (message_again (own_put x anchor w) n lost)
     goes_again none = record {
-      stands = again_stands set k (own_put x anchor w) n refl (may_again none);
+      stands = again_stands set k (own_put x anchor w) n lost refl (may_again none);
       unmet = refl;
       free = refl;
       sends = ((meta_now x anchor, x.write_ts, refl), refl);
@@ -319,9 +319,9 @@ module _ (set : Setting) (k : Known) (t : Txn) (x : OpenTxn) (stages : List Sent
       }
 
     -- so its message proves it
-    pub proof_proves : Proves set k t x w (proof_in x later anchor n w)
+    pub proof_proves : Proves set k t x w (proof_in x later anchor n lost w)
     proof_proves = by (waiting_put w.seq later) refl
       where
-        by : (o : Option LaterPut) → waiting_put w.seq later ≡ o → Proves set k t x w (proof_by o (own_put x anchor w) n)
+        by : (o : Option LaterPut) → waiting_put w.seq later ≡ o → Proves set k t x w (proof_by o (own_put x anchor w) n lost)
         by None e = goes_again e
         by (Some put) e = on_way put e

@@ -35,7 +35,9 @@ use Rattle.pc_proto.specs.Requests.{is_put_of}
 use Rattle.pc_txn.proofs.Again.{IsEarlierInFlight, flight_order}
 use Rattle.pc_txn.specs.declared.txn.OpenTxn.{OpenTxn}
 use Rattle.pc_txn.specs.Opened.{own_put}
+use Rattle.pc_wave.proofs.Tries.{ready_tries}
 use Rattle.pc_wave.specs.declared.message.Message.{Message}
+use Rattle.pc_wave.specs.Messages.{message_again}
 use Rattle.pc_wave.specs.Standing.{AreOfTwo, MessageStands, Pairwise, WaveStands}
 use Rattle.pc_world.specs.Known.{Known}
 use Rattle.pc_world.specs.Known.Statements.{Statement}
@@ -68,7 +70,7 @@ fills_all key (Some value) flight many = le_true MOST_IN_FLIGHT (length flight) 
 
 module _ (set : Setting) (k : Known) (x : OpenTxn) (s : Statement) (why : Why) (f : IsFresh set.course.loses k x s why) (later : List LaterPut) (o : HasOutbox set.course.loses k x later) (may : MayWait set.course.pipelines later) (anchor : List ℕ) (anchored : x.anchor ≡ Some anchor) (call : Call) (all : Bool) where
   -- its put goes out anew, where it does not wait
-  goes_anew : (w : WriteInFlight) → waiting_put w.seq later ≡ None → GoesAgain set k (own_put x anchor w) 0
+  goes_anew : (w : WriteInFlight) → waiting_put w.seq later ≡ None → GoesAgain set k (own_put x anchor w) 0 0
   goes_anew w none =
       let r : Request = own_put x anchor w in
       let unheard : All (λ h. is_put_of f.t.id f.t.epoch w.seq h.request ≡ false) k.heard_now =
@@ -78,44 +80,45 @@ module _ (set : Setting) (k : Known) (x : OpenTxn) (s : Statement) (why : Why) (
         counted = record { heard = tt; no_more = λ one. Beginning.none_met k (unmet_now k f.t x s f.open_in f.stands f.client f.opened f.split f.heard) r one };
         sent = tt;
         few = lit< tt;
+        tries = ready_tries set.course.loses set.course k (message_again r 0 0) refl refl (new_goes set.course k r (put_new set k f.t x [] f.open_in f.stands f.split later o may anchor anchored w none unheard (fresh_unsent set k x s why f r refl)));
       }
 
-  one_proves : (w : WriteInFlight) → Contains x.in_flight w → Proves set k f.t x w (proof_in x later anchor 0 w)
-  one_proves w there = proof_proves set k f.t x [] f.open_in f.stands f.split later o may anchor anchored w there (sent_earlier set.course.loses k x s why f w there) 0 (goes_anew w)
+  one_proves : (w : WriteInFlight) → Contains x.in_flight w → Proves set k f.t x w (proof_in x later anchor 0 0 w)
+  one_proves w there = proof_proves set k f.t x [] f.open_in f.stands f.split later o may anchor anchored w there (sent_earlier set.course.loses k x s why f w there) 0 0 (goes_anew w)
 
   -- The messages of these writes.
   abbrev proofs : List WriteInFlight → List Message
   proofs ws = proofs_in call all x later anchor ws
 
   -- what holds of each message that proves a write for which the call waits holds of all
-  each_proof : (P : Message → Type 0) (ws : List WriteInFlight) → All (λ w. waits_on call all w.key ≡ true → P (proof_in x later anchor 0 w)) ws → All P (proofs ws)
+  each_proof : (P : Message → Type 0) (ws : List WriteInFlight) → All (λ w. waits_on call all w.key ≡ true → P (proof_in x later anchor 0 0 w)) ws → All P (proofs ws)
   each_proof P [] a = All-nil P
-  each_proof P (w ∷ ws) a = by (waits_on call all w.key) refl (each_proof P ws (All-tail (λ w. waits_on call all w.key ≡ true → P (proof_in x later anchor 0 w)) w ws a))
+  each_proof P (w ∷ ws) a = by (waits_on call all w.key) refl (each_proof P ws (All-tail (λ w. waits_on call all w.key ≡ true → P (proof_in x later anchor 0 0 w)) w ws a))
     where
-      by : (b : Bool) → waits_on call all w.key ≡ b → All P (proofs ws) → All P (cond b (proof_in x later anchor 0 w ∷ proofs ws) (proofs ws))
-      by true waits rest = All-cons P (proof_in x later anchor 0 w) (proofs ws) (All-head (λ w. waits_on call all w.key ≡ true → P (proof_in x later anchor 0 w)) w ws a waits) rest
+      by : (b : Bool) → waits_on call all w.key ≡ b → All P (proofs ws) → All P (cond b (proof_in x later anchor 0 0 w ∷ proofs ws) (proofs ws))
+      by true waits rest = All-cons P (proof_in x later anchor 0 0 w) (proofs ws) (All-head (λ w. waits_on call all w.key ≡ true → P (proof_in x later anchor 0 0 w)) w ws a waits) rest
       by false none rest = rest
 
-  every_proof : (P : Message → Type 0) → ((w : WriteInFlight) → Contains x.in_flight w → waits_on call all w.key ≡ true → P (proof_in x later anchor 0 w)) → All P (proofs x.in_flight)
-  every_proof P each = each_proof P x.in_flight (all_from_contains (λ w. waits_on call all w.key ≡ true → P (proof_in x later anchor 0 w)) x.in_flight each)
+  every_proof : (P : Message → Type 0) → ((w : WriteInFlight) → Contains x.in_flight w → waits_on call all w.key ≡ true → P (proof_in x later anchor 0 0 w)) → All P (proofs x.in_flight)
+  every_proof P each = each_proof P x.in_flight (all_from_contains (λ w. waits_on call all w.key ≡ true → P (proof_in x later anchor 0 0 w)) x.in_flight each)
 
   -- messages of two writes are of two requests
-  are_two : (a b : WriteInFlight) → Contains x.in_flight a → Contains x.in_flight b → a.seq < b.seq → AreOfTwo (proof_in x later anchor 0 a) (proof_in x later anchor 0 b)
+  are_two : (a b : WriteInFlight) → Contains x.in_flight a → Contains x.in_flight b → a.seq < b.seq → AreOfTwo (proof_in x later anchor 0 0 a) (proof_in x later anchor 0 0 b)
   are_two a b at there low = record { differ = λ same. apart a b at there (λ e. omega (arith, low, e)) same; back = λ same. apart b a there at (λ e. omega (arith, low, e)) same }
     where
-      apart : (a b : WriteInFlight) → Contains x.in_flight a → Contains x.in_flight b → (a.seq ≡ b.seq → ⊥) → IsSameRequest (proof_in x later anchor 0 a).request (proof_in x later anchor 0 b).request → ⊥
-      apart a b at there differ same = proofs_differ set k f.t x a b (proof_in x later anchor 0 a) (proof_in x later anchor 0 b) (one_proves a at) (one_proves b there) differ same
+      apart : (a b : WriteInFlight) → Contains x.in_flight a → Contains x.in_flight b → (a.seq ≡ b.seq → ⊥) → IsSameRequest (proof_in x later anchor 0 0 a).request (proof_in x later anchor 0 0 b).request → ⊥
+      apart a b at there differ same = proofs_differ set k f.t x a b (proof_in x later anchor 0 0 a) (proof_in x later anchor 0 0 b) (one_proves a at) (one_proves b there) differ same
 
   -- and put them in that order
-  put_before : (a b : WriteInFlight) → Contains x.in_flight a → Contains x.in_flight b → a.seq < b.seq → PutsEarlier (proof_in x later anchor 0 a) (proof_in x later anchor 0 b)
+  put_before : (a b : WriteInFlight) → Contains x.in_flight a → Contains x.in_flight b → a.seq < b.seq → PutsEarlier (proof_in x later anchor 0 0 a) (proof_in x later anchor 0 0 b)
   put_before a b at there low =
       let p = one_proves a at in
       let q = one_proves b there in
-      subst (λ r. IsTrue (is_lower_put r (proof_in x later anchor 0 b).request)) (sym p.said)
+      subst (λ r. IsTrue (is_lower_put r (proof_in x later anchor 0 0 b).request)) (sym p.said)
       (subst (λ r. IsTrue (is_lower_put (requests.Put p.whose a.seq p.ts a.key a.value) r)) (sym q.said) (lt-ltb a.seq b.seq low))
 
   -- so is each two of them
-  proofs_pair : (R : Message → Message → Type 0) → ((a b : WriteInFlight) → Contains x.in_flight a → Contains x.in_flight b → a.seq < b.seq → R (proof_in x later anchor 0 a) (proof_in x later anchor 0 b)) → (ws : List WriteInFlight)
+  proofs_pair : (R : Message → Message → Type 0) → ((a b : WriteInFlight) → Contains x.in_flight a → Contains x.in_flight b → a.seq < b.seq → R (proof_in x later anchor 0 0 a) (proof_in x later anchor 0 0 b)) → (ws : List WriteInFlight)
       → ((w : WriteInFlight) → Contains ws w → Contains x.in_flight w) → Pairwise IsEarlierInFlight ws → Pairwise R (proofs ws)
   proofs_pair R two [] inside p = tt
   proofs_pair R two (w ∷ ws) inside p = by (waits_on call all w.key) (proofs_pair R two ws (λ v there. inside v (later_in v there)) p.1)
@@ -123,10 +126,10 @@ module _ (set : Setting) (k : Known) (x : OpenTxn) (s : Statement) (why : Why) (
       later_in : (v : WriteInFlight) → Contains ws v → Contains (w ∷ ws) v
       later_in v there = (suc there.0, omega (arith, there.1), there.2)
 
-      by : (b : Bool) → Pairwise R (proofs ws) → Pairwise R (cond b (proof_in x later anchor 0 w ∷ proofs ws) (proofs ws))
+      by : (b : Bool) → Pairwise R (proofs ws) → Pairwise R (cond b (proof_in x later anchor 0 0 w ∷ proofs ws) (proofs ws))
       by true rest = (
-        each_proof (R (proof_in x later anchor 0 w)) ws
-            (all_from_contains (λ v. waits_on call all v.key ≡ true → R (proof_in x later anchor 0 w) (proof_in x later anchor 0 v)) ws
+        each_proof (R (proof_in x later anchor 0 0 w)) ws
+            (all_from_contains (λ v. waits_on call all v.key ≡ true → R (proof_in x later anchor 0 0 w) (proof_in x later anchor 0 0 v)) ws
             (λ v there waits. two w v (inside w (0, omega arith, refl)) (inside v (later_in v there)) (All-contains (λ v. w.seq < v.seq) ws v p.0 there))),
         rest,
       )
@@ -137,10 +140,10 @@ module _ (set : Setting) (k : Known) (x : OpenTxn) (s : Statement) (why : Why) (
   has_proof [] inside w there waits = absurd (contains_nil w there)
   has_proof (v ∷ ws) inside w there waits = by (λ l. has_proof ws (λ u there. inside u (suc there.0, omega (arith, there.1), there.2)) w l waits) (contains_cons v ws w there) (waits_on call all v.key) refl
     where
-      by : (Contains ws w → Any (IsOpenFor w) (proofs ws)) → (v ≡ w) ⊎ Contains ws w → (b : Bool) → waits_on call all v.key ≡ b → Any (IsOpenFor w) (cond b (proof_in x later anchor 0 v ∷ proofs ws) (proofs ws))
-      by rest (inl is) true e = any_head (IsOpenFor w) (proof_in x later anchor 0 v) (proofs ws) (subst (λ u. IsOpenFor u (proof_in x later anchor 0 v)) is (one_proves v (inside v (0, omega arith, refl))).sends)
+      by : (Contains ws w → Any (IsOpenFor w) (proofs ws)) → (v ≡ w) ⊎ Contains ws w → (b : Bool) → waits_on call all v.key ≡ b → Any (IsOpenFor w) (cond b (proof_in x later anchor 0 0 v ∷ proofs ws) (proofs ws))
+      by rest (inl is) true e = any_head (IsOpenFor w) (proof_in x later anchor 0 0 v) (proofs ws) (subst (λ u. IsOpenFor u (proof_in x later anchor 0 0 v)) is (one_proves v (inside v (0, omega arith, refl))).sends)
       by rest (inl is) false e = let g : false ≡ true = sym e ∙ ap (λ (w : WriteInFlight). waits_on call all w.key) is ∙ waits in absurd cc
-      by rest (inr l) true e = any_later (IsOpenFor w) (proof_in x later anchor 0 v) (proofs ws) (rest l)
+      by rest (inr l) true e = any_later (IsOpenFor w) (proof_in x later anchor 0 0 v) (proofs ws) (rest l)
       by rest (inr l) false e = rest l
 
   wave : WaveStands set.course k (proofs x.in_flight)
@@ -158,7 +161,7 @@ module _ (set : Setting) (k : Known) (x : OpenTxn) (s : Statement) (why : Why) (
       → InCall set k x (purposes.Prove call all) (proofs x.in_flight)
   prove_begins is begins whole suits many =
       begins_with k f.t x s f.open_in f.stands f.client f.opened f.split f.heard set (beats_unasked k.sent_now f.sent) (purposes.Prove call all) (proofs x.in_flight) wave (unheld (proofs x.in_flight) (every_proof (λ m. holder_met m.progress ≡ None) (λ w there waits. (one_proves w there).unmet)))
-      (unsent (proofs x.in_flight) (every_proof (λ m. IsUnsentIn k.sent_now m.request) (λ w there waits. fresh_unsent set k x s why f (proof_in x later anchor 0 w).request (ap is_heartbeat (one_proves w there).said)))) refl f.beaten suits
+      (unsent (proofs x.in_flight) (every_proof (λ m. IsUnsentIn k.sent_now m.request) (λ w there waits. fresh_unsent set k x s why f (proof_in x later anchor 0 0 w).request (ap is_heartbeat (one_proves w there).said)))) refl f.beaten suits
       (record {
         begins = begins;
         asked = is;

@@ -1,9 +1,11 @@
 -- A write in flight may be put again, where the stage of its wave was refused.
-use Rattle.std.proofs.Common.{◌≡◌, ℕ, zero, suc, ◌+◌, ◌≤◌, Bool, true, false, cond, inr, List, [], ◌∷◌, ◌++◌, find, Some, refl, sym, ap, ◌∙◌, subst, arith, All, Any, Contains, IsTrue, append_assoc}
+use Rattle.std.proofs.Common.{◌≡◌, ℕ, zero, suc, ◌+◌, ◌≤◌, Bool, true, false, ◌&&◌, cond, inr, List, [], ◌∷◌, ◌++◌, find, reverse, Some, refl, sym, ap, ◌∙◌, subst, arith, All, Any, Contains, IsTrue, append_assoc}
 use Rattle.std.proofs.lemmas.Bool.{eq-eqb, eqb-true}
 use Rattle.std.proofs.lemmas.List.Elements.{All-contains, All-head, All-push, All-tail, All-weaker}
 use Rattle.pc_call.proofs.Beating.{heard_longer}
+use Rattle.pc_call.proofs.Beside.{at_least_any}
 use Rattle.pc_call.proofs.Eighths.{at_least-weaker, same_sym, same_trans}
+use Rattle.pc_call.proofs.PutTries.{row_as}
 use Rattle.pc_call.proofs.Ready.{put_same}
 use Rattle.pc_call.specs.Outbox.{has_put}
 use Rattle.pc_call.specs.Serving.{IsOpenFor, IsPutInConflict, SendsAgain}
@@ -22,12 +24,14 @@ use Rattle.pc_txn.proofs.Puts.{same_put}
 use Rattle.pc_txn.specs.declared.txn.OpenTxn.{OpenTxn}
 use Rattle.pc_txn.specs.Opened.{meta_now, put_at}
 use Rattle.pc_wave.proofs.Lists.{at_least-fewer}
+use Rattle.pc_wave.proofs.Tries.{unheard-fewer}
 use Rattle.pc_wave.specs.Course.{Course}
 use Rattle.pc_wave.specs.declared.message.Message.{Message}
 use Rattle.pc_wave.specs.declared.message.Progress.{Progress}
 use Rattle.pc_wave.specs.declared.message.Progress.TheVariants as progresses
 use Rattle.pc_wave.specs.Messages.{has_answer, progress_has_answer}
-use Rattle.pc_wave.specs.Standing.{AreOfTwo, MessageStands, MetConflict, Pairwise, sends_counted}
+use Rattle.pc_wave.specs.Standing.{AreOfTwo, CountsTries, MessageStands, MetConflict, Pairwise, messages_for, sends_counted}
+use Rattle.pc_wave.specs.Tries.{WasLostInARow, sends_waited}
 use Rattle.pc_world.specs.Counting.{AtLeast}
 use Rattle.pc_world.specs.Known.{Known}
 use Rattle.pc_world.specs.Known.Traffic.{Heard, Sent}
@@ -115,6 +119,33 @@ module _ (k : Known) (t : Txn) (x : OpenTxn) (same_id : x.id ≡ t.id) (same_epo
       sent_it =
           at_least-weaker (λ (other : Sent). IsSameRequest m.request other.request) (λ (other : Sent). IsTrue (is_put_of t.id t.epoch f.seq other.request)) (λ other same. same_to other.request same) m.conflicts (sent_for_call k2)
           (at_least-fewer (λ (other : Sent). IsSameRequest m.request other.request) m.conflicts (sends_counted m.conflicts m.progress) (sent_for_call k2) (conflicts_sent m.progress p.unanswered) stands.sent)
+
+      -- and as often in a row it was lost
+      unlost_by : (b : Bool) → b ≡ false → CountsTries b c k2 m → m.lost ≡ 0
+      unlost_by false is none = none
+      unlost_by true is tries = absurd cc
+
+      pub unlost_it : c.loses ≡ false → m.lost ≡ 0
+      unlost_it quiet = unlost_by c.loses quiet stands.tries
+
+      tried_by : (b : Bool) → b ≡ true → CountsTries b c k2 m → (r : Request) → IsTrue (is_put_of t.id t.epoch f.seq r) → WasLostInARow k2 r m.lost
+      tried_by false is none r put = absurd cc
+      tried_by true is tries r put =
+          row_as k2 m.request r (λ other same. same_trans r m.request other (same_sym m.request r (to_same r put)) same) (λ other same. same_trans m.request r other (to_same r put) same) m.lost (reverse k2.sent)
+          (unheard-fewer k2 m.request m.lost (m.lost + sends_waited m.progress) (reverse k2.sent) (omega arith) tries.tried)
+
+      pub tried_it : c.loses ≡ true → (r : Request) → IsTrue (is_put_of t.id t.epoch f.seq r) → WasLostInARow k2 r m.lost
+      tried_it loses r put = tried_by c.loses loses stands.tries r put
+
+      lately_by : (b : Bool) → CountsTries b c k2 m → c.pipelines ≡ true → 1 ≤ m.lost → AtLeast (λ (other : Sent). IsTrue (is_put_of t.id t.epoch f.seq other.request)) 1 (sent_for_call k2)
+      lately_by false none piped some = absurd (omega (arith, none, some))
+      lately_by true tries piped some =
+          at_least-weaker (λ (other : Sent). IsSameRequest m.request other.request) (λ (other : Sent). IsTrue (is_put_of t.id t.epoch f.seq other.request)) (λ other same. same_to other.request same) 1 (sent_for_call k2)
+          (at_least_any (λ (other : Sent). IsSameRequest m.request other.request) (sent_for_call k2)
+          (subst (λ own. Any (λ (other : Sent). IsSameRequest m.request other.request) (messages_for own k2)) (ap (λ b. b && c.pipelines) (ap is_put p.again.said) ∙ piped) (tries.here some)))
+
+      pub lately_it : c.pipelines ≡ true → 1 ≤ m.lost → AtLeast (λ (other : Sent). IsTrue (is_put_of t.id t.epoch f.seq other.request)) 1 (sent_for_call k2)
+      lately_it piped some = lately_by c.loses stands.tries piped some
 
     -- ---- where it met an intent, and then a stage was refused
 

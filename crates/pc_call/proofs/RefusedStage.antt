@@ -16,7 +16,8 @@ use Rattle.pc_call.proofs.Hearing.{beaten_on, done_by, fewer_by, found, more, op
 use Rattle.pc_call.proofs.Kept.{late_passed}
 use Rattle.pc_call.proofs.Lists.{all_front}
 use Rattle.pc_call.proofs.PutAgain as PutAgain
-use Rattle.pc_call.proofs.PutAgain.{answered_it, counts_it, first_put, passed_it}
+use Rattle.pc_call.proofs.PutAgain.{answered_it, counts_it, first_put, lately_it, passed_it, tried_it, unlost_it}
+use Rattle.pc_call.proofs.QueryReady.{pipelined_by}
 use Rattle.pc_call.proofs.Refused.{used_up}
 use Rattle.pc_call.proofs.Silent.{IsBeatPurpose}
 use Rattle.pc_call.proofs.Settled.{settled_passed}
@@ -36,7 +37,7 @@ use Rattle.pc_call.specs.GivingUp.{IsWhy}
 use Rattle.pc_call.specs.Learned.{known_heard}
 use Rattle.pc_call.specs.Outbox.{has_put}
 use Rattle.pc_call.specs.Paced.{IsPaced}
-use Rattle.pc_call.specs.Serving.{GoesOutBefore, InCall, IsOpenFor, IsOpenIn, IsRefreshUpTo, MayBePutAgain, NoneMetEighth, SendsAgain, ServesStage, StageIsOut, WaitsMeanwhile, conflicts_before, holder_met}
+use Rattle.pc_call.specs.Serving.{GoesOutBefore, InCall, IsOpenFor, IsOpenIn, IsRefreshUpTo, MayBePutAgain, NoneMetEighth, SendsAgain, ServesStage, StageIsOut, WaitsMeanwhile, conflicts_before, holder_met, losses_before}
 use Rattle.pc_call.specs.Setting.{Setting}
 use Rattle.pc_call.specs.Stages.{CommitsOnFrom, IsFirstOut, IsUndecidedAt, eighth_holder, holder_of, is_at_eighth}
 use Rattle.pc_flight.specs.declared.write.WriteInFlight.{WriteInFlight}
@@ -68,6 +69,7 @@ use Rattle.pc_txn.specs.Counted.{IsCounted}
 use Rattle.pc_txn.specs.declared.txn.OpenTxn.{OpenTxn}
 use Rattle.pc_txn.specs.Opened.{meta_now, put_at}
 use Rattle.pc_txn.specs.Staged.{stage_told_at}
+use Rattle.pc_call.specs.Suiting.{SuitsFlightIn}
 use Rattle.pc_wave.proofs.Hearing.{came_request}
 use Rattle.pc_wave.specs.declared.message.Message.{Message}
 use Rattle.pc_wave.specs.declared.message.Progress.{Progress}
@@ -386,17 +388,21 @@ module _ (session clock count : ℕ) (set : Setting) (k : Known) (x : OpenTxn) (
           by (progresses.Met its conflict) at far = (its, conflict, far)
           by (progresses.Answered its reply) at far = let came : has_answer m ≡ true = ap progress_has_answer at in absurd cc
 
-      counted_one : (f : WriteInFlight) → Contains x.in_flight f → MayBePutAgain set.course.loses k2 t2 f.seq (conflicts_before f.seq ms2)
+      counted_one : (f : WriteInFlight) → Contains x.in_flight f → MayBePutAgain set.course.loses k2 t2 f.seq (conflicts_before f.seq ms2) (losses_before f.seq ms2)
       counted_one f there =
           let one = first_put k w.t x same_id same_epoch f serves.wave.puts (back_with number reply m0 ∷ []) serves.wave.again wave_two (All-contains (λ f. Any (IsOpenFor f) serves.wave.puts) x.in_flight f serves.wave.each there) in
           let m = one.0 in
           let conflicts_are : conflicts_before f.seq ms2 ≡ m.conflicts =
           ap (λ ms. option_map_or (λ (m : Message). m.conflicts) (find (λ (m : Message). has_put f.seq m.request) ms) 0) (ms2_is session clock count set k x p ms counted w number view h waited is n e recorded undecided)
           ∙ ap (λ o. option_map_or (λ (m : Message). m.conflicts) o 0) one.3 in
+          let losses_are : losses_before f.seq ms2 ≡ m.lost =
+          ap (λ ms. option_map_or (λ (m : Message). m.lost) (find (λ (m : Message). has_put f.seq m.request) ms) 0) (ms2_is session clock count set k x p ms counted w number view h waited is n e recorded undecided)
+          ∙ ap (λ o. option_map_or (λ (m : Message). m.lost) o 0) one.3 in
+          let piped : set.course.pipelines ≡ true = pipelined_by set.course.pipelines x.in_flight f (subst (λ call. SuitsFlightIn set.course.pipelines call x.in_flight) serves.commits.call w.plain) there in
           let stands2 : MessageStands set.course k2 m = in_puts (MessageStands set.course k2) m one.1 (subst (λ ms. All (MessageStands set.course k2) ms) (ms2_is session clock count set k x p ms counted w number view h waited is n e recorded undecided) (wave2 session clock count set k x p ms counted w number reply h waited is).stand) in
           let stands : MessageStands set.course k m = in_front (MessageStands set.course k) m one.1 (subst (λ ms. All (MessageStands set.course k) ms) serves.wave.whole k_stand) in
-          subst (MayBePutAgain set.course.loses k2 t2 f.seq) (sym conflicts_are)
-          (record {
+          subst (MayBePutAgain set.course.loses k2 t2 f.seq (conflicts_before f.seq ms2)) (sym losses_are)
+          (subst (λ i. MayBePutAgain set.course.loses k2 t2 f.seq i m.lost) (sym conflicts_are) (record {
             before = subst (λ seq. list_any (λ other. is_put_of w.t.id w.t.epoch seq other.request) (sent_before k) ≡ true) one.2.sequence one.2.again.before;
             counts = counts_it k w.t x same_id same_epoch f m one.2 set.course k2 stands2;
             sent = PutAgain.sent_it k w.t x same_id same_epoch f m one.2 set.course k2 stands2;
@@ -408,7 +414,10 @@ module _ (session clock count : ℕ) (set : Setting) (k : Known) (x : OpenTxn) (
             answered = λ quiet.
                 let met = met_of m one.1 one.2.unanswered quiet stands in
                 answered_it k w.t x same_id same_epoch f m one.2 set.course h met.0 met.1 met.2 no_put refuses_it (subst (λ b. AreAnsweredIn b k m.request) quiet met.2.answered) k2.heard_now refl;
-          })
+            unlost = unlost_it k w.t x same_id same_epoch f m one.2 set.course k2 stands2;
+            tried = tried_it k w.t x same_id same_epoch f m one.2 set.course k2 stands2;
+            lately = lately_it k w.t x same_id same_epoch f m one.2 set.course k2 stands2 piped;
+          }))
         where
           no_put : is_put h.request ≡ false
           no_put = ap is_put asked
@@ -419,8 +428,8 @@ module _ (session clock count : ℕ) (set : Setting) (k : Known) (x : OpenTxn) (
           in_puts : (P : Message → Type 0) (m : Message) → Contains serves.wave.puts m → All P (serves.wave.puts ++ back_with number reply m0 ∷ []) → P m
           in_puts P m there all = All-contains P (serves.wave.puts ++ back_with number reply m0 ∷ []) m all (Contains-append_left serves.wave.puts (back_with number reply m0 ∷ []) m there)
 
-      pub counted_then : All (λ f. MayBePutAgain set.course.loses k2 t2 f.seq (conflicts_before f.seq ms2)) x.in_flight
-      counted_then = all_from_contains (λ f. MayBePutAgain set.course.loses k2 t2 f.seq (conflicts_before f.seq ms2)) x.in_flight counted_one
+      pub counted_then : All (λ f. MayBePutAgain set.course.loses k2 t2 f.seq (conflicts_before f.seq ms2) (losses_before f.seq ms2)) x.in_flight
+      counted_then = all_from_contains (λ f. MayBePutAgain set.course.loses k2 t2 f.seq (conflicts_before f.seq ms2) (losses_before f.seq ms2)) x.in_flight counted_one
 
       -- so the commit goes on from where it reads, unless it was moved as often as it may be, or a write of it met its eighth intent
       pub goes_on_then : (WasMovedEighth k2 → ⊥) → eighth_holder ms2 ≡ None → (t : Txn) × (s : Statement) × CommitsOnFrom set.course.loses t.read_ts n2 k2 t x2 s ms2

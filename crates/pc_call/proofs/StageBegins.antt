@@ -20,14 +20,14 @@ use Rattle.pc_call.specs.declared.purpose.Purpose.TheVariants as purposes
 use Rattle.pc_call.specs.Met.{AreMetBy}
 use Rattle.pc_call.specs.Outbox.{MayWait, proof_in, waiting_put}
 use Rattle.pc_call.specs.Paced.{IsPaced}
-use Rattle.pc_call.specs.Serving.{GoesOutBefore, InCall, IsOpenFor, PutsEarlier, IsPutInConflict, MayBePutAgain, MeetsByPut, SendsAgain, ServesStage, WaitsMeanwhile, conflicts_before, holder_met, holders_met, IsFirstUnmet}
+use Rattle.pc_call.specs.Serving.{GoesOutBefore, InCall, IsOpenFor, PutsEarlier, IsPutInConflict, MayBePutAgain, MeetsByPut, SendsAgain, ServesStage, WaitsMeanwhile, conflicts_before, losses_before, holder_met, holders_met, IsFirstUnmet}
 use Rattle.pc_call.specs.Setting.{Setting}
 use Rattle.pc_call.specs.Stages.{DecidesNow, HasOutbox, put_messages}
 use Rattle.pc_call.specs.Suiting.{SuitsFlightIn}
 use Rattle.pc_flight.specs.declared.write.WriteInFlight.{WriteInFlight}
 use Rattle.pc_follows.specs.AgainInOneWave.{sent_for_call}
 use Rattle.pc_follows.specs.RoundOrder.{is_lower_put}
-use Rattle.pc_lists.proofs.Anywhere.{any_head, any_kept, any_later, any_of}
+use Rattle.pc_lists.proofs.Anywhere.{any_head, any_kept, any_later, any_of, any_weaker}
 use Rattle.pc_lists.proofs.Lists.{all_from_contains, contains_cons, contains_nil}
 use Rattle.pc_proto.specs.declared.call.Call.TheVariants as calls
 use Rattle.pc_proto.specs.declared.request.Request.{Request}
@@ -46,8 +46,9 @@ use Rattle.pc_txn.specs.Standing.{TxnStands}
 use Rattle.pc_wave.proofs.Changed.{any_none}
 use Rattle.pc_wave.proofs.Lists.{at_least-before, at_least-fewer}
 use Rattle.pc_wave.specs.declared.message.Message.{Message}
-use Rattle.pc_wave.specs.Messages.{is_in_conflict, message_to_send}
-use Rattle.pc_wave.specs.Standing.{AreAnsweredIn, AreCounted, AreOfTwo, IsReason, MessageStands, Pairwise, WaveStands, messages_of, WentOutBefore}
+use Rattle.pc_wave.specs.Messages.{is_in_conflict, message_again, message_to_send}
+use Rattle.pc_wave.specs.Standing.{AreAnsweredIn, AreCounted, AreOfTwo, CountsTries, IsReason, MayGoOut, MessageStands, Pairwise, WaveStands, messages_for, messages_of, WentOutBefore}
+use Rattle.pc_wave.specs.Tries.{WasLostInARow}
 use Rattle.pc_world.specs.Counting.{AtLeast}
 use Rattle.pc_world.specs.Known.{Known}
 use Rattle.pc_world.specs.Known.Statements.{Statement}
@@ -77,6 +78,12 @@ none_waits (m ∷ ms) a = (All-head (λ m. is_in_conflict m ≡ false) m ms a, n
 -- a put is no stage
 put_is_no_stage : (r q : Request) → is_put r ≡ true → is_put q ≡ false → IsSameRequest q r → ⊥
 put_is_no_stage r q put none same = same_put_only q r none put same
+
+-- where at least one is so, some are
+any_at_least : {X : Type 0} (P : X → Type 0) (xs : List X) → AtLeast P 1 xs → Any P xs
+any_at_least P [] one = absurd one
+any_at_least P (x ∷ xs) (inl (is, rest)) = any_head P x xs is
+any_at_least P (x ∷ xs) (inr later) = any_later P x xs (any_at_least P xs later)
 
 from_or : (b : Bool) → (b || false) ≡ true → b ≡ true
 from_or true e = refl
@@ -113,11 +120,14 @@ module _ (set : Setting) (n : ℕ) (k : Known) (x : OpenTxn) (s : Statement) (pu
     abbrev many : ℕ
     many = conflicts_before w.seq puts
 
+    abbrev lost : ℕ
+    lost = losses_before w.seq puts
+
     abbrev put : Request
     put = own_put x anchor w
 
-    again : MayBePutAgain set.course.loses k t w.seq many
-    again = All-contains (λ (w : WriteInFlight). MayBePutAgain set.course.loses k t w.seq (conflicts_before w.seq puts)) x.in_flight w d.on.counted there
+    again : MayBePutAgain set.course.loses k t w.seq many lost
+    again = All-contains (λ (w : WriteInFlight). MayBePutAgain set.course.loses k t w.seq (conflicts_before w.seq puts) (losses_before w.seq puts)) x.in_flight w d.on.counted there
 
     own : (q : Request) → is_put_of x.id x.epoch w.seq q ≡ is_put_of t.id t.epoch w.seq q
     own q = ap (λ id. is_put_of id x.epoch w.seq q) id ∙ ap (λ epoch. is_put_of t.id epoch w.seq q) epoch
@@ -155,14 +165,14 @@ module _ (set : Setting) (n : ℕ) (k : Known) (x : OpenTxn) (s : Statement) (pu
         All-weaker (λ (m : Sent). IsTrue (is_put_of t.id t.epoch w.seq m.request) → IsTrue (is_heard k.heard_now m)) (λ (m : Sent). IsSameRequest put m.request → IsTrue (is_heard k.heard_now m))
         (λ m was same. was (same_to m.request same)) k.sent_now (again.answered quiet)
 
+    own_put_of : IsTrue (is_put_of t.id t.epoch w.seq put)
+    own_put_of = sym (own put) ∙ puts-own (meta_now x anchor) w.seq x.write_ts w.key w.value
+
     -- none of it was sent or heard in the call, or a stage that was refused passed over it, or left it behind
     module _ (none : waiting_put w.seq later ≡ None) where
       reason : (l : Bool) → set.course.loses ≡ l → WentOutBefore set.course k put → IsReason true l k put
       reason l at sent_some = by (list_any (λ m. is_put_of t.id t.epoch w.seq m.request) k.sent_now) refl (list_any (λ h. is_put_of t.id t.epoch w.seq h.request) k.heard_now) refl
         where
-          own_put_of : IsTrue (is_put_of t.id t.epoch w.seq put)
-          own_put_of = sym (own put) ∙ puts-own (meta_now x anchor) w.seq x.write_ts w.key w.value
-
           refused : (l : Bool) → set.course.loses ≡ l → Any (λ m. IsTrue (is_put_of t.id t.epoch w.seq m.request)) k.sent_now ⊎ Any (λ h. IsTrue (is_put_of t.id t.epoch w.seq h.request)) k.heard_now → IsReason true l k put
           refused false quiet some_now = inr (refl, again.passed quiet some_now put own_put_of)
           refused true loses some_now = inr (inr (refl, again.left loses some_now))
@@ -182,25 +192,42 @@ module _ (set : Setting) (n : ℕ) (k : Known) (x : OpenTxn) (s : Statement) (pu
               never new (inl sent) = let f = any_of (λ m. IsSameRequest put m.request → ⊥) (λ m. IsSameRequest put m.request) (messages_of (not set.course.loses && set.course.pipelines) k put) new.unheard sent in f.1 f.2
               never new (inr some) = let f = any_of (λ h. IsSameRequest put h.request → ⊥) (λ h. IsSameRequest put h.request) k.heard_now (new.untold some.0) some.1 in f.1 f.2
 
-      goes_again : GoesAgain set k put many
+      goes : MayGoOut set.course k put
+      goes = record {
+        answered = answered set.course.loses refl;
+        again = λ quiet sent_some. subst (λ b. IsReason b set.course.loses k put) (sym piped) (reason set.course.loses refl sent_some);
+      }
+
+      -- its tries go on counting
+      tries : (l : Bool) → set.course.loses ≡ l → CountsTries l set.course k (message_again put many lost)
+      tries false quiet = again.unlost quiet
+      tries true loses = record {
+        tried = let more : lost ≡ lost + 0 = omega arith in subst (λ n. WasLostInARow k put n) more (again.tried loses put own_put_of);
+        came = λ unsent out. absurd cc;
+        first = λ ready none. goes;
+        here = λ some.
+            subst (λ b. Any (λ (m : Sent). IsSameRequest put m.request) (messages_for b k)) (sym piped)
+            (any_weaker (λ (m : Sent). IsTrue (is_put_of t.id t.epoch w.seq m.request)) (λ (m : Sent). IsSameRequest put m.request) (λ m is. to_same m.request is) (sent_for_call k)
+            (any_at_least (λ (m : Sent). IsTrue (is_put_of t.id t.epoch w.seq m.request)) (sent_for_call k) (again.lately some)));
+      }
+
+      goes_again : GoesAgain set k put many lost
       goes_again = record {
-        goes = record {
-          answered = answered set.course.loses refl;
-          again = λ quiet sent_some. subst (λ b. IsReason b set.course.loses k put) (sym piped) (reason set.course.loses refl sent_some);
-        };
+        goes = goes;
         counted = counted;
         sent = at_least-weaker (λ (m : Sent). IsTrue (is_put_of t.id t.epoch w.seq m.request)) (λ (m : Sent). IsSameRequest put m.request) (λ m is. to_same m.request is) many (sent_for_call k) again.sent;
         few = few;
+        tries = tries set.course.loses refl;
       }
 
-    pub proves : Proves set k t x w (proof_in x later anchor many w)
-    proves = proof_proves set k t x c.stages c.open_in st c.split later o may anchor anchored w there again.before many goes_again
+    pub proves : Proves set k t x w (proof_in x later anchor many lost w)
+    proves = proof_proves set k t x c.stages c.open_in st c.split later o may anchor anchored w there again.before many lost goes_again
 
   -- ---- the puts
 
   -- The message that proves the write.
   abbrev message : WriteInFlight → Message
-  message w = proof_in x later anchor (conflicts_before w.seq puts) w
+  message w = proof_in x later anchor (conflicts_before w.seq puts) (losses_before w.seq puts) w
 
   abbrev ms : List Message
   ms = put_messages x later anchor puts x.in_flight

@@ -20,6 +20,7 @@ use Rattle.pc_call.proofs.Full.{full_stays, resent_writes, full_back, full_from}
 use Rattle.pc_call.proofs.Holders.{holders_sent}
 use Rattle.pc_call.proofs.Kept.{kept_on, late_passed, none_kept}
 use Rattle.pc_call.proofs.Intents.{put_again_on}
+use Rattle.pc_call.proofs.PutTries.{row_sent}
 use Rattle.pc_call.proofs.Lists.{all_behind, all_changed, all_front, all_unmapped, kept_by, only_found}
 use Rattle.pc_call.proofs.Meeting.{any_changed, any_goes_on, gone_now, gone_out_on, low-more, met-more}
 use Rattle.pc_call.proofs.Silent.{AreSilent, IsSilent, silent}
@@ -33,7 +34,7 @@ use Rattle.pc_call.specs.declared.purpose.Purpose.TheVariants as purposes
 use Rattle.pc_call.specs.Learned.{known_sent}
 use Rattle.pc_call.specs.Opening.{after_send, laid_first, laid_with}
 use Rattle.pc_call.specs.Paced.{IsPaced}
-use Rattle.pc_call.specs.Serving.{AreReadsOf, HasBeatenBy, HasGoneOut, InCall, IsCommitCall, IsMetUpTo, IsOpenFor, IsOpenIn, IsReadFor, IsRefreshGoneOut, IsRefreshUpTo, IsSplit, KeepsStages, LaysLast, LaysNext, MayBePutAgain, MetNoOtherWrite, NoOtherMetEighth, ReadsNothing, SendsAgain, Serves, ServesAbort, ServesBeat, ServesCommit, ServesProve, ServesRead, ServesRefresh, ServesWrite, WaitsMeanwhile, WasRefusedIfCommit, commit_asked, conflicts_before, holders_met, is_unsent, out_of, write_call}
+use Rattle.pc_call.specs.Serving.{AreReadsOf, HasBeatenBy, HasGoneOut, InCall, IsCommitCall, IsMetUpTo, IsOpenFor, IsOpenIn, IsReadFor, IsRefreshGoneOut, IsRefreshUpTo, IsSplit, KeepsStages, LaysLast, LaysNext, MayBePutAgain, MetNoOtherWrite, NoOtherMetEighth, ReadsNothing, SendsAgain, Serves, ServesAbort, ServesBeat, ServesCommit, ServesProve, ServesRead, ServesRefresh, ServesWrite, WaitsMeanwhile, WasRefusedIfCommit, commit_asked, conflicts_before, losses_before, holders_met, is_unsent, out_of, write_call}
 use Rattle.pc_call.specs.Suiting.{SuitsFlightIn}
 use Rattle.pc_call.specs.Waiting.{waits_on}
 use Rattle.pc_follows.specs.Heartbeats.{is_heartbeat}
@@ -314,8 +315,9 @@ module _ (session clock count : ℕ) (set : Setting) (k : Known) (x : OpenTxn) (
         none_eighth = r.none_eighth;
         settled = settled_sent k w.t w.open_in number range request (omega (arith, next)) numbered_now r.settled;
         counted =
-            All-weaker (λ f. MayBePutAgain set.course.loses k w.t f.seq (conflicts_before f.seq puts)) (λ f. MayBePutAgain set.course.loses k2 w.t f.seq (conflicts_before f.seq puts))
-            (λ f c. put_again_on k k2 (m2 ∷ []) [] more set.course.loses w.t f.seq (conflicts_before f.seq puts) (All-cons (λ m. is_put m.request ≡ false) m2 [] (of_request (λ q. is_put q ≡ false) no_put_of) (All-nil (λ m. is_put m.request ≡ false))) (All-nil (λ h. is_put h.request ≡ false)) c) x.in_flight r.counted;
+            All-weaker (λ f. MayBePutAgain set.course.loses k w.t f.seq (conflicts_before f.seq puts) (losses_before f.seq puts)) (λ f. MayBePutAgain set.course.loses k2 w.t f.seq (conflicts_before f.seq puts) (losses_before f.seq puts))
+            (λ f c. put_again_on k k2 (m2 ∷ []) [] more set.course.loses w.t f.seq (conflicts_before f.seq puts) (losses_before f.seq puts) (All-cons (λ m. is_put m.request ≡ false) m2 [] (of_request (λ q. is_put q ≡ false) no_put_of) (All-nil (λ m. is_put m.request ≡ false))) (All-nil (λ h. is_put h.request ≡ false))
+            (λ r put. row_sent w.t.id w.t.epoch f.seq r put (losses_before f.seq puts) k k2 m2 more (of_request (λ q. is_put q ≡ false) no_put_of)) c) x.in_flight r.counted;
       }
 
   abort_serves : (why : Why) → ServesAbort why k w.s w.t x ms → is_to_send first_one.0 ≡ true → ServesAbort why k2 w.s w.t x ms2

@@ -14,7 +14,7 @@ use Rattle.pc_call.specs.declared.purpose.Purpose.TheVariants as purposes
 use Rattle.pc_call.specs.Outbox.{TakesFrom, TakesSome, has_waited, is_later_of, proof_by, proof_in, proofs_in, waiting_put, without_put, without_puts}
 use Rattle.pc_call.specs.Stages.{CommitsBy, is_to_commit, put_messages}
 use Rattle.pc_call.specs.Queries.{query_by, query_of_blocked, query_of_put}
-use Rattle.pc_call.specs.Serving.{conflicts_before}
+use Rattle.pc_call.specs.Serving.{conflicts_before, losses_before}
 use Rattle.pc_call.specs.Waiting.{waits_on}
 use Rattle.pc_flight.specs.declared.write.WriteInFlight.{WriteInFlight}
 use Rattle.pc_proto.specs.declared.call.Call.{Call}
@@ -85,10 +85,10 @@ pub takes_none : (later : List LaterPut) (ms : List Message) → All (λ m. is_t
 takes_none later ms unsent = record { left = λ number e. e; joined = λ number e. none_waits number ms unsent e }
 
 module _ (x : OpenTxn) (later : List LaterPut) (anchor : List ℕ) (n : ℕ) where
-  proof_waited : (conflicts : ℕ) (w : WriteInFlight) → awaits_at n (proof_in x later anchor conflicts w) ≡ true → has_waited n later ≡ true
-  proof_waited conflicts w e = by (waiting_put w.seq later) refl e
+  proof_waited : (conflicts lost : ℕ) (w : WriteInFlight) → awaits_at n (proof_in x later anchor conflicts lost w) ≡ true → has_waited n later ≡ true
+  proof_waited conflicts lost w e = by (waiting_put w.seq later) refl e
     where
-      by : (o : Option LaterPut) → waiting_put w.seq later ≡ o → awaits_at n (proof_by o (own_put x anchor w) conflicts) ≡ true → has_waited n later ≡ true
+      by : (o : Option LaterPut) → waiting_put w.seq later ≡ o → awaits_at n (proof_by o (own_put x anchor w) conflicts lost) ≡ true → has_waited n later ≡ true
       by (Some put) is e = subst (λ n. has_waited n later ≡ true) (eqb-true put.number n e) (found_waited w.seq put later is)
       by None is e = absurd cc
 
@@ -97,15 +97,15 @@ module _ (x : OpenTxn) (later : List LaterPut) (anchor : List ℕ) (n : ℕ) whe
   proofs_waited call all (w ∷ ws) e = by (proofs_waited call all ws) (waits_on call all w.key) e
     where
       by : (wave_awaits n (proofs_in call all x later anchor ws) ≡ true → has_waited n later ≡ true) → (b : Bool)
-          → wave_awaits n (cond b (proof_in x later anchor 0 w ∷ proofs_in call all x later anchor ws) (proofs_in call all x later anchor ws)) ≡ true → has_waited n later ≡ true
-      by rest true e = or_either (awaits_at n (proof_in x later anchor 0 w)) (wave_awaits n (proofs_in call all x later anchor ws)) (has_waited n later) (proof_waited 0 w) rest e
+          → wave_awaits n (cond b (proof_in x later anchor 0 0 w ∷ proofs_in call all x later anchor ws) (proofs_in call all x later anchor ws)) ≡ true → has_waited n later ≡ true
+      by rest true e = or_either (awaits_at n (proof_in x later anchor 0 0 w)) (wave_awaits n (proofs_in call all x later anchor ws)) (has_waited n later) (proof_waited 0 0 w) rest e
       by rest false e = rest e
 
   puts_waited : (puts : List Message) (ws : List WriteInFlight) (m : Message) → is_to_send m ≡ true → wave_awaits n (put_messages x later anchor puts ws ++ m ∷ []) ≡ true → has_waited n later ≡ true
   puts_waited puts [] m unsent e = let none = unsent_waits n m.progress unsent in let f : false ≡ true = sym (ap (λ b. b || false) none) ∙ e in absurd cc
   puts_waited puts (w ∷ ws) m unsent e =
-      let proof = proof_in x later anchor (conflicts_before w.seq puts) w in
-      or_either (awaits_at n proof) (wave_awaits n (put_messages x later anchor puts ws ++ m ∷ [])) (has_waited n later) (proof_waited (conflicts_before w.seq puts) w) (puts_waited puts ws m unsent) e
+      let proof = proof_in x later anchor (conflicts_before w.seq puts) (losses_before w.seq puts) w in
+      or_either (awaits_at n proof) (wave_awaits n (put_messages x later anchor puts ws ++ m ∷ [])) (has_waited n later) (proof_waited (conflicts_before w.seq puts) (losses_before w.seq puts) w) (puts_waited puts ws m unsent) e
 
 -- a call that proves
 pub takes_proofs : (call : Call) (all : Bool) (x : OpenTxn) (later : List LaterPut) (anchor : List ℕ) → TakesFrom later (without_puts (filter (λ w. waits_on call all w.key) x.in_flight) later) (proofs_in call all x later anchor x.in_flight)
@@ -120,7 +120,7 @@ proofs_some x later anchor call all [] some none = cc
 proofs_some x later anchor call all (w ∷ ws) some none = by (proofs_some x later anchor call all ws) (waits_on call all w.key) some none
   where
     by : (list_any (λ w. waits_on call all w.key) ws ≡ true → proofs_in call all x later anchor ws ≡ [] → ⊥) → (b : Bool) → (b || list_any (λ w. waits_on call all w.key) ws) ≡ true
-        → cond b (proof_in x later anchor 0 w ∷ proofs_in call all x later anchor ws) (proofs_in call all x later anchor ws) ≡ [] → ⊥
+        → cond b (proof_in x later anchor 0 0 w ∷ proofs_in call all x later anchor ws) (proofs_in call all x later anchor ws) ≡ [] → ⊥
     by rest true some none = cc
     by rest false some none = rest some none
 

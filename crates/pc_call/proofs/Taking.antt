@@ -5,7 +5,7 @@ use Rattle.std.proofs.lemmas.List.Elements.{All-cons, All-contains, All-head, Al
 use Rattle.pc_call.proofs.Outboxes.{proofs-append, put_messages-append, waits_still, without_puts-append}
 use Rattle.pc_call.specs.declared.later.LaterPut.{LaterPut}
 use Rattle.pc_call.specs.Outbox.{proof_by, proof_in, proofs_in, without_put, without_puts}
-use Rattle.pc_call.specs.Serving.{conflicts_before}
+use Rattle.pc_call.specs.Serving.{conflicts_before, losses_before}
 use Rattle.pc_call.specs.Stages.{put_messages}
 use Rattle.pc_call.specs.Waiting.{waits_on}
 use Rattle.pc_flight.specs.declared.write.WriteInFlight.{WriteInFlight}
@@ -52,20 +52,20 @@ module _ (x : OpenTxn) (later : List LaterPut) (anchor : List ℕ) (ws : List Wr
   apart = All-weaker (λ (v : WriteInFlight). v.seq < w.seq) (λ v. v.seq ≡ w.seq → ⊥) (λ v lower same. omega (arith, lower, same)) (take n ws) (earlier ws n w pairs low is)
 
   -- its message is the same where the puts of those before it were taken
-  proof_still : (taken : List WriteInFlight) → All (λ v. v.seq ≡ w.seq → ⊥) taken → (conflicts : ℕ) → proof_in x (without_puts taken later) anchor conflicts w ≡ proof_in x later anchor conflicts w
-  proof_still taken differ conflicts = ap (λ o. proof_by o (own_put x anchor w) conflicts) (waits_still w.seq taken later differ)
+  proof_still : (taken : List WriteInFlight) → All (λ v. v.seq ≡ w.seq → ⊥) taken → (conflicts lost : ℕ) → proof_in x (without_puts taken later) anchor conflicts lost w ≡ proof_in x later anchor conflicts lost w
+  proof_still taken differ conflicts lost = ap (λ o. proof_by o (own_put x anchor w) conflicts lost) (waits_still w.seq taken later differ)
 
   module _ (call : Call) (all : Bool) where
     abbrev waited : WriteInFlight → Bool
     waited w = waits_on call all w.key
 
     -- one more that is waited for
-    proof_made : waited w ≡ true → (ms : List Message) → ms ≡ proofs_in call all x later anchor (take n ws) → ms ++ proof_in x (without_puts (filter waited (take n ws)) later) anchor 0 w ∷ [] ≡ proofs_in call all x later anchor (take (n + 1) ws)
+    proof_made : waited w ≡ true → (ms : List Message) → ms ≡ proofs_in call all x later anchor (take n ws) → ms ++ proof_in x (without_puts (filter waited (take n ws)) later) anchor 0 0 w ∷ [] ≡ proofs_in call all x later anchor (take (n + 1) ws)
     proof_made waits ms so_far =
-        let one : proof_in x (without_puts (filter waited (take n ws)) later) anchor 0 w ≡ proof_in x later anchor 0 w =
-        proof_still (filter waited (take n ws)) (filtered (λ (v : WriteInFlight). v.seq ≡ w.seq → ⊥) waited (take n ws) apart) 0 in
-        let mine : proofs_in call all x later anchor (w ∷ []) ≡ proof_in x later anchor 0 w ∷ [] = ap (λ b. cond b (proof_in x later anchor 0 w ∷ []) []) waits in
-        ap (λ m. ms ++ m ∷ []) one ∙ ap (λ ms. ms ++ proof_in x later anchor 0 w ∷ []) so_far ∙ ap (λ ms. proofs_in call all x later anchor (take n ws) ++ ms) (sym mine)
+        let one : proof_in x (without_puts (filter waited (take n ws)) later) anchor 0 0 w ≡ proof_in x later anchor 0 0 w =
+        proof_still (filter waited (take n ws)) (filtered (λ (v : WriteInFlight). v.seq ≡ w.seq → ⊥) waited (take n ws) apart) 0 0 in
+        let mine : proofs_in call all x later anchor (w ∷ []) ≡ proof_in x later anchor 0 0 w ∷ [] = ap (λ b. cond b (proof_in x later anchor 0 0 w ∷ []) []) waits in
+        ap (λ m. ms ++ m ∷ []) one ∙ ap (λ ms. ms ++ proof_in x later anchor 0 0 w ∷ []) so_far ∙ ap (λ ms. proofs_in call all x later anchor (take n ws) ++ ms) (sym mine)
         ∙ sym (proofs-append call all x later anchor (take n ws) (w ∷ [])) ∙ ap (proofs_in call all x later anchor) (sym more)
 
     put_taken : waited w ≡ true → (left : List LaterPut) → left ≡ without_puts (filter waited (take n ws)) later → without_put w.seq left ≡ without_puts (filter waited (take (n + 1) ws)) later
@@ -77,7 +77,7 @@ module _ (x : OpenTxn) (later : List LaterPut) (anchor : List ℕ) (ws : List Wr
     -- one that is not
     proof_unmade : waited w ≡ false → (ms : List Message) → ms ≡ proofs_in call all x later anchor (take n ws) → ms ≡ proofs_in call all x later anchor (take (n + 1) ws)
     proof_unmade none ms so_far =
-        let mine : proofs_in call all x later anchor (w ∷ []) ≡ [] = ap (λ b. cond b (proof_in x later anchor 0 w ∷ []) []) none in
+        let mine : proofs_in call all x later anchor (w ∷ []) ≡ [] = ap (λ b. cond b (proof_in x later anchor 0 0 w ∷ []) []) none in
         so_far ∙ sym (append-nil (proofs_in call all x later anchor (take n ws))) ∙ ap (λ ms. proofs_in call all x later anchor (take n ws) ++ ms) (sym mine)
         ∙ sym (proofs-append call all x later anchor (take n ws) (w ∷ [])) ∙ ap (proofs_in call all x later anchor) (sym more)
 
@@ -92,8 +92,8 @@ module _ (x : OpenTxn) (later : List LaterPut) (anchor : List ℕ) (ws : List Wr
         → ms ++ proofs_in call all x left anchor (w ∷ []) ≡ proofs_in call all x later anchor (take (n + 1) ws)
     proof_step ms left so_far taken = by (waited w) refl
       where
-        by : (b : Bool) → waited w ≡ b → ms ++ cond b (proof_in x left anchor 0 w ∷ []) [] ≡ proofs_in call all x later anchor (take (n + 1) ws)
-        by true waits = ap (λ l. ms ++ proof_in x l anchor 0 w ∷ []) taken ∙ proof_made waits ms so_far
+        by : (b : Bool) → waited w ≡ b → ms ++ cond b (proof_in x left anchor 0 0 w ∷ []) [] ≡ proofs_in call all x later anchor (take (n + 1) ws)
+        by true waits = ap (λ l. ms ++ proof_in x l anchor 0 0 w ∷ []) taken ∙ proof_made waits ms so_far
         by false none = append-nil ms ∙ proof_unmade none ms so_far
 
     pub put_step : (left : List LaterPut) → left ≡ without_puts (filter waited (take n ws)) later → without_puts (filter waited (w ∷ [])) left ≡ without_puts (filter waited (take (n + 1) ws)) later
@@ -104,9 +104,9 @@ module _ (x : OpenTxn) (later : List LaterPut) (anchor : List ℕ) (ws : List Wr
         by false none = put_untaken none left taken
 
   -- one more of a stage
-  pub put_made : (puts : List Message) (ms : List Message) → ms ≡ put_messages x later anchor puts (take n ws) → ms ++ proof_in x (without_puts (take n ws) later) anchor (conflicts_before w.seq puts) w ∷ [] ≡ put_messages x later anchor puts (take (n + 1) ws)
+  pub put_made : (puts : List Message) (ms : List Message) → ms ≡ put_messages x later anchor puts (take n ws) → ms ++ proof_in x (without_puts (take n ws) later) anchor (conflicts_before w.seq puts) (losses_before w.seq puts) w ∷ [] ≡ put_messages x later anchor puts (take (n + 1) ws)
   put_made puts ms so_far =
-      ap (λ m. ms ++ m ∷ []) (proof_still (take n ws) apart (conflicts_before w.seq puts)) ∙ ap (λ ms. ms ++ proof_in x later anchor (conflicts_before w.seq puts) w ∷ []) so_far
+      ap (λ m. ms ++ m ∷ []) (proof_still (take n ws) apart (conflicts_before w.seq puts) (losses_before w.seq puts)) ∙ ap (λ ms. ms ++ proof_in x later anchor (conflicts_before w.seq puts) (losses_before w.seq puts) w ∷ []) so_far
       ∙ sym (put_messages-append x later anchor puts (take n ws) (w ∷ [])) ∙ ap (put_messages x later anchor puts) (sym more)
 
   pub stage_taken : (left : List LaterPut) → left ≡ without_puts (take n ws) later → without_put w.seq left ≡ without_puts (take (n + 1) ws) later

@@ -37,6 +37,7 @@ use Rattle.pc_wave.specs.declared.message.Progress.{Progress}
 use Rattle.pc_wave.specs.declared.message.Progress.TheVariants as progresses
 use Rattle.pc_wave.specs.Messages.{awaits_at, has_answer, is_to_send, wave_awaits, is_in_conflict}
 use Rattle.pc_wave.specs.Standing.{Pairwise, WaveStands, goes_beside}
+use Rattle.pc_wave.specs.Tries.{WasLostInARow}
 use Rattle.pc_wave.specs.Course.{Course}
 use Rattle.pc_world.specs.Counting.{AtLeast}
 use Rattle.pc_world.specs.Known.{Known}
@@ -254,16 +255,19 @@ abbrev pub CountsIntents : Known → Txn → ℕ → ℕ → Type 0
 CountsIntents k t seq n =
     AtLeast (IsPutInConflict t.id t.epoch seq) n k.heard_now × (AtLeast (IsPutInConflict t.id t.epoch seq) (n + 1) k.heard_now → ⊥)
 
--- A put of this write, which was sent before the call, may go out again in it, where so many of its puts met intents: it went out for each of them; and where
--- nothing is lost, each that went out in the call was heard there, and met one which a stage that was refused passed over; where messages may be, a stage that
--- was refused left it behind.
-pub record MayBePutAgain (loses : Bool) (k : Known) (t : Txn) (seq n : ℕ) : Type 0 where
+-- A put of this write, which was sent before the call, may go out again in it, where so many of its puts met intents, and so many in a row were lost: it went
+-- out for each intent; and where nothing is lost, each that went out in the call was heard there, and met one which a stage that was refused passed over;
+-- where messages may be, a stage that was refused left it behind, and one that was lost went out for the call.
+pub record MayBePutAgain (loses : Bool) (k : Known) (t : Txn) (seq n lost : ℕ) : Type 0 where
   pub before : list_any (λ other. is_put_of t.id t.epoch seq other.request) (sent_before k) ≡ true
   pub counts : CountsIntents k t seq n
   pub sent : AtLeast (λ m. IsTrue (is_put_of t.id t.epoch seq m.request)) n (sent_for_call k)
   pub passed : loses ≡ false → Any (λ m. IsTrue (is_put_of t.id t.epoch seq m.request)) k.sent_now ⊎ Any (λ h. IsTrue (is_put_of t.id t.epoch seq h.request)) k.heard_now → (request : Request) → IsTrue (is_put_of t.id t.epoch seq request) → WasPassedOver k request
   pub answered : loses ≡ false → All (λ m. IsTrue (is_put_of t.id t.epoch seq m.request) → IsTrue (is_heard k.heard_now m)) k.sent_now
   pub left : loses ≡ true → Any (λ m. IsTrue (is_put_of t.id t.epoch seq m.request)) k.sent_now ⊎ Any (λ h. IsTrue (is_put_of t.id t.epoch seq h.request)) k.heard_now → Any (λ h. IsTrue (refuses_stage h.request h.reply)) k.heard_now
+  pub unlost : loses ≡ false → lost ≡ 0
+  pub tried : loses ≡ true → (request : Request) → IsTrue (is_put_of t.id t.epoch seq request) → WasLostInARow k request lost
+  pub lately : 1 ≤ lost → AtLeast (λ m. IsTrue (is_put_of t.id t.epoch seq m.request)) 1 (sent_for_call k)
 
 -- How many intents the put of this sequence met, by these messages.
 abbrev pub conflicts_before : ℕ → List Message → ℕ
@@ -290,7 +294,7 @@ pub record ServesRefresh (loses : Bool) (refusals : ℕ) (puts : List Message) (
   pub held : All (MetNoOtherWrite messages) k.heard_now
   pub low : All (IsMetUpTo k.top) k.heard_now
   pub none_eighth : NoneMetEighth t.id t.epoch x.in_flight k.heard_now
-  pub counted : All (λ w. MayBePutAgain loses k t w.seq (conflicts_before w.seq puts)) x.in_flight
+  pub counted : All (λ w. MayBePutAgain loses k t w.seq (conflicts_before w.seq puts) (losses_before w.seq puts)) x.in_flight
   pub settled : IsWithoutConflict k
 
 -- It commits where its reads are good, no write is in flight, and no round is left; each commit that was sent in the call is this one, or was refused.

@@ -127,7 +127,7 @@ pub record KeepsOutbox (loses : Bool) (k : Known) (x : OpenTxn) (later : List La
 pub record CommitsOnFrom (loses : Bool) (bound refusals : ℕ) (k : Known) (t : Txn) (x : OpenTxn) (s : Statement) (puts : List Message) : Type 0 where
   pub on : CommitsUpTo loses bound refusals k t x s
   pub passed : is_passed_by x.staging ≡ true
-  pub counted : All (λ w. MayBePutAgain loses k t w.seq (conflicts_before w.seq puts)) x.in_flight
+  pub counted : All (λ w. MayBePutAgain loses k t w.seq (conflicts_before w.seq puts) (losses_before w.seq puts)) x.in_flight
 
 -- It decides at the write timestamp, where what was read is good: it stages what is in flight, or commits.
 pub record DecidesNow (loses : Bool) (refusals : ℕ) (k : Known) (x : OpenTxn) (s : Statement) (puts : List Message) : Type 0 where

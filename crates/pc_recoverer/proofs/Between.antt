@@ -29,6 +29,7 @@ module _ {C : Type 0} (number : ℕ) (level : Priority) (d e : DeskMeaning C) wh
               track = track old.back.track;
               posted = ap (λ (d : DeskMeaning C). d.posted) is ∙ old.back.posted;
               replies = ap (λ (d : DeskMeaning C). d.replies) is ∙ old.back.replies;
+              lost = ap (λ (d : DeskMeaning C). d.lost) is ∙ old.back.lost;
             };
             closed = ap (λ (d : DeskMeaning C). (known_of d.log.part.own).statement) is ∙ old.closed;
             unbegun = ap (λ (d : DeskMeaning C). (known_of d.log.part.own).txns) is ∙ old.unbegun;

@@ -17,9 +17,10 @@ use Rattle.pc_history.specs.declared.pair.Pair.{Pair}
 use Rattle.pc_proto.specs.declared.event.Event.{Event}
 use Rattle.pc_lists.proofs.Lists.{all_from_contains}
 use Rattle.pc_recoverer.proofs.Fronts.{front_behind}
-use Rattle.pc_recoverer.specs.Broken.{AreAtHalt, AreFrontOf, BreaksOffIn, HasBrokenOffIn, OrHearLast}
+use Rattle.pc_recoverer.proofs.Traffic.{same_sending}
+use Rattle.pc_recoverer.specs.Broken.{AreFrontOf, BreaksOffIn, HasBrokenOffIn, OrHearLast}
 use Rattle.pc_recoverer.specs.Exchanges.{RoundMessage}
-use Rattle.pc_recoverer.specs.InRound.{HasMadeTraffic}
+use Rattle.pc_recoverer.specs.InRound.{HasMadeTraffic, sending_of}
 
 -- nothing is said of the events alone
 abbrev Whatever : List Event → Type 0
@@ -36,9 +37,9 @@ ended_both (halts.Full actor) A B D f a b = f a b
 ended_both halts.NoMemory A B D f a b = tt
 
 -- what is so of entries, behind others
-at_halt_behind : (halt : Halt) (part : List (Pair Event)) (More Are : List (Pair Event) → Type 0) → ((made : List (Pair Event)) → More made → Are (part ++ made)) → (made : List (Pair Event)) → AreAtHalt halt More made → AreAtHalt halt Are (part ++ made)
-at_halt_behind halts.Stopped part More Are on made (inl more) = inl (on made more)
-at_halt_behind halts.Stopped part More Are on made (inr last) = inr (record {
+or_last_behind : (part : List (Pair Event)) (More Are : List (Pair Event) → Type 0) → ((made : List (Pair Event)) → More made → Are (part ++ made)) → (made : List (Pair Event)) → OrHearLast More made → OrHearLast Are (part ++ made)
+or_last_behind part More Are on made (inl more) = inl (on made more)
+or_last_behind part More Are on made (inr last) = inr (record {
   before = part ++ last.before;
   sending = last.sending;
   hearing = last.hearing;
@@ -47,13 +48,11 @@ at_halt_behind halts.Stopped part More Are on made (inr last) = inr (record {
   hears = last.hears;
   are = subst Are (sym (append_assoc part last.before (last.sending ∷ []))) (on (last.before ++ last.sending ∷ []) last.are);
 })
-at_halt_behind (halts.Full actor) part More Are on made more = on made more
-at_halt_behind halts.NoMemory part More Are on made more = on made more
 
 -- what is so of entries that broke off
 pub breaks_weaker : {C : Type 0} (old new : DeskMeaning C) (More Are : List (Pair Event) → Type 0) (halt : Halt) → ((made : List (Pair Event)) → More made → Are made) → BreaksOffIn More old new halt → BreaksOffIn Are old new halt
 breaks_weaker old new More Are halt on breaks going =
-    ended_on halt (HasBrokenOffIn (AreAtHalt halt More) old new) (HasBrokenOffIn (AreAtHalt halt Are) old new) (λ b. record { broke = b.broke; are = at_halt_behind halt [] More Are on b.broke.part b.are }) (breaks going)
+    ended_on halt (HasBrokenOffIn (OrHearLast More) old new) (HasBrokenOffIn (OrHearLast Are) old new) (λ b. record { broke = b.broke; are = or_last_behind [] More Are on b.broke.part b.are }) (breaks going)
 
 pub breaks_weaker_if : {X C : Type 0} (r : Result X Halt) (old new : DeskMeaning C) (More Are : List (Pair Event) → Type 0) → ((made : List (Pair Event)) → More made → Are made) → IfErr r (BreaksOffIn More old new) → IfErr r (BreaksOffIn Are old new)
 breaks_weaker_if (Ok x) old new More Are on breaks = tt
@@ -73,10 +72,10 @@ module _ {C : Type 0} (old mid new : DeskMeaning C) (part : List (Pair Event)) (
   stopped-is = ap (λ (l : LogMeaning C). l.stopped) grown.rest
 
   -- with no more
-  here-only : Are part → HasEnded mid new → HasBrokenOff Whatever old new → HasBrokenOffIn Are old new
+  here-only : OrHearLast Are part → HasEnded mid new → HasBrokenOff Whatever old new → HasBrokenOffIn (OrHearLast Are) old new
   here-only are ended b =
       let same : part ≡ b.part = append_cancel_left old.log.part.own part b.part (sym grown.own ∙ (sym (ap (λ (l : LogMeaning C). l.part.own) ended.rest) ∙ b.own)) in
-      record { broke = b; are = subst Are same are }
+      record { broke = b; are = subst (OrHearLast Are) same are }
 
   -- or with one more
   here-last : (Is : Event → Type 0) → ((p : Pair Event) → IsItsLast Is old p → OrHearLast Are (part ++ p ∷ [])) → HasMadeLast Is mid new → HasBrokenOff Whatever old new → HasBrokenOffIn (OrHearLast Are) old new
@@ -88,25 +87,28 @@ module _ {C : Type 0} (old mid new : DeskMeaning C) (part : List (Pair Event)) (
       record { broke = b; are = subst (OrHearLast Are) same (last made.last its) }
 
   -- its list ended once these entries were made, or with one more
-  pub breaks_here : (Is : Event → Type 0) → Are part → (halt ≡ halts.Stopped → (p : Pair Event) → IsItsLast Is old p → OrHearLast Are (part ++ p ∷ [])) → EndsOnly Is mid new halt → BreaksOffIn Are old new halt
-  breaks_here Is are last ends going =
+  pub breaks_at : (Is : Event → Type 0) → OrHearLast Are part → (halt ≡ halts.Stopped → (p : Pair Event) → IsItsLast Is old p → OrHearLast Are (part ++ p ∷ [])) → EndsOnly Is mid new halt → BreaksOffIn Are old new halt
+  breaks_at Is are last ends going =
       by halt last (ends (stopped-is ∙ going)) (breaks_only old mid new part grown limit (made_by old.log mid part track grown) Is Whatever halt track tt (λ stopped event is. tt) ends going)
     where
-      by : (h : Halt) → (h ≡ halts.Stopped → (p : Pair Event) → IsItsLast Is old p → OrHearLast Are (part ++ p ∷ [])) → EndsBy Is mid new h → IsEndedBy h (HasBrokenOff Whatever old new) → IsEndedBy h (HasBrokenOffIn (AreAtHalt h Are) old new)
+      by : (h : Halt) → (h ≡ halts.Stopped → (p : Pair Event) → IsItsLast Is old p → OrHearLast Are (part ++ p ∷ [])) → EndsBy Is mid new h → IsEndedBy h (HasBrokenOff Whatever old new) → IsEndedBy h (HasBrokenOffIn (OrHearLast Are) old new)
       by halts.Stopped last made b = here-last Is (last refl) made b
       by (halts.Full actor) last ended b = here-only are ended b
       by halts.NoMemory last ended b = tt
 
+  pub breaks_here : (Is : Event → Type 0) → Are part → (halt ≡ halts.Stopped → (p : Pair Event) → IsItsLast Is old p → OrHearLast Are (part ++ p ∷ [])) → EndsOnly Is mid new halt → BreaksOffIn Are old new halt
+  breaks_here Is are last ends = breaks_at Is (inl are) last ends
+
   -- or it went on and broke off by others
   pub breaks_behind : (More : List (Pair Event) → Type 0) → ((made : List (Pair Event)) → More made → Are (part ++ made)) → BreaksOffIn More mid new halt → BreaksOffIn Are old new halt
   breaks_behind More on breaks going =
-      ended_both halt (HasBrokenOffIn (AreAtHalt halt More) mid new) (HasBrokenOff Whatever old new) (HasBrokenOffIn (AreAtHalt halt Are) old new)
+      ended_both halt (HasBrokenOffIn (OrHearLast More) mid new) (HasBrokenOff Whatever old new) (HasBrokenOffIn (OrHearLast Are) old new)
       (λ inner b.
       let same : part ++ inner.broke.part ≡ b.part =
       append_cancel_left old.log.part.own (part ++ inner.broke.part) b.part (sym (append_assoc old.log.part.own part inner.broke.part) ∙ (ap (λ own. own ++ inner.broke.part) (sym grown.own) ∙ (sym inner.broke.own ∙ b.own))) in
-      record { broke = b; are = subst (AreAtHalt halt Are) same (at_halt_behind halt part More Are on inner.broke.part inner.are) }) (breaks (stopped-is ∙ going))
+      record { broke = b; are = subst (OrHearLast Are) same (or_last_behind part More Are on inner.broke.part inner.are) }) (breaks (stopped-is ∙ going))
       (breaks_later old mid new part grown limit (made_by old.log mid part track grown) Whatever Whatever halt (λ made so. tt)
-      (λ run. ended_on halt (HasBrokenOffIn (AreAtHalt halt More) mid new) (HasBrokenOff Whatever mid new) (λ b. b.broke) (breaks run)) going)
+      (λ run. ended_on halt (HasBrokenOffIn (OrHearLast More) mid new) (HasBrokenOff Whatever mid new) (λ b. b.broke) (breaks run)) going)
 
 -- Each of these entries is the recoverer's.
 abbrev ItsOwn : ℕ → List (Pair Event) → Type 0
@@ -117,9 +119,9 @@ own-front number front part rest is its =
     all_from_contains (λ (p : Pair Event). p.entry.actor ≡ actors.Recoverer number) front (λ p there.
     All-contains (λ (p : Pair Event). p.entry.actor ≡ actors.Recoverer number) part p its (subst (λ l. Contains l p) (sym is) (Contains-append_left front rest p there)))
 
-own-at_halt : (number : ℕ) (Are : List (Pair Event) → Type 0) (halt : Halt) (part : List (Pair Event)) → ItsOwn number part → AreAtHalt halt Are part → AreAtHalt halt (λ q. ItsOwn number q × Are q) part
-own-at_halt number Are halts.Stopped part its (inl are) = inl (its, are)
-own-at_halt number Are halts.Stopped part its (inr last) = inr (record {
+own-or_last : (number : ℕ) (Are : List (Pair Event) → Type 0) (part : List (Pair Event)) → ItsOwn number part → OrHearLast Are part → OrHearLast (λ q. ItsOwn number q × Are q) part
+own-or_last number Are part its (inl are) = inl (its, are)
+own-or_last number Are part its (inr last) = inr (record {
   before = last.before;
   sending = last.sending;
   hearing = last.hearing;
@@ -131,15 +133,13 @@ own-at_halt number Are halts.Stopped part its (inr last) = inr (record {
     last.are,
   );
 })
-own-at_halt number Are (halts.Full actor) part its are = (its, are)
-own-at_halt number Are halts.NoMemory part its are = (its, are)
 
 -- the entries that broke off are the actor's own
 pub breaks_by : {C : Type 0} (old new : DeskMeaning C) (Are : List (Pair Event) → Type 0) (halt : Halt) (number : ℕ) → old.log.part.id ≡ actors.Recoverer number → BreaksOffIn Are old new halt
     → BreaksOffIn (λ part. All (λ (p : Pair Event). p.entry.actor ≡ actors.Recoverer number) part × Are part) old new halt
 breaks_by old new Are halt number whose breaks going =
-    ended_on halt (HasBrokenOffIn (AreAtHalt halt Are) old new) (HasBrokenOffIn (AreAtHalt halt (λ q. ItsOwn number q × Are q)) old new)
-    (λ b. record { broke = b.broke; are = own-at_halt number Are halt b.broke.part (subst (λ (id : ActorId). All (λ (p : Pair Event). p.entry.actor ≡ id) b.broke.part) whose b.broke.whose) b.are }) (breaks going)
+    ended_on halt (HasBrokenOffIn (OrHearLast Are) old new) (HasBrokenOffIn (OrHearLast (λ q. ItsOwn number q × Are q)) old new)
+    (λ b. record { broke = b.broke; are = own-or_last number Are b.broke.part (subst (λ (id : ActorId). All (λ (p : Pair Event). p.entry.actor ≡ id) b.broke.part) whose b.broke.whose) b.are }) (breaks going)
 
 -- a list that went on by messages, and then broke off
 pub traffic_breaks : {C : Type 0} (old mid new : DeskMeaning C) (xs : List RoundMessage) (halt : Halt) (Are : List (Pair Event) → Type 0) (More : List (Pair Event) → Type 0) (made : HasMadeTraffic old mid xs) → ((q : List (Pair Event)) → More q → Are (made.part ++ q))
@@ -148,6 +148,8 @@ traffic_breaks old mid new xs halt Are More made on breaks = breaks_behind old m
 
 -- by a front of messages
 pub front_breaks : {C : Type 0} (old mid new : DeskMeaning C) (xs : List RoundMessage) (halt : Halt) (Are More : List RoundMessage → Type 0) → HasMadeTraffic old mid xs → ((ys : List RoundMessage) → More ys → Are (xs ++ ys))
-    → BreaksOffIn (AreFrontOf More) mid new halt → BreaksOffIn (AreFrontOf Are) old new halt
+    → BreaksOffIn (AreFrontOf (sending_of mid.log) More) mid new halt → BreaksOffIn (AreFrontOf (sending_of old.log) Are) old new halt
 front_breaks old mid new xs halt Are More made on breaks =
-    traffic_breaks old mid new xs halt (AreFrontOf Are) (AreFrontOf More) made (λ q f. front_behind More Are xs made.part q made.each on f) breaks
+    let s = sending_of old.log in
+    traffic_breaks old mid new xs halt (AreFrontOf s Are) (AreFrontOf s More) made (λ q f. front_behind s More Are xs made.part q made.each on f)
+    (subst (λ s. BreaksOffIn (AreFrontOf s More) mid new halt) (same_sending old.log mid.log made.part made.goes.grown) breaks)

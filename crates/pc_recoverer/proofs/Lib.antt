@@ -3,8 +3,10 @@ pub mod Breaking
 pub mod Dealing
 pub mod Exchanging
 pub mod Fronts
+pub mod Lost
 pub mod Recovering
 pub mod Rounding
 pub mod Settling
 pub mod Traffic
+pub mod Trying
 pub mod Visiting

@@ -1,5 +1,5 @@
 -- A recoverer's whole round: it is asked, each range is visited, and the recoverer is told that it is done.
-use Rattle.std.proofs.Common.{◌≡◌, ℕ, ◌+◌, Bool, true, false, inl, All, List, [], ◌∷◌, ◌++◌, length, cond, map, None, refl, sym, ap, ◌∙◌, subst}
+use Rattle.std.proofs.Common.{◌≡◌, ℕ, ◌+◌, ◌≤◌, Bool, true, false, inl, All, List, [], ◌∷◌, ◌++◌, length, cond, map, None, refl, sym, ap, ◌∙◌, subst}
 use Rattle.std.proofs.lemmas.List.{append-nil, append_assoc}
 use Rattle.std.proofs.lemmas.List.Elements.{All-append, All-cons, All-nil}
 use Rattle.pc_base.specs.declared.actor.ActorId.{ActorId}
@@ -12,7 +12,7 @@ use Rattle.pc_desk.specs.declared.halt.Halt.TheVariants as halts
 use Rattle.pc_desk.specs.Desk.{DeskMeaning, HasDone, KeepsTrack}
 use Rattle.pc_desk.specs.Ending.{EndsOnly}
 use Rattle.pc_desk.specs.Keeping.{KeepsNext}
-use Rattle.pc_desk.specs.OwnLog.{LogMeaning, MayEnter}
+use Rattle.pc_desk.specs.OwnLog.{LogMeaning, MayEnter, terms_of}
 use Rattle.pc_exchange.proofs.Ending.{made_by}
 use Rattle.pc_exchange.proofs.Growing.{grows_both, grows_entered, grows_none}
 use Rattle.pc_exchange.specs.Growing.{HasGrownBy}
@@ -24,11 +24,12 @@ use Rattle.pc_proto.specs.declared.call.Call.TheVariants as calls
 use Rattle.pc_proto.specs.declared.event.Event.{Event}
 use Rattle.pc_proto.specs.declared.event.Event.TheVariants as events
 use Rattle.pc_recoverer.proofs.Breaking.{breaks_behind, breaks_by, breaks_here}
-use Rattle.pc_recoverer.proofs.Fronts.{are_entries, entries_for, listings_of, made_as, made_by_another, would_list}
+use Rattle.pc_recoverer.proofs.Fronts.{are_entries, entries_for, listings_of, made_as, made_by_another, would_be, would_list}
+use Rattle.pc_recoverer.proofs.Traffic.{same_sending}
 use Rattle.pc_recoverer.specs.Broken.{AreFrontOf, AreOfBrokenRound, AreOfEndedRound, BreaksOffIn}
 use Rattle.pc_recoverer.specs.declared.maker.RoundMaker.{RoundMaker}
-use Rattle.pc_recoverer.specs.Exchanges.{AreExchangesIn, RoundMessage}
-use Rattle.pc_recoverer.specs.InRound.{HasVisitedEach, IsMakingRound}
+use Rattle.pc_recoverer.specs.Exchanges.{AreExchangesIn, RoundMessage, Sending}
+use Rattle.pc_recoverer.specs.InRound.{HasVisitedEach, IsMakingRound, sending_of}
 use Rattle.pc_recoverer.specs.Recoverer.{HasMadeWholeRound, IsBetweenRounds}
 use Rattle.pc_recoverer.specs.Round.{ArePartsOf, IsWholeRound}
 use Rattle.pc_world.specs.Known.{Known, known_of, learn, told_first, txns_told}
@@ -62,10 +63,10 @@ ask_for number = pair (entry_of 0 (actors.Recoverer number) (events.Ask calls.Ro
 abbrev tell_for : ℕ → Pair Event
 tell_for number = pair (entry_of 0 (actors.Recoverer number) (events.Tell answers.Done)) None
 
-module _ (splits : List (List ℕ)) (number : ℕ) (level : Priority) where
+module _ (s : Sending) (some : 1 ≤ s.tries) (splits : List (List ℕ)) (number : ℕ) (level : Priority) where
   -- asked, with its messages, and told
   whole-round : (reading : ℕ) (ask tell : Pair Event) (traffic : List RoundMessage) (between : List (Pair Event)) → AreIts number (ask ∷ []) → AreIts number between → AreIts number (tell ∷ []) → ask.entry.event ≡ events.Ask calls.Round reading
-      → tell.entry.event ≡ events.Tell answers.Done → AreExchangesIn traffic between → ArePartsOf (maker_at number level reading) 0 (length splits + 1) traffic → IsWholeRound splits number level (ask ∷ (between ++ tell ∷ []))
+      → tell.entry.event ≡ events.Tell answers.Done → AreExchangesIn s traffic between → ArePartsOf (maker_at number level reading) 0 (length splits + 1) traffic → IsWholeRound s splits number level (ask ∷ (between ++ tell ∷ []))
   whole-round reading ask tell traffic between first middle last asks tells made each =
       let Its : Pair Event → Type 0 = λ p. p.entry.actor ≡ actors.Recoverer number in
       record {
@@ -89,22 +90,23 @@ module _ (splits : List (List ℕ)) (number : ℕ) (level : Priority) where
   its-ask = All-cons (λ (p : Pair Event). p.entry.actor ≡ actors.Recoverer number) (ask_for number) [] refl (All-nil (λ (p : Pair Event). p.entry.actor ≡ actors.Recoverer number))
 
   -- no entry is the front of a round
-  pub unasked_round : AreOfBrokenRound splits number level []
+  pub unasked_round : AreOfBrokenRound s splits number level []
   unasked_round =
       let maker = maker_at number level 0 in
       let count = length splits + 1 in
-      let traffic = listings_of 0 count in
-      let between = map (made_as (actors.Recoverer number)) (entries_for traffic) in
+      let says = listings_of 0 count in
+      let traffic = would_be says in
+      let between = map (made_as (actors.Recoverer number)) (entries_for says) in
       record {
         rest = ask_for number ∷ between;
         last = tell_for number;
-        whole = whole-round 0 (ask_for number) (tell_for number) traffic between its-ask (its-own number (entries_for traffic)) its-tell refl refl
-            (made_by_another (actors.Recoverer number) traffic [] (entries_for traffic) (are_entries traffic)) (would_list maker 0 count);
+        whole = whole-round 0 (ask_for number) (tell_for number) traffic between its-ask (its-own number (entries_for says)) its-tell refl refl
+            (made_by_another (actors.Recoverer number) s traffic [] (entries_for says) (All-nil (λ (p : Pair Event). p.entry.actor ≡ actors.Recoverer number)) (are_entries s some says)) (would_list maker 0 count);
       }
 
   -- nor is more, up to a front of its messages
-  pub unfinished_round : (reading : ℕ) (ask : Pair Event) (q : List (Pair Event)) → AreIts number (ask ∷ []) → AreIts number q → ask.entry.event ≡ events.Ask calls.Round reading → AreFrontOf (ArePartsOf (maker_at number level reading) 0 (length splits + 1)) q
-      → AreOfBrokenRound splits number level (ask ∷ q)
+  pub unfinished_round : (reading : ℕ) (ask : Pair Event) (q : List (Pair Event)) → AreIts number (ask ∷ []) → AreIts number q → ask.entry.event ≡ events.Ask calls.Round reading → AreFrontOf s (ArePartsOf (maker_at number level reading) 0 (length splits + 1)) q
+      → AreOfBrokenRound s splits number level (ask ∷ q)
   unfinished_round reading ask q first its asks f =
       let id = actors.Recoverer number in
       let rest = map (made_as id) f.rest in
@@ -113,31 +115,31 @@ module _ (splits : List (List ℕ)) (number : ℕ) (level : Priority) where
         rest = rest;
         last = tell_for number;
         whole =
-            subst (λ l. IsWholeRound splits number level (ask ∷ l)) (append_assoc q rest (tell_for number ∷ []))
-            (whole-round reading ask (tell_for number) f.traffic (q ++ rest) first (All-append Its q rest its (its-own number f.rest)) its-tell asks refl (made_by_another id f.traffic q f.rest f.exchanged) f.are);
+            subst (λ l. IsWholeRound s splits number level (ask ∷ l)) (append_assoc q rest (tell_for number ∷ []))
+            (whole-round reading ask (tell_for number) f.traffic (q ++ rest) first (All-append Its q rest its (its-own number f.rest)) its-tell asks refl (made_by_another id s f.traffic q f.rest its f.exchanged) f.are);
       }
 
   -- however its list ended
-  ended-round : (halt : Halt) (q : List (Pair Event)) → AreOfBrokenRound splits number level q → AreOfEndedRound splits number level halt q
+  ended-round : (halt : Halt) (q : List (Pair Event)) → AreOfBrokenRound s splits number level q → AreOfEndedRound s splits number level halt q
   ended-round halts.Stopped q broken = record { rest = broken.rest ++ broken.last ∷ []; whole = broken.whole }
   ended-round (halts.Full actor) q broken = broken
   ended-round halts.NoMemory q broken = broken
 
   -- where it stopped, the round may be whole
-  whole-ended : (halt : Halt) (q : List (Pair Event)) → halt ≡ halts.Stopped → IsWholeRound splits number level q → AreOfEndedRound splits number level halt q
+  whole-ended : (halt : Halt) (q : List (Pair Event)) → halt ≡ halts.Stopped → IsWholeRound s splits number level q → AreOfEndedRound s splits number level halt q
   whole-ended halt q stopped whole =
-      subst (λ h. AreOfEndedRound splits number level h q) (sym stopped) (record { rest = []; whole = subst (IsWholeRound splits number level) (sym (append-nil q)) whole })
+      subst (λ h. AreOfEndedRound s splits number level h q) (sym stopped) (record { rest = []; whole = subst (IsWholeRound s splits number level) (sym (append-nil q)) whole })
 
   -- no message is a front of all
-  front-of-none : (reading : ℕ) → AreFrontOf (ArePartsOf (maker_at number level reading) 0 (length splits + 1)) []
+  front-of-none : (reading : ℕ) → AreFrontOf s (ArePartsOf (maker_at number level reading) 0 (length splits + 1)) []
   front-of-none reading =
-      let traffic = listings_of 0 (length splits + 1) in
-      record { traffic = traffic; are = would_list (maker_at number level reading) 0 (length splits + 1); rest = entries_for traffic; exchanged = are_entries traffic }
+      let says = listings_of 0 (length splits + 1) in
+      record { traffic = would_be says; are = would_list (maker_at number level reading) 0 (length splits + 1); rest = entries_for says; exchanged = are_entries s some says }
 
   -- all its messages are such a front
-  pub front_of_all : (reading : ℕ) (traffic : List RoundMessage) (between : List (Pair Event)) → AreExchangesIn traffic between → ArePartsOf (maker_at number level reading) 0 (length splits + 1) traffic
-      → AreFrontOf (ArePartsOf (maker_at number level reading) 0 (length splits + 1)) between
-  front_of_all reading traffic between made each = record { traffic = traffic; are = each; rest = []; exchanged = subst (λ l. AreExchangesIn traffic l) (sym (append-nil between)) made }
+  pub front_of_all : (reading : ℕ) (traffic : List RoundMessage) (between : List (Pair Event)) → AreExchangesIn s traffic between → ArePartsOf (maker_at number level reading) 0 (length splits + 1) traffic
+      → AreFrontOf s (ArePartsOf (maker_at number level reading) 0 (length splits + 1)) between
+  front_of_all reading traffic between made each = record { traffic = traffic; are = each; rest = []; exchanged = subst (λ l. AreExchangesIn s traffic l) (sym (append-nil between)) made }
 
 -- ---- the asking and the telling
 
@@ -167,7 +169,12 @@ module _ {C : Type 0} (number : ℕ) (level : Priority) (reading : ℕ) (old d :
   -- the round goes on
   pub asked_making : IsMakingRound maker d
   asked_making = record {
-    back = record { track = done.track; posted = ap (λ (x : DeskMeaning C). x.posted) done.rest ∙ between.back.posted; replies = ap (λ (x : DeskMeaning C). x.replies) done.rest ∙ between.back.replies };
+    back = record {
+      track = done.track;
+      posted = ap (λ (x : DeskMeaning C). x.posted) done.rest ∙ between.back.posted;
+      replies = ap (λ (x : DeskMeaning C). x.replies) done.rest ∙ between.back.replies;
+      lost = ap (λ (x : DeskMeaning C). x.lost) done.rest ∙ between.back.lost;
+    };
     whose = ap (λ (l : LogMeaning C). l.part.id) done.entered.stored ∙ whose;
     opened = ap (λ (k : Known). k.statement) learnt;
     unbegun = ap (λ (k : Known). k.txns) learnt ∙ between.unbegun;
@@ -182,18 +189,25 @@ module _ {C : Type 0} (number : ℕ) (level : Priority) (reading : ℕ) (old d :
   limit-asked : d.range_limit ≡ old.range_limit
   limit-asked = ap (λ (x : DeskMeaning C). x.range_limit) done.rest
 
+  -- The messages go by this.
+  abbrev s : Sending
+  s = sending_of old.log
+
+  some-tries : 1 ≤ s.tries
+  some-tries = between.back.track.log.tries
+
   its-asking : AreIts number (asking ∷ [])
   its-asking = All-cons (λ (p : Pair Event). p.entry.actor ≡ actors.Recoverer number) asking [] whose (All-nil (λ (p : Pair Event). p.entry.actor ≡ actors.Recoverer number))
 
   module _ (count : ℕ) (there : count ≡ length old.log.head.splits + 1) where
     -- its list ends in the messages
-    pub round_ends_early : (new : DeskMeaning C) (halt : Halt) → BreaksOffIn (AreFrontOf (ArePartsOf maker 0 count)) d new halt → BreaksOffIn (AreOfEndedRound old.log.head.splits number level halt) old new halt
+    pub round_ends_early : (new : DeskMeaning C) (halt : Halt) → BreaksOffIn (AreFrontOf (sending_of d.log) (ArePartsOf maker 0 count)) d new halt → BreaksOffIn (AreOfEndedRound s old.log.head.splits number level halt) old new halt
     round_ends_early new halt breaks =
         let id : d.log.part.id ≡ actors.Recoverer number = asked_making.whose in
-        let Its : List (Pair Event) → Type 0 = λ q. AreIts number q × AreFrontOf (ArePartsOf maker 0 count) q in
-        breaks_behind old d new (asking ∷ []) grown-asked limit-asked done.track (AreOfEndedRound old.log.head.splits number level halt) halt Its
-        (λ q both. ended-round old.log.head.splits number level halt (asking ∷ q) (unfinished_round old.log.head.splits number level reading asking q its-asking both.0 refl (subst (λ n. AreFrontOf (ArePartsOf maker 0 n) q) there both.1)))
-        (breaks_by d new (AreFrontOf (ArePartsOf maker 0 count)) halt number id breaks)
+        let Its : List (Pair Event) → Type 0 = λ q. AreIts number q × AreFrontOf s (ArePartsOf maker 0 count) q in
+        breaks_behind old d new (asking ∷ []) grown-asked limit-asked done.track (AreOfEndedRound s old.log.head.splits number level halt) halt Its
+        (λ q both. ended-round s some-tries old.log.head.splits number level halt (asking ∷ q) (unfinished_round s some-tries old.log.head.splits number level reading asking q its-asking both.0 refl (subst (λ n. AreFrontOf s (ArePartsOf maker 0 n) q) there both.1)))
+        (breaks_by d new (AreFrontOf s (ArePartsOf maker 0 count)) halt number id (subst (λ s. BreaksOffIn (AreFrontOf s (ArePartsOf maker 0 count)) d new halt) (same_sending old.log d.log (asking ∷ []) grown-asked) breaks))
 
     module _ (late : DeskMeaning C) (visited : HasVisitedEach maker count d late) where
       making-late : IsMakingRound maker late
@@ -201,6 +215,9 @@ module _ {C : Type 0} (number : ℕ) (level : Priority) (reading : ℕ) (old d :
 
       each-is : ArePartsOf maker 0 (length old.log.head.splits + 1) visited.traffic
       each-is = subst (λ n. ArePartsOf maker 0 n visited.traffic) there visited.each
+
+      exchanged-is : AreExchangesIn s visited.traffic visited.exchanged.part
+      exchanged-is = subst (λ s. AreExchangesIn s visited.traffic visited.exchanged.part) (same_sending old.log d.log (asking ∷ []) grown-asked) visited.exchanged.each
 
       grown-visited : HasGrownBy old.log late.log (asking ∷ visited.exchanged.part)
       grown-visited = grows_both old.log d.log late.log (asking ∷ []) visited.exchanged.part grown-asked visited.exchanged.goes.grown
@@ -223,17 +240,17 @@ module _ {C : Type 0} (number : ℕ) (level : Priority) (reading : ℕ) (old d :
             free = refl;
             no_ask = refl;
             keeps =
-                subst (λ id. KeepsNext id l.head.splits l.pipelining l.part.own (events.Tell answers.Done) (named_by (protocol l.head) l.part (events.Tell answers.Done))) (sym making-late.whose) tt;
+                subst (λ id. KeepsNext id l.head.splits (terms_of l) l.part.own (events.Tell answers.Done) (named_by (protocol l.head) l.part (events.Tell answers.Done))) (sym making-late.whose) tt;
           }
 
       -- its list ends before that
-      pub telling_ends_early : (new : DeskMeaning C) (halt : Halt) → EndsOnly (λ made. made ≡ events.Tell answers.Done) late new halt → BreaksOffIn (AreOfEndedRound old.log.head.splits number level halt) old new halt
+      pub telling_ends_early : (new : DeskMeaning C) (halt : Halt) → EndsOnly (λ made. made ≡ events.Tell answers.Done) late new halt → BreaksOffIn (AreOfEndedRound s old.log.head.splits number level halt) old new halt
       telling_ends_early new halt ends =
-          breaks_here old late new (asking ∷ visited.exchanged.part) grown-visited (visited.exchanged.goes.limit ∙ limit-asked) making-late.back.track (AreOfEndedRound old.log.head.splits number level halt) halt (λ made. made ≡ events.Tell answers.Done)
-          (ended-round old.log.head.splits number level halt (asking ∷ visited.exchanged.part) (unfinished_round old.log.head.splits number level reading asking visited.exchanged.part its-asking its-messages refl
-          (front_of_all old.log.head.splits number level reading visited.traffic visited.exchanged.part visited.exchanged.each each-is)))
-          (λ stopped p its. inl (whole-ended old.log.head.splits number level halt ((asking ∷ visited.exchanged.part) ++ p ∷ []) stopped
-          (whole-round old.log.head.splits number level reading asking p visited.traffic visited.exchanged.part its-asking its-messages (its-one number p (its.whose ∙ whose)) refl its.is visited.exchanged.each each-is))) ends
+          breaks_here old late new (asking ∷ visited.exchanged.part) grown-visited (visited.exchanged.goes.limit ∙ limit-asked) making-late.back.track (AreOfEndedRound s old.log.head.splits number level halt) halt (λ made. made ≡ events.Tell answers.Done)
+          (ended-round s some-tries old.log.head.splits number level halt (asking ∷ visited.exchanged.part) (unfinished_round s some-tries old.log.head.splits number level reading asking visited.exchanged.part its-asking its-messages refl
+          (front_of_all s some-tries old.log.head.splits number level reading visited.traffic visited.exchanged.part exchanged-is each-is)))
+          (λ stopped p its. inl (whole-ended s some-tries old.log.head.splits number level halt ((asking ∷ visited.exchanged.part) ++ p ∷ []) stopped
+          (whole-round s some-tries old.log.head.splits number level reading asking p visited.traffic visited.exchanged.part its-asking its-messages (its-one number p (its.whose ∙ whose)) refl its.is exchanged-is each-is))) ends
 
       -- it was told
       pub has_made_round : (new : DeskMeaning C) → HasDone late new (events.Tell answers.Done) → HasMadeWholeRound number level old new
@@ -244,20 +261,27 @@ module _ {C : Type 0} (number : ℕ) (level : Priority) (reading : ℕ) (old d :
           record {
             part = asking ∷ (visited.exchanged.part ++ telling ∷ []);
             grown = grows_both old.log late.log new.log (asking ∷ visited.exchanged.part) (telling ∷ []) grown-visited (grows_entered late.log new.log (events.Tell answers.Done) told.entered refl);
-            whole = whole-round old.log.head.splits number level reading asking telling visited.traffic visited.exchanged.part its-asking its-messages last refl refl visited.exchanged.each each-is;
+            whole = whole-round s some-tries old.log.head.splits number level reading asking telling visited.traffic visited.exchanged.part its-asking its-messages last refl refl exchanged-is each-is;
             limit = ap (λ (x : DeskMeaning C). x.range_limit) told.rest ∙ (visited.exchanged.goes.limit ∙ limit-asked);
             between = record {
-              back = record { track = told.track; posted = ap (λ (x : DeskMeaning C). x.posted) told.rest ∙ making-late.back.posted; replies = ap (λ (x : DeskMeaning C). x.replies) told.rest ∙ making-late.back.replies };
+              back = record {
+                track = told.track;
+                posted = ap (λ (x : DeskMeaning C). x.posted) told.rest ∙ making-late.back.posted;
+                replies = ap (λ (x : DeskMeaning C). x.replies) told.rest ∙ making-late.back.replies;
+                lost = ap (λ (x : DeskMeaning C). x.lost) told.rest ∙ making-late.back.lost;
+              };
               closed = ap (λ (k : Known). k.statement) known;
               unbegun = ap (λ (k : Known). k.txns) known ∙ none-told (known_of late.log.part.own) making-late.unbegun;
             };
           }
 
 -- it was not asked
-pub ask_ends_early : {C : Type 0} (number : ℕ) (level : Priority) (old new : DeskMeaning C) (halt : Halt) → KeepsTrack old → old.log.part.id ≡ actors.Recoverer number → EndsOnly (λ made. (reading : ℕ) × (made ≡ events.Ask calls.Round reading)) old new halt → BreaksOffIn (AreOfEndedRound old.log.head.splits number level halt) old new halt
+pub ask_ends_early : {C : Type 0} (number : ℕ) (level : Priority) (old new : DeskMeaning C) (halt : Halt) → KeepsTrack old → old.log.part.id ≡ actors.Recoverer number → EndsOnly (λ made. (reading : ℕ) × (made ≡ events.Ask calls.Round reading)) old new halt → BreaksOffIn (AreOfEndedRound (sending_of old.log) old.log.head.splits number level halt) old new halt
 ask_ends_early number level old new halt track whose ends =
     let splits = old.log.head.splits in
-    breaks_here old old new [] (grows_none old.log) refl track (AreOfEndedRound splits number level halt) halt (λ made. (reading : ℕ) × (made ≡ events.Ask calls.Round reading))
-    (ended-round splits number level halt [] (unasked_round splits number level))
-    (λ stopped p its. inl (ended-round splits number level halt (p ∷ [])
-    (unfinished_round splits number level its.is.0 p [] (its-one number p (its.whose ∙ whose)) (All-nil (λ (p : Pair Event). p.entry.actor ≡ actors.Recoverer number)) its.is.1 (front-of-none splits number level its.is.0)))) ends
+    let s = sending_of old.log in
+    let some = track.log.tries in
+    breaks_here old old new [] (grows_none old.log) refl track (AreOfEndedRound s splits number level halt) halt (λ made. (reading : ℕ) × (made ≡ events.Ask calls.Round reading))
+    (ended-round s some splits number level halt [] (unasked_round s some splits number level))
+    (λ stopped p its. inl (ended-round s some splits number level halt (p ∷ [])
+    (unfinished_round s some splits number level its.is.0 p [] (its-one number p (its.whose ∙ whose)) (All-nil (λ (p : Pair Event). p.entry.actor ≡ actors.Recoverer number)) its.is.1 (front-of-none s some splits number level its.is.0)))) ends

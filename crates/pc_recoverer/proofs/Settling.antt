@@ -1,14 +1,15 @@
 -- A recoverer settles what a final view shows: how it begins, what each exchange of its machine leaves, and how it ends.
-use Rattle.std.proofs.Common.{◌≡◌, ℕ, ◌+◌, ◌≤◌, true, false, All, List, [], ◌∷◌, ◌++◌, None, inr, refl, sym, ap, ◌∙◌, subst}
+use Rattle.std.proofs.Common.{◌≡◌, ℕ, ◌+◌, ◌≤◌, true, false, All, List, [], ◌∷◌, ◌++◌, None, inl, inr, refl, sym, ap, ◌∙◌, subst}
 use Rattle.std.proofs.lemmas.List.{append-nil, append_assoc}
-use Rattle.std.proofs.lemmas.List.Elements.{All-nil}
+use Rattle.std.proofs.lemmas.List.Elements.{All-append, All-nil, All-push}
 use Rattle.pc_base.specs.declared.actor.ActorId.{ActorId}
 use Rattle.pc_base.specs.declared.actor.ActorId.TheVariants as actors
 use Rattle.pc_desk.specs.Desk.{DeskMeaning, MaySendNow}
 use Rattle.pc_desk.specs.Keeping.{KeepsAs}
+use Rattle.pc_desk.specs.OwnLog.{terms_of}
 use Rattle.pc_exchange.proofs.Going.{answered_to_by}
 use Rattle.pc_exchange.proofs.Messages.{due_first, is_first, none_left}
-use Rattle.pc_exchange.specs.Exchange.{WasExchanged}
+use Rattle.pc_exchange.specs.Exchange.{HasLostAll, WasExchanged}
 use Rattle.pc_exchange.specs.Finishing.{messages_due}
 use Rattle.pc_history.specs.declared.pair.Pair.{Pair}
 use Rattle.pc_lists.proofs.Anywhere.{any_weaker}
@@ -28,12 +29,13 @@ use Rattle.pc_proto.specs.declared.view.View.TheVariants as views
 use Rattle.pc_proto.specs.declared.why.Why.{Why}
 use Rattle.pc_proto.specs.Stamps.{fate_stamps}
 use Rattle.pc_proto.specs.Views.{HasLocks, IsFateOf}
-use Rattle.pc_recoverer.proofs.Fronts.{front_before, front_behind, said_each, saying_each}
-use Rattle.pc_recoverer.proofs.Traffic.{made_both, made_none, made_one, message_of, requests_both}
+use Rattle.pc_recoverer.proofs.Fronts.{front_before, front_behind, heard_alone, heard_each, said_each, saying_each, would_be}
+use Rattle.pc_recoverer.proofs.Lost.{lists_nothing}
+use Rattle.pc_recoverer.proofs.Traffic.{given_up_of, made_both, made_lost, made_none, made_one, message_of, requests_both, same_sending}
 use Rattle.pc_recoverer.specs.declared.maker.RoundMaker.{RoundMaker}
 use Rattle.pc_recoverer.specs.Broken.{AreFrontOf, AreFrontOfOne, IsOneMessage}
-use Rattle.pc_recoverer.specs.Exchanges.{RoundMessage, requests_of}
-use Rattle.pc_recoverer.specs.InRound.{HasSettled, IsMakingRound, MaySettleNow, WasShown}
+use Rattle.pc_recoverer.specs.Exchanges.{AreDoneInTurn, IsHeardMessage, RoundMessage, requests_of}
+use Rattle.pc_recoverer.specs.InRound.{HasSettled, IsMakingRound, MaySettleNow, WasShown, sending_of}
 use Rattle.pc_recoverer.specs.Settled.{settling_of, settling_with}
 use Rattle.pc_recoverer.specs.UnderWay.{HasFinishedListed, IsBeingSettled, MayFinishInRound}
 use Rattle.pc_resolve.specs.Resolving.{Resolving, finishing_after, finishing_next}
@@ -53,7 +55,7 @@ pub may_send_now : {C : Type 0} (d : DeskMeaning C) (maker : RoundMaker) (reques
 may_send_now d maker request making allowed one = record {
   allowed = subst (λ id. IsAllowed d.log.head.splits id (known_of d.log.part.own) request) (sym making.whose) allowed;
   one = one;
-  keeps = λ number range. subst (λ id. KeepsAs id d.log.head.splits d.log.pipelining d.log.part.own (events.Send number range request) None) (sym making.whose) tt;
+  keeps = λ number range. subst (λ id. KeepsAs id d.log.head.splits (terms_of d.log) d.log.part.own (events.Send number range request) None) (sym making.whose) tt;
 }
 
 -- ---- what a final view lets it do
@@ -88,7 +90,7 @@ may_abort d meta epoch why locks may = may_finish d meta (views.Aborted epoch wh
 
 -- a view that is not final asks for nothing
 pub settles_none : {C : Type 0} (d : DeskMeaning C) (meta : TxnMeta) (view : View) → MaySettleNow d meta view → settling_of meta view ≡ [] → HasSettled meta view d d
-settles_none d meta view may none = record { traffic = []; exchanged = made_none d may.in_round.back; settles = sym none }
+settles_none d meta view may none = record { traffic = []; exchanged = made_none d may.in_round.back; settles = inl (sym none, All-nil IsHeardMessage) }
 
 -- ---- the machine
 
@@ -105,6 +107,7 @@ settling_begins old meta fate locks anchor m start same first knows =
       traffic = [];
       made = made_none old start.making.back;
       knows = knows (known_of old.log.part.own) (subst (λ (m : Resolving). MayFinish (known_of old.log.part.own) m.id m.anchor m.fate m.locks) (sym made) start.finish);
+      heard = All-nil IsHeardMessage;
       left = ap messages_due made;
     }
 
@@ -133,15 +136,24 @@ module _ {C : Type 0} (old : DeskMeaning C) (meta : TxnMeta) (fate : Fate) (lock
       (for_one d.log.head.splits request kind)
 
   -- where its list ends in the next message, that is a front of what the fate asks for
-  pub settling_breaks : (request : Request) → finishing_next m ≡ machine.Send request → (q : List (Pair Event)) → AreFrontOfOne request q → AreFrontOf (λ xs. requests_of xs ≡ settling_with meta fate locks) (f.made.part ++ q)
+  pub settling_breaks : (request : Request) → finishing_next m ≡ machine.Send request → (q : List (Pair Event)) → AreFrontOfOne (sending_of d.log) request q
+      → AreFrontOf (sending_of old.log) (AreDoneInTurn (settling_with meta fate locks)) (f.made.part ++ q)
   settling_breaks request due q one =
+      let s = sending_of old.log in
       let first = due_first m request due in
       let left = saying_each first.tail in
-      let Next : List RoundMessage → Type 0 = λ xs. requests_of xs ≡ request ∷ first.tail in
-      front_behind Next (λ xs. requests_of xs ≡ settling_with meta fate locks) f.traffic f.made.part q f.made.each
-      (λ ys is. requests_both f.traffic ys ∙ (ap (λ l. requests_of f.traffic ++ l) (is ∙ sym first.first) ∙ f.left))
-      (front_before (IsOneMessage request replies.Removed) Next q
-      (λ xs is. (left, requests_both xs left ∙ (ap (λ l. requests_of l ++ requests_of left) is.1 ∙ ap (λ l. request ∷ l) (said_each first.tail)))) (one replies.Removed))
+      let Next : List RoundMessage → Type 0 = λ xs. (requests_of xs ≡ request ∷ first.tail) × All IsHeardMessage xs in
+      let it = subst (λ s. AreFrontOf s (IsOneMessage request replies.Removed) q) (same_sending old.log d.log f.made.part f.made.goes.grown) (one replies.Removed) in
+      front_behind s Next (AreDoneInTurn (settling_with meta fate locks)) f.traffic f.made.part q f.made.each
+      (λ ys is. inl (requests_both f.traffic ys ∙ (ap (λ l. requests_of f.traffic ++ l) (is.0 ∙ sym first.first) ∙ f.left), All-append IsHeardMessage f.traffic ys f.heard is.1))
+      (front_before s f.start.making.back.track.log.tries (IsOneMessage request replies.Removed) Next q
+      (λ xs is. (
+        left,
+        (
+          requests_both xs (would_be left) ∙ (ap (λ l. requests_of l ++ requests_of (would_be left)) is.1.1 ∙ ap (λ l. request ∷ l) (said_each first.tail)),
+          All-append IsHeardMessage xs (would_be left) (subst (λ l. All IsHeardMessage l) (sym is.1.1) (heard_alone is.0 request is.1.0 replies.Removed)) (heard_each first.tail),
+        ),
+      )) it)
 
   module _ (request : Request) (due : finishing_next m ≡ machine.Send request) (next : Resolving) (new : DeskMeaning C) (reply : Reply) (x : WasExchanged d new request reply) (made : next ≡ finishing_after reply m) where
     -- one exchange more
@@ -149,12 +161,13 @@ module _ {C : Type 0} (old : DeskMeaning C) (meta : TxnMeta) (fate : Fate) (lock
         → IsBeingSettled old meta fate locks next new
     settling_on knows =
         let back = f.made.goes.back in
-        let first : messages_due m ≡ request ∷ messages_due next = (is_first m next request reply due x.kind made).first in
+        let first : messages_due m ≡ request ∷ messages_due next = (is_first m next request reply due x.once.kind made).first in
         let one = message_of d new request reply back x in
         record {
           start = f.start;
           traffic = f.traffic ++ one ∷ [];
-          made = made_both old d new f.traffic (one ∷ []) f.made (made_one d new request reply back x);
+          made = made_both old d new f.traffic (one ∷ []) f.made (made_one d new request reply back x (λ records. absurd (lists_nothing request (due_first m request due).beside records)));
+          heard = All-push IsHeardMessage f.traffic one f.heard refl;
           knows = knows (known_of old.log.part.own) (known_of d.log.part.own) (known_of new.log.part.own) request f.knows due (answered_to_by d new request reply back x (due_first m request due).beside m);
           left =
               ap (λ l. l ++ messages_due next) (requests_both f.traffic (one ∷ []))
@@ -167,9 +180,28 @@ module _ {C : Type 0} (old : DeskMeaning C) (meta : TxnMeta) (fate : Fate) (lock
   settling_ends over = record {
     traffic = f.traffic;
     made = f.made;
-    settles = sym (append-nil (requests_of f.traffic)) ∙ (ap (λ l. requests_of f.traffic ++ l) (sym (none_left m over)) ∙ f.left);
+    settles = inl (sym (append-nil (requests_of f.traffic)) ∙ (ap (λ l. requests_of f.traffic ++ l) (sym (none_left m over)) ∙ f.left), f.heard);
   }
+
+  -- the rest was given up
+  pub settling_given_up : (request : Request) → finishing_next m ≡ machine.Send request → (new : DeskMeaning C) → HasLostAll d new request → HasFinishedListed old new meta fate locks
+  settling_given_up request due new x =
+      let first = due_first m request due in
+      let one = given_up_of d new request 0 x in
+      let all : requests_of (f.traffic ++ one ∷ []) ++ first.tail ≡ settling_with meta fate locks =
+      ap (λ l. l ++ first.tail) (requests_both f.traffic (one ∷ []))
+      ∙ (append_assoc (requests_of f.traffic) (request ∷ []) first.tail
+      ∙ (ap (λ l. requests_of f.traffic ++ l) (sym first.first) ∙ f.left)) in
+      record {
+        traffic = f.traffic ++ one ∷ [];
+        made = made_both old d new f.traffic (one ∷ []) f.made (made_lost d new request 0 x (λ records. absurd (lists_nothing request first.beside records)));
+        settles = inr (first.tail, sym all, record { heard = f.traffic; last = one; whole = refl; before = f.heard; lost = refl });
+      }
+
+  -- what it asks for names a key
+  pub settling_kind : (request : Request) → finishing_next m ≡ machine.Send request → goes_beside request ≡ true
+  settling_kind request due = (due_first m request due).beside
 
 -- what a final view asks for was done
 pub settled_by : {C : Type 0} (old new : DeskMeaning C) (meta : TxnMeta) (view : View) (fate : Fate) (locks : List (List ℕ)) → settling_of meta view ≡ settling_with meta fate locks → HasFinishedListed old new meta fate locks → HasSettled meta view old new
-settled_by old new meta view fate locks same done = record { traffic = done.traffic; exchanged = done.made; settles = done.settles ∙ sym same }
+settled_by old new meta view fate locks same done = record { traffic = done.traffic; exchanged = done.made; settles = subst (λ rs. AreDoneInTurn rs done.traffic) (sym same) done.settles }

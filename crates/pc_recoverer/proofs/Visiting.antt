@@ -5,9 +5,9 @@ use Rattle.std.proofs.lemmas.List.Elements.{All-nil, Contains-append_right}
 use Rattle.pc_desk.specs.declared.halt.Halt.{Halt}
 use Rattle.pc_desk.specs.Desk.{DeskMeaning, MaySendTo}
 use Rattle.pc_desk.specs.Keeping.{KeepsAs}
-use Rattle.pc_desk.specs.OwnLog.{LogMeaning}
+use Rattle.pc_desk.specs.OwnLog.{LogMeaning, terms_of}
 use Rattle.pc_history.specs.declared.pair.Pair.{Pair}
-use Rattle.pc_lists.proofs.Anywhere.{any_kept, any_last, any_weaker}
+use Rattle.pc_lists.proofs.Anywhere.{any_kept, any_weaker}
 use Rattle.pc_lists.proofs.Lists.{contains_head}
 use Rattle.pc_proto.specs.declared.event.Event.{Event}
 use Rattle.pc_proto.specs.declared.event.Event.TheVariants as events
@@ -15,15 +15,15 @@ use Rattle.pc_proto.specs.declared.meta.TxnMeta.{TxnMeta}
 use Rattle.pc_proto.specs.declared.reply.Reply.TheVariants as replies
 use Rattle.pc_proto.specs.declared.request.Request.TheVariants as requests
 use Rattle.pc_recoverer.proofs.Breaking.{front_breaks, traffic_breaks}
-use Rattle.pc_recoverer.proofs.Fronts.{front_before, front_behind, front_weaker, part_for_one, parts_for_both, parts_for_front, parts_of_front, parts_of_more, saying}
-use Rattle.pc_recoverer.proofs.Traffic.{heard_now_is, heard_of, made_both, made_none, made_one, message_of, still_making}
+use Rattle.pc_recoverer.proofs.Fronts.{front_before, front_behind, front_weaker, part_for_one, parts_for_both, parts_for_front, parts_of_front, parts_of_more, said, would_be}
+use Rattle.pc_recoverer.proofs.Traffic.{given_up_of, heard_now_there, made_both, made_lost, made_none, made_one, message_of, same_sending, still_making}
 use Rattle.pc_recoverer.specs.Broken.{AreFrontOf, BreaksOffIn, IsOneMessageTo}
 use Rattle.pc_recoverer.specs.declared.maker.RoundMaker.{RoundMaker}
-use Rattle.pc_recoverer.specs.Exchanges.{RoundMessage}
-use Rattle.pc_recoverer.specs.InRound.{HasDealtWith, HasDealtWithEach, HasMadeTraffic, HasVisited, HasVisitedEach, IsMakingRound, MayPushEach, MayPushNow, WasExchangedWith}
+use Rattle.pc_recoverer.specs.Exchanges.{RoundMessage, Sending}
+use Rattle.pc_recoverer.specs.InRound.{EachSendsTo, HasDealtWith, HasDealtWithEach, HasMadeTraffic, HasVisited, HasVisitedEach, IsMakingRound, MayPushEach, MayPushNow, WasExchangedWith, WasLostWith, sending_of}
 use Rattle.pc_recoverer.specs.Round.{ArePartsFor, ArePartsOf, IsPartFor, IsPartOf}
 use Rattle.pc_world.proofs.Exchange.{has_more}
-use Rattle.pc_world.specs.Exchange.{IsAllowed}
+use Rattle.pc_world.specs.Exchange.{IsAllowed, IsExchange}
 use Rattle.pc_world.specs.Known.{call_in, known_of}
 use Rattle.pc_world.specs.Known.Traffic.{Heard}
 use Rattle.pc_world.specs.Send.Push.{ListsRecord}
@@ -76,17 +76,19 @@ dealt_more maker old mid new before more meta done one is =
 
 -- where its list ends in the part of one, that is a front of the parts of all
 pub dealing_ends_early : {C : Type 0} (maker : RoundMaker) (old mid new : DeskMeaning C) (before behind metas : List TxnMeta) (meta : TxnMeta) (halt : Halt) → HasDealtWithEach maker before old mid → metas ≡ before ++ (meta ∷ behind)
-    → BreaksOffIn (AreFrontOf (IsPartFor maker meta)) mid new halt → BreaksOffIn (AreFrontOf (ArePartsFor maker metas)) old new halt
-dealing_ends_early maker old mid new before behind metas meta halt done is breaks =
+    → 1 ≤ old.log.tries → BreaksOffIn (AreFrontOf (sending_of mid.log) (IsPartFor maker meta)) mid new halt → BreaksOffIn (AreFrontOf (sending_of old.log) (ArePartsFor maker metas)) old new halt
+dealing_ends_early maker old mid new before behind metas meta halt done is some breaks =
     let xs = done.traffic in
+    let s = sending_of old.log in
     let First : List RoundMessage → Type 0 = λ zs. (ys : List RoundMessage) × (zs ≡ xs ++ ys) × IsPartFor maker meta ys in
-    traffic_breaks old mid new xs halt (AreFrontOf (ArePartsFor maker metas)) (AreFrontOf (IsPartFor maker meta)) done.exchanged
+    traffic_breaks old mid new xs halt (AreFrontOf s (ArePartsFor maker metas)) (AreFrontOf s (IsPartFor maker meta)) done.exchanged
     (λ q f.
-    front_before First (ArePartsFor maker metas) (done.exchanged.part ++ q)
+    front_before s some First (ArePartsFor maker metas) (done.exchanged.part ++ q)
     (λ zs first.
     let left = parts_for_front maker before behind meta xs first.0 done.each first.2 in
-    (left.0, subst (λ l. ArePartsFor maker l (zs ++ left.0)) (sym is) (subst (λ l. ArePartsFor maker (before ++ (meta ∷ behind)) (l ++ left.0)) (sym first.1) left.1)))
-    (front_behind (IsPartFor maker meta) First xs done.exchanged.part q done.exchanged.each (λ ys part. (ys, refl, part)) f)) breaks
+    (left.0, subst (λ l. ArePartsFor maker l (zs ++ would_be left.0)) (sym is) (subst (λ l. ArePartsFor maker (before ++ (meta ∷ behind)) (l ++ would_be left.0)) (sym first.1) left.1)))
+    (front_behind s (IsPartFor maker meta) First xs done.exchanged.part q done.exchanged.each (λ ys part. (ys, refl, part)) f))
+    (subst (λ s. BreaksOffIn (AreFrontOf s (IsPartFor maker meta)) mid new halt) (same_sending old.log mid.log done.exchanged.part done.exchanged.goes.grown) breaks)
 
 -- ---- one range
 
@@ -97,7 +99,7 @@ may_list maker d range making there = record {
       subst (λ id. IsAllowed d.log.head.splits id (known_of d.log.part.own) requests.Records) (sym making.whose)
       (record { row = ap call_in making.opened; stamps = All-nil (λ ts. ts ≤ (known_of d.log.part.own).top + 1) });
   goes = there;
-  keeps = λ number. subst (λ id. KeepsAs id d.log.head.splits d.log.pipelining d.log.part.own (events.Send number range requests.Records) None) (sym making.whose) tt;
+  keeps = λ number. subst (λ id. KeepsAs id d.log.head.splits (terms_of d.log) d.log.part.own (events.Send number range requests.Records) None) (sym making.whose) tt;
 }
 
 module _ {C : Type 0} (maker : RoundMaker) (range : ℕ) (old d : DeskMeaning C) (metas : List TxnMeta) (making : IsMakingRound maker old) (x : WasExchangedWith range old d requests.Records (replies.Listed metas)) where
@@ -106,34 +108,43 @@ module _ {C : Type 0} (maker : RoundMaker) (range : ℕ) (old d : DeskMeaning C)
   listing = message_of old d requests.Records (replies.Listed metas) making.back x.exchanged
 
   made-it : HasMadeTraffic old d (listing ∷ [])
-  made-it = made_one old d requests.Records (replies.Listed metas) making.back x.exchanged
+  made-it = made_one old d requests.Records (replies.Listed metas) making.back x.exchanged (λ records. subst (λ r. EachSendsTo r requests.Records x.exchanged.some.lost) (sym x.there) x.before)
 
   -- what it lists may be pushed
   pub may_push_listed : MayPushEach maker d metas
   may_push_listed = record {
     in_round = still_making old d requests.Records (replies.Listed metas) making.back x.exchanged maker making;
     listed =
-        subst (λ l. Any (λ h. h.reply ≡ replies.Listed metas) l) (sym (heard_now_is old d requests.Records (replies.Listed metas) making.back x.exchanged))
-        (any_last (λ (h : Heard). h.reply ≡ replies.Listed metas) (known_of old.log.part.own).heard_now (heard_of old d requests.Records (replies.Listed metas) making.back x.exchanged) refl);
+        any_weaker (IsExchange requests.Records (replies.Listed metas)) (λ h. h.reply ≡ replies.Listed metas) (λ h is. is.told) (known_of d.log.part.own).heard_now
+        (heard_now_there old d requests.Records (replies.Listed metas) making.back x.exchanged);
   }
 
   whole-part : (ys : List RoundMessage) → ArePartsFor maker metas ys → IsPartOf maker range (listing ∷ ys)
-  whole-part ys each = record { listing = listing; after = ys; whole = refl; goes = x.there; asked = refl; metas = metas; lists = refl; each = each }
+  whole-part ys each = record { listing = listing; after = ys; whole = refl; goes = x.there; asked = refl; follows = each }
 
   -- the range had its part
   pub has_visited : (new : DeskMeaning C) → HasDealtWithEach maker metas d new → HasVisited maker range old new
   has_visited new done = record { traffic = listing ∷ done.traffic; exchanged = made_both old d new (listing ∷ []) done.traffic made-it done.exchanged; is = whole-part done.traffic done.each }
 
   -- its list ends in what was listed
-  pub visit_ends_early : (new : DeskMeaning C) (halt : Halt) → BreaksOffIn (AreFrontOf (ArePartsFor maker metas)) d new halt → BreaksOffIn (AreFrontOf (IsPartOf maker range)) old new halt
+  pub visit_ends_early : (new : DeskMeaning C) (halt : Halt) → BreaksOffIn (AreFrontOf (sending_of d.log) (ArePartsFor maker metas)) d new halt → BreaksOffIn (AreFrontOf (sending_of old.log) (IsPartOf maker range)) old new halt
   visit_ends_early new halt breaks = front_breaks old d new (listing ∷ []) halt (IsPartOf maker range) (ArePartsFor maker metas) made-it whole-part breaks
 
 -- or in the listing
-pub listing_ends_early : (maker : RoundMaker) (range : ℕ) (q : List (Pair Event)) → AreFrontOf (IsOneMessageTo range requests.Records (replies.Listed [])) q → AreFrontOf (IsPartOf maker range) q
-listing_ends_early maker range q f =
-    let it = saying range requests.Records (replies.Listed []) in
-    front_weaker (IsOneMessageTo range requests.Records (replies.Listed [])) (IsPartOf maker range) q
-    (λ xs is. subst (λ l. IsPartOf maker range l) (sym is) (record { listing = it; after = []; whole = refl; goes = refl; asked = refl; metas = []; lists = refl; each = refl })) f
+pub listing_ends_early : (s : Sending) (maker : RoundMaker) (range : ℕ) (q : List (Pair Event)) → AreFrontOf s (IsOneMessageTo range requests.Records (replies.Listed [])) q → AreFrontOf s (IsPartOf maker range) q
+listing_ends_early s maker range q f =
+    front_weaker s (IsOneMessageTo range requests.Records (replies.Listed [])) (IsPartOf maker range) q
+    (λ xs is. subst (λ l. IsPartOf maker range l) (sym is.1) (record { listing = said range requests.Records is.0 (replies.Listed []); after = []; whole = refl; goes = refl; asked = refl; follows = refl })) f
+
+-- the listing was given up
+pub unlisted : {C : Type 0} (maker : RoundMaker) (range : ℕ) (old new : DeskMeaning C) → WasLostWith range old new requests.Records → HasVisited maker range old new
+unlisted maker range old new was =
+    let listing = given_up_of old new requests.Records range was.lost in
+    record {
+      traffic = listing ∷ [];
+      exchanged = made_lost old new requests.Records range was.lost (λ records. was.there);
+      is = record { listing = listing; after = []; whole = refl; goes = refl; asked = refl; follows = refl };
+    }
 
 -- ---- all ranges
 
@@ -154,15 +165,17 @@ range_there {C} maker old mid range count done below all =
     omega arith
 
 -- where its list ends in the part of one range, that is a front of the parts of all
-pub visiting_ends_early : {C : Type 0} (maker : RoundMaker) (old mid new : DeskMeaning C) (range count : ℕ) (halt : Halt) → range < count → HasVisitedEach maker range old mid → BreaksOffIn (AreFrontOf (IsPartOf maker range)) mid new halt
-    → BreaksOffIn (AreFrontOf (ArePartsOf maker 0 count)) old new halt
-visiting_ends_early maker old mid new range count halt below done breaks =
+pub visiting_ends_early : {C : Type 0} (maker : RoundMaker) (old mid new : DeskMeaning C) (range count : ℕ) (halt : Halt) → range < count → HasVisitedEach maker range old mid → 1 ≤ old.log.tries
+    → BreaksOffIn (AreFrontOf (sending_of mid.log) (IsPartOf maker range)) mid new halt → BreaksOffIn (AreFrontOf (sending_of old.log) (ArePartsOf maker 0 count)) old new halt
+visiting_ends_early maker old mid new range count halt below done some breaks =
     let xs = done.traffic in
+    let s = sending_of old.log in
     let First : List RoundMessage → Type 0 = λ zs. (ys : List RoundMessage) × (zs ≡ xs ++ ys) × IsPartOf maker range ys in
-    traffic_breaks old mid new xs halt (AreFrontOf (ArePartsOf maker 0 count)) (AreFrontOf (IsPartOf maker range)) done.exchanged
+    traffic_breaks old mid new xs halt (AreFrontOf s (ArePartsOf maker 0 count)) (AreFrontOf s (IsPartOf maker range)) done.exchanged
     (λ q f.
-    front_before First (ArePartsOf maker 0 count) (done.exchanged.part ++ q)
+    front_before s some First (ArePartsOf maker 0 count) (done.exchanged.part ++ q)
     (λ zs first.
     let left = parts_of_front maker range count xs first.0 below done.each first.2 in
-    (left.0, subst (λ l. ArePartsOf maker 0 count (l ++ left.0)) (sym first.1) left.1))
-    (front_behind (IsPartOf maker range) First xs done.exchanged.part q done.exchanged.each (λ ys part. (ys, refl, part)) f)) breaks
+    (left.0, subst (λ l. ArePartsOf maker 0 count (l ++ would_be left.0)) (sym first.1) left.1))
+    (front_behind s (IsPartOf maker range) First xs done.exchanged.part q done.exchanged.each (λ ys part. (ys, refl, part)) f))
+    (subst (λ s. BreaksOffIn (AreFrontOf s (IsPartOf maker range)) mid new halt) (same_sending old.log mid.log done.exchanged.part done.exchanged.goes.grown) breaks)

@@ -10,17 +10,17 @@ use Rattle.pc_follows.specs.WaveEvaluation.{IsSending}
 use Rattle.pc_follows.specs.WaveOrder.{IsHearing}
 use Rattle.pc_history.specs.declared.pair.Pair.{Pair}
 use Rattle.pc_proto.specs.declared.event.Event.{Event}
+use Rattle.pc_proto.specs.declared.event.Event.TheVariants as events
 use Rattle.pc_proto.specs.declared.reply.Reply.{Reply}
 use Rattle.pc_proto.specs.declared.request.Request.{Request}
 use Rattle.pc_recoverer.specs.Exchanges.{AreExchangesIn, RoundMessage, Sending}
 use Rattle.pc_recoverer.specs.Round.{IsWholeRound}
 
 -- The entries are a front of messages that are so: others behind them would make such messages whole.
-pub record AreFrontOf (Are : List RoundMessage → Type 0) (part : List (Pair Event)) : Type 0 where
+pub record AreFrontOf (sending : Sending) (Are : List RoundMessage → Type 0) (part : List (Pair Event)) : Type 0 where
   pub traffic : List RoundMessage
   pub are : Are traffic
   pub rest : List (Pair Event)
-  pub sending : Sending
   pub exchanged : AreExchangesIn sending traffic (part ++ rest)
 
 -- One message, which goes to this range, says this and is answered so after some losses.
@@ -32,12 +32,12 @@ abbrev pub IsOneMessage : Request → Reply → List RoundMessage → Type 0
 IsOneMessage request reply xs = (range : ℕ) × IsOneMessageTo range request reply xs
 
 -- The entries are a front of one message that says this, whatever would have been heard to it.
-abbrev pub AreFrontOfOne : Request → List (Pair Event) → Type 0
-AreFrontOfOne request part = (reply : Reply) → AreFrontOf (IsOneMessage request reply) part
+abbrev pub AreFrontOfOne : Sending → Request → List (Pair Event) → Type 0
+AreFrontOfOne sending request part = (reply : Reply) → AreFrontOf sending (IsOneMessage request reply) part
 
--- They are a front of one that goes to this range.
-abbrev pub AreFrontOfOneTo : ℕ → Request → List (Pair Event) → Type 0
-AreFrontOfOneTo range request part = (reply : Reply) → AreFrontOf (IsOneMessageTo range request reply) part
+-- There is one entry, which sends this to this range.
+abbrev pub IsOneSend : ℕ → Request → List (Pair Event) → Type 0
+IsOneSend range request part = (p : Pair Event) × (number : ℕ) × (part ≡ p ∷ []) × (p.entry.event ≡ events.Send number range request)
 
 -- The entries are a round of this recoverer that is broken off: others behind them, of which there is at least a last one, would make the round
 -- whole.
@@ -70,16 +70,12 @@ pub record HearLast (Are : List (Pair Event) → Type 0) (part : List (Pair Even
 abbrev pub OrHearLast : (List (Pair Event) → Type 0) → List (Pair Event) → Type 0
 OrHearLast Are part = Are part ⊎ HearLast Are part
 
--- What is so of entries with which a list ended so: where it stopped, the last of them may be a hearing.
-abbrev pub AreAtHalt : Halt → (List (Pair Event) → Type 0) → List (Pair Event) → Type 0
-AreAtHalt halts.Stopped Are part = OrHearLast Are part
-AreAtHalt halt Are part = Are part
-
 -- The actor made entries that are so, and then no more: its list has ended.
 pub record HasBrokenOffIn {C : Type 0} (Are : List (Pair Event) → Type 0) (old new : DeskMeaning C) : Type 0 where
   pub broke : HasBrokenOff (λ made. ⊤) old new
   pub are : Are broke.part
 
--- Where it had not stopped: its list broke off so, or memory was wanted.
+-- Where it had not stopped: its list broke off so, or with a last entry that hears a reply, at which it stopped, or behind which a range that is full
+-- refused a message that was held back; or memory was wanted.
 abbrev pub BreaksOffIn : {C : Type 0} → (List (Pair Event) → Type 0) → DeskMeaning C → DeskMeaning C → Halt → Type 0
-BreaksOffIn Are old new halt = old.log.stopped ≡ false → IsEndedBy halt (HasBrokenOffIn (AreAtHalt halt Are) old new)
+BreaksOffIn Are old new halt = old.log.stopped ≡ false → IsEndedBy halt (HasBrokenOffIn (OrHearLast Are) old new)

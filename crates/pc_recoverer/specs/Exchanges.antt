@@ -6,11 +6,13 @@ use Rattle.pc_proto.specs.declared.event.Event.{Event}
 use Rattle.pc_proto.specs.declared.event.Event.TheVariants as events
 use Rattle.pc_proto.specs.declared.reply.Reply.{Reply}
 use Rattle.pc_proto.specs.declared.request.Request.{Request}
+use Rattle.pc_proto.specs.declared.request.Request.TheVariants as requests
 use Rattle.pc_wire.specs.declared.verdict.Verdict.{Verdict}
 use Rattle.pc_wire.specs.Verdicts.{is_losing}
 use Rattle.pc_world.specs.Known.Traffic.{reply_named}
 
 -- A message: the range that it went to, what it said, how often it was sent and lost, and the reply that was heard to it then, if one was.
+-- Of one that names a key and was given up, the range says nothing: it went to that of its key.
 pub record RoundMessage : Type 0 where
   pub range : ℕ
   pub request : Request
@@ -23,16 +25,18 @@ pub record Sending : Type 0 where
   pub tries : ℕ
 
 module _ (s : Sending) where
-  -- The entry sends the message, and its verdict loses it.
+  -- The entry sends the message, and its verdict loses it. A listing goes to the message's range; what names a key can go only to the range of that.
   pub record IsLostSend (x : RoundMessage) (p : Pair Event) : Type 0 where
     pub number : ℕ
-    pub sends : p.entry.event ≡ events.Send number x.range x.request
+    pub range : ℕ
+    pub sends : p.entry.event ≡ events.Send number range x.request
+    pub goes : x.request ≡ requests.Records → range ≡ x.range
     pub loses : is_losing (s.verdict number) ≡ true
 
   -- The entries send the message so often, and it is lost each time.
-  abbrev pub AreLostSends : RoundMessage → ℕ → List (Pair Event) → Type 0
-  AreLostSends x zero part = part ≡ []
-  AreLostSends x (suc more) part = (p : Pair Event) × (rest : List (Pair Event)) × (part ≡ p ∷ rest) × IsLostSend x p × AreLostSends x more rest
+  abbrev pub AreSentInVain : RoundMessage → ℕ → List (Pair Event) → Type 0
+  AreSentInVain x zero part = part ≡ []
+  AreSentInVain x (suc more) part = (p : Pair Event) × (rest : List (Pair Event)) × (part ≡ p ∷ rest) × IsLostSend x p × AreSentInVain x more rest
 
   -- The two entries send the message and hear this reply to it.
   pub record IsExchangeIn (x : RoundMessage) (reply : Reply) (send hear : Pair Event) : Type 0 where
@@ -52,7 +56,7 @@ module _ (s : Sending) where
     pub losses : List (Pair Event)
     pub end : List (Pair Event)
     pub whole : part ≡ losses ++ end
-    pub lost : AreLostSends x x.lost losses
+    pub lost : AreSentInVain x x.lost losses
     pub ends : EndsMessage x x.reply end
 
   -- The entries are those of these messages, one after another, and no others.

@@ -1,11 +1,11 @@
 -- A recoverer in its round, and what it does there.
-use Rattle.std.specs.Prelude.{◌≡◌, ℕ, ◌+◌, ◌≤◌, true, is_some, Some, List, [], All, Any, IsTrue}
+use Rattle.std.specs.Prelude.{◌≡◌, ℕ, ◌+◌, ◌≤◌, true, is_some, Some, List, [], ◌∷◌, All, Any, IsTrue}
 use Rattle.pc_base.specs.declared.actor.ActorId.{ActorId}
 use Rattle.pc_base.specs.declared.actor.ActorId.TheVariants as actors
 use Rattle.pc_base.specs.declared.transaction.TxnId.{TxnId}
 use Rattle.pc_desk.specs.Desk.{DeskMeaning, HasSentNext}
 use Rattle.pc_desk.specs.OwnLog.{LogMeaning, verdict_of}
-use Rattle.pc_exchange.specs.Exchange.{HasLostAll, WasExchanged}
+use Rattle.pc_exchange.specs.Exchange.{HasLostAll, HasLostSome, WasExchanged, WasExchangedOnce, sent_pair}
 use Rattle.pc_exchange.specs.Growing.{HasAllBack, HasGoneBeside}
 use Rattle.pc_history.specs.declared.pair.Pair.{Pair}
 use Rattle.pc_proto.specs.declared.call.Call.TheVariants as calls
@@ -25,8 +25,9 @@ use Rattle.pc_recoverer.specs.Exchanges.{AreDoneInTurn, AreExchangesIn, AreGiven
 use Rattle.pc_recoverer.specs.Recovered.{IsDecision}
 use Rattle.pc_recoverer.specs.Round.{ArePartsFor, ArePartsOf, IsPartFor, IsPartOf}
 use Rattle.pc_recoverer.specs.Settled.{settling_of}
+use Rattle.pc_wire.specs.Verdicts.{is_losing}
 use Rattle.pc_world.specs.Exchange.{IsLater}
-use Rattle.pc_world.specs.Known.{known_of}
+use Rattle.pc_world.specs.Known.{known_of, next_number}
 use Rattle.pc_world.specs.Known.Traffic.{Heard}
 use Rattle.pc_world.specs.Send.Push.{ListsRecord}
 use Rattle.pc_world.specs.Send.Recovery.{WasStaging}
@@ -36,10 +37,11 @@ use Rattle.pc_world.specs.Views.{anchor_heard}
 abbrev pub IsRecoverer : ActorId → Type 0
 IsRecoverer id = (number : ℕ) × (id ≡ actors.Recoverer number)
 
--- The actor is a recoverer, in a round.
+-- The actor is a recoverer, in a round, and began no transaction.
 pub record IsRecovererInRound {C : Type 0} (d : DeskMeaning C) : Type 0 where
   pub whose : IsRecoverer d.log.part.id
   pub opened : is_some (known_of d.log.part.own).statement ≡ true
+  pub unbegun : (known_of d.log.part.own).txns ≡ []
 
 -- No message of the recoverer was on its way, and then it sent one, in a round.
 pub record HasOneAway {C : Type 0} (d : DeskMeaning C) : Type 0 where
@@ -51,15 +53,36 @@ pub record HasOneAway {C : Type 0} (d : DeskMeaning C) : Type 0 where
   pub sent : HasSentNext before d number request
   pub opened : is_some (known_of d.log.part.own).statement ≡ true
 
--- The recoverer sent this message to this range, and heard this reply.
+-- The recoverer sent this message once, to this range, and heard this reply.
+pub record WasHeardOnce {C : Type 0} (range : ℕ) (old new : DeskMeaning C) (request : Request) (reply : Reply) : Type 0 where
+  pub once : WasExchangedOnce old new request reply
+  pub there : once.range ≡ range
+
+-- The recoverer sent this message once, to this range, and its verdict lost it.
+pub record WasLostOnce {C : Type 0} (range : ℕ) (old new : DeskMeaning C) (request : Request) : Type 0 where
+  pub sent_at : ℕ
+  pub goes : HasGoneBeside old new (sent_pair old.log.part.id sent_at (next_number (known_of old.log.part.own)) range request ∷ [])
+  pub loses : is_losing (verdict_of old.log (next_number (known_of old.log.part.own))) ≡ true
+
+-- Each of these entries sends this to this range.
+abbrev pub EachSendsTo : ℕ → Request → List (Pair Event) → Type 0
+EachSendsTo range request part = All (λ p. (number : ℕ) × (p.entry.event ≡ events.Send number range request)) part
+
+-- The recoverer sent this message to this range some times, and heard nothing of it.
+pub record HasLostSomeTo {C : Type 0} (range : ℕ) (old new : DeskMeaning C) (request : Request) : Type 0 where
+  pub some : HasLostSome old new request
+  pub there : EachSendsTo range request some.lost
+
+-- The recoverer sent this message to this range, some times in vain, and heard this reply.
 pub record WasExchangedWith {C : Type 0} (range : ℕ) (old new : DeskMeaning C) (request : Request) (reply : Reply) : Type 0 where
   pub exchanged : WasExchanged old new request reply
-  pub there : exchanged.range ≡ range
+  pub there : exchanged.once.range ≡ range
+  pub before : EachSendsTo range request exchanged.some.lost
 
 -- The recoverer sent this message to this range as often as its tries, and heard nothing of it.
 pub record WasLostWith {C : Type 0} (range : ℕ) (old new : DeskMeaning C) (request : Request) : Type 0 where
   pub lost : HasLostAll old new request
-  pub there : All (λ p. (number : ℕ) × (p.entry.event ≡ events.Send number range request)) lost.lost
+  pub there : EachSendsTo range request lost.some.lost
 
 -- The recoverer is in this round, no message of it is on its way, and it began no transaction.
 pub record IsMakingRound {C : Type 0} (maker : RoundMaker) (d : DeskMeaning C) : Type 0 where

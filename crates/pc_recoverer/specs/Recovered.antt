@@ -1,6 +1,6 @@
 -- How a recoverer recovers a transaction whose record its push met staging: each listed write is asked for in order, up to the first that is
 -- missing; then the record is decided by what was found. RFC 20180324, "Transaction recovery"; ParallelCommits TLA+.
-use Rattle.std.specs.Prelude.{◌≡◌, ℕ, Some, List, [], ◌∷◌, ◌++◌, map, All}
+use Rattle.std.specs.Prelude.{◌≡◌, ℕ, ◌⊎◌, None, Some, List, [], ◌∷◌, ◌++◌, map, All}
 use Rattle.pc_base.specs.declared.transaction.Who.{Who}
 use Rattle.pc_base.specs.declared.transaction.Who.TheVariants as whos
 use Rattle.pc_proto.specs.declared.fate.Finding.{Finding}
@@ -11,7 +11,7 @@ use Rattle.pc_proto.specs.declared.reply.Reply.TheVariants as replies
 use Rattle.pc_proto.specs.declared.request.Request.{Request}
 use Rattle.pc_proto.specs.declared.request.Request.TheVariants as requests
 use Rattle.pc_recoverer.specs.declared.maker.RoundMaker.{RoundMaker}
-use Rattle.pc_recoverer.specs.Exchanges.{AreGivenUp, RoundMessage, requests_of}
+use Rattle.pc_recoverer.specs.Exchanges.{RoundMessage, requests_of}
 use Rattle.pc_recoverer.specs.Settled.{SettlesBy}
 
 -- The recoverer's own name.
@@ -57,13 +57,32 @@ module _ (maker : RoundMaker) (meta : TxnMeta) (epoch ts : ℕ) where
     pub asked : decision.request ≡ requests.Recover meta.id epoch ts meta.anchor finding
     pub is_told : decision.reply ≡ Some told
 
-  -- These messages begin to decide the record, and are given up: with a query of a write, those before which were found, or with the decision.
-  pub record IsLeftUndecided (writes : List (List ℕ × ℕ)) (xs : List RoundMessage) : Type 0 where
-    pub given_up : AreGivenUp xs
+  -- The writes were asked for, in their order, and found, up to one whose query was given up; those behind it were not asked for.
+  pub record IsLeftAtQuery (writes : List (List ℕ × ℕ)) (xs : List RoundMessage) : Type 0 where
+    pub found : List (List ℕ × ℕ)
+    pub next : List ℕ × ℕ
+    pub unasked : List (List ℕ × ℕ)
+    pub listed : writes ≡ found ++ (next ∷ unasked)
+    pub before : List RoundMessage
+    pub last : RoundMessage
+    pub whole : xs ≡ before ++ last ∷ []
+    pub all_found : WereAllFound found before
+    pub asked : last.request ≡ query_for maker meta epoch ts next
+    pub lost : last.reply ≡ None
+
+  -- These messages ask for the writes, and the last one, which decides by what was found, was given up.
+  pub record IsLeftAtDecision (writes : List (List ℕ × ℕ)) (xs : List RoundMessage) : Type 0 where
+    pub queries : List RoundMessage
+    pub decision : RoundMessage
+    pub whole : xs ≡ queries ++ decision ∷ []
     pub finding : Finding
-    pub behind : List Request
-    pub begun : requests_of xs ++ behind ≡ map (query_for maker meta epoch ts) writes ++ requests.Recover meta.id epoch ts meta.anchor finding ∷ []
-    pub found : All (λ x. x.reply ≡ Some replies.Found) given_up.heard
+    pub queried : HasQueried writes finding queries
+    pub asked : decision.request ≡ requests.Recover meta.id epoch ts meta.anchor finding
+    pub lost : decision.reply ≡ None
+
+  -- These messages begin to decide the record, and are given up: with the query of a write, or with the decision.
+  abbrev pub IsLeftUndecided : List (List ℕ × ℕ) → List RoundMessage → Type 0
+  IsLeftUndecided writes xs = IsLeftAtQuery writes xs ⊎ IsLeftAtDecision writes xs
 
   -- These messages decide the record, and do what the view asks for that is left of it.
   pub record IsRecovered (writes : List (List ℕ × ℕ)) (xs : List RoundMessage) : Type 0 where

@@ -1,7 +1,7 @@
 ghost use Rattle.std.specs.Prelude.{◌≡◌, IfErr, OnOk};
 ghost use Rattle.pc_desk.specs.Desk.{HasHalted};
 ghost use Rattle.pc_recoverer.specs.Broken.{AreFrontOf, BreaksOffIn};
-ghost use Rattle.pc_recoverer.specs.InRound.{HasDealtWith, MayPushNow};
+ghost use Rattle.pc_recoverer.specs.InRound.{HasDealtWith, MayPushNow, sending_of};
 ghost use Rattle.pc_recoverer.specs.Round.{IsPartFor};
 
 use crate::maker::RoundMaker;
@@ -29,7 +29,7 @@ pub(crate) fn deal_with<N: Named<CommitWorld>, C: Clock, V: Wire, G: Gate, R: Wa
     ensures ok { OnOk result (HasDealtWith maker meta.now desk.old desk.new) }
     ensures clock { desk.new.log.clock ≡ desk.old.log.clock }
     ensures err { IfErr result (HasHalted desk.old desk.new) }
-    ensures ended { IfErr result (BreaksOffIn (AreFrontOf (IsPartFor maker meta.now)) desk.old desk.new) }
+    ensures ended { IfErr result (BreaksOffIn (AreFrontOf (sending_of desk.old.log) (IsPartFor maker meta.now)) desk.old desk.new) }
 {
     let holder = match meta.copy() {
         Ok(holder) => holder,

@@ -1,13 +1,14 @@
 ghost use Rattle.std.specs.Prelude.{◌≡◌, ℕ, IfErr, IfNone, IfOk, IfSome, List};
 ghost use Rattle.pc_desk.specs.Desk.{DeskMeaning, HasHalted, HasSentNext, MaySendNow, MaySendTo};
-ghost use Rattle.pc_exchange.specs.Exchange.{HasLostAll, HasLostOne, WasExchanged};
+ghost use Rattle.pc_exchange.specs.Exchange.{HasLostAll, WasExchanged};
 ghost use Rattle.pc_exchange.specs.Growing.{HasAllBack};
 ghost use Rattle.pc_proto.specs.declared.meta.TxnMeta.{TxnMeta};
 ghost use Rattle.pc_proto.specs.declared.reply.Reply.TheVariants as replies;
 ghost use Rattle.pc_proto.specs.declared.request.Request.{Request};
 ghost use Rattle.pc_proto.specs.declared.request.Request.TheVariants as requests;
-ghost use Rattle.pc_recoverer.specs.Broken.{AreFrontOf, AreFrontOfOne, AreFrontOfOneTo, BreaksOffIn, IsOneMessageTo};
-ghost use Rattle.pc_recoverer.specs.InRound.{HasOneAway, IsRecovererInRound, WasExchangedWith, WasLostWith};
+ghost use Rattle.pc_recoverer.specs.Broken.{AreFrontOf, AreFrontOfOne, BreaksOffIn, IsOneMessageTo, IsOneSend};
+ghost use Rattle.pc_recoverer.specs.InRound.{HasOneAway, IsRecovererInRound, WasExchangedWith, WasHeardOnce, WasLostOnce, WasLostWith, sending_of};
+ghost use Rattle.pc_wave.specs.Standing.{goes_beside};
 
 use pc_base::{NoMemory, TryCopy};
 use pc_clock::Clock;
@@ -29,21 +30,21 @@ pub(crate) fn exchange<N: Named<CommitWorld>, C: Clock, V: Wire, G: Gate, R: Wai
     requires back { HasAllBack desk.old }
     requires client { IsRecovererInRound desk.old }
     requires may { MaySendNow desk.old.log request }
+    requires kind { goes_beside request ≡ true }
     ensures heard { IfOk result (λ reply. IfSome reply (WasExchanged desk.old desk.new request)) }
     ensures lost { IfOk result (λ reply. IfNone reply (HasLostAll desk.old desk.new request)) }
     ensures clock { desk.new.log.clock ≡ desk.old.log.clock }
     ensures err { IfErr result (HasHalted desk.old desk.new) }
-    ensures ended { IfErr result (BreaksOffIn (AreFrontOfOne request) desk.old desk.new) }
+    ensures ended { IfErr result (BreaksOffIn (AreFrontOfOne (sending_of desk.old.log) request) desk.old desk.new) }
 {
-    for _ in 0..desk.tries() {
+    for _sending in 0..desk.tries() {
         let copy = match request.copy() {
             Ok(copy) => copy,
             Err(NoMemory) => return Err(desk.want_memory()),
         };
         desk.send(copy)?;
-        let reply = hear_reply(desk, rt)?;
-        if reply.is_some() {
-            return Ok(reply);
+        if let Some(reply) = hear_reply(desk, rt)? {
+            return Ok(Some(reply));
         }
     }
     Ok(None)
@@ -62,9 +63,9 @@ pub(crate) fn list_records<N: Named<CommitWorld>, C: Clock, V: Wire, G: Gate, R:
     ensures lost { IfOk result (λ metas. IfNone metas (WasLostWith range desk.old desk.new requests.Records)) }
     ensures clock { desk.new.log.clock ≡ desk.old.log.clock }
     ensures err { IfErr result (HasHalted desk.old desk.new) }
-    ensures ended { (metas : List TxnMeta) → IfErr result (BreaksOffIn (AreFrontOf (IsOneMessageTo range requests.Records (replies.Listed metas))) desk.old desk.new) }
+    ensures ended { (metas : List TxnMeta) → IfErr result (BreaksOffIn (AreFrontOf (sending_of desk.old.log) (IsOneMessageTo range requests.Records (replies.Listed metas))) desk.old desk.new) }
 {
-    for _ in 0..desk.tries() {
+    for _sending in 0..desk.tries() {
         desk.send_to(range, Request::Records)?;
         match hear_reply(desk, rt)? {
             Some(Reply::Listed(metas)) => return Ok(Some(metas)),
@@ -82,11 +83,11 @@ fn hear_reply<N: Named<CommitWorld>, C: Clock, V: Wire, G: Gate, R: Wait>(
     rt: &R,
 ) -> Result<Option<Reply>, Halt>
     requires { HasOneAway desk.old }
-    ensures heard { (before : DeskMeaning C) (request : Request) (number : ℕ) (sent : HasSentNext before desk.old number request) → HasAllBack before → IfOk result (λ reply. IfSome reply (λ told. WasExchangedWith sent.range before desk.new request told)) }
-    ensures lost { (before : DeskMeaning C) (request : Request) (number : ℕ) (sent : HasSentNext before desk.old number request) → HasAllBack before → IfOk result (λ reply. IfNone reply (HasLostOne before desk.new request)) }
+    ensures heard { (before : DeskMeaning C) (request : Request) (number : ℕ) (sent : HasSentNext before desk.old number request) → HasAllBack before → IfOk result (λ reply. IfSome reply (WasHeardOnce sent.range before desk.new request)) }
+    ensures lost { (before : DeskMeaning C) (request : Request) (number : ℕ) (sent : HasSentNext before desk.old number request) → HasAllBack before → IfOk result (λ reply. IfNone reply (WasLostOnce sent.range before desk.new request)) }
     ensures clock { desk.new.log.clock ≡ desk.old.log.clock }
     ensures err { IfErr result (HasHalted desk.old desk.new) }
-    ensures ended { (before : DeskMeaning C) (request : Request) (number : ℕ) (sent : HasSentNext before desk.old number request) → IfErr result (BreaksOffIn (AreFrontOfOneTo sent.range request) before desk.new) }
+    ensures ended { (before : DeskMeaning C) (request : Request) (number : ℕ) (sent : HasSentNext before desk.old number request) → IfErr result (BreaksOffIn (IsOneSend sent.range request) before desk.new) }
 {
     desk.deliver(rt)?;
     let reply = hear_one(desk)?;

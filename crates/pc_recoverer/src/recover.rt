@@ -9,9 +9,10 @@ ghost use Rattle.pc_proto.specs.declared.view.View.{View};
 ghost use Rattle.pc_recover.specs.Recovering.{recovering_next};
 ghost use Rattle.pc_recoverer.specs.declared.maker.RoundMaker.{RoundMaker};
 ghost use Rattle.pc_recoverer.specs.Broken.{AreFrontOf, AreFrontOfOne, BreaksOffIn};
-ghost use Rattle.pc_recoverer.specs.InRound.{HasLeftOff, HasRecovered, IsRecovererInRound, MayRecoverNow};
+ghost use Rattle.pc_recoverer.specs.InRound.{HasLeftOff, HasRecovered, IsRecovererInRound, MayRecoverNow, sending_of};
 ghost use Rattle.pc_recoverer.specs.Round.{FollowsPush};
 ghost use Rattle.pc_recoverer.specs.UnderWay.{IsBeingRecovered};
+ghost use Rattle.pc_wave.specs.Standing.{goes_beside};
 
 use crate::maker::RoundMaker;
 use crate::message::exchange;
@@ -39,7 +40,7 @@ pub(crate) fn recover<N: Named<CommitWorld>, C: Clock, V: Wire, G: Gate, R: Wait
     ensures lost { IfOk result (λ view. IfNone view (HasLeftOff (FollowsPush maker meta.now (replies.Unsure met)) desk.old desk.new)) }
     ensures clock { desk.new.log.clock ≡ desk.old.log.clock }
     ensures err { IfErr result (HasHalted desk.old desk.new) }
-    ensures ended { IfErr result (BreaksOffIn (AreFrontOf (FollowsPush maker meta.now (replies.Unsure met))) desk.old desk.new) }
+    ensures ended { IfErr result (BreaksOffIn (AreFrontOf (sending_of desk.old.log) (FollowsPush maker meta.now (replies.Unsure met))) desk.old desk.new) }
 {
     let holder = match meta.copy() {
         Ok(holder) => holder,
@@ -75,11 +76,12 @@ fn recover_on<N: Named<CommitWorld>, C: Clock, V: Wire, G: Gate, R: Wait>(
     requires back { HasAllBack desk.old }
     requires client { IsRecovererInRound desk.old }
     requires may { MaySendNow desk.old.log request }
+    requires kind { goes_beside request ≡ true }
     ensures ok { (maker : RoundMaker) (old : DeskMeaning C) (meta : TxnMeta) (met : View) → IsBeingRecovered maker old meta met machine.old desk.old → recovering_next machine.old ≡ machines.Send request → IfOk result (λ heard. heard ≡ true → IsBeingRecovered maker old meta met machine.new desk.new) }
     ensures lost { IfOk result (λ heard. heard ≡ false → HasLostAll desk.old desk.new request) }
     ensures clock { desk.new.log.clock ≡ desk.old.log.clock }
     ensures err { IfErr result (HasHalted desk.old desk.new) }
-    ensures ended { IfErr result (BreaksOffIn (AreFrontOfOne request) desk.old desk.new) }
+    ensures ended { IfErr result (BreaksOffIn (AreFrontOfOne (sending_of desk.old.log) request) desk.old desk.new) }
 {
     let Some(reply) = exchange(desk, rt, request)? else {
         return Ok(false);

@@ -7,10 +7,11 @@ ghost use Rattle.pc_proto.specs.declared.machine.MachineNext.TheVariants as mach
 ghost use Rattle.pc_proto.specs.declared.meta.TxnMeta.{TxnMeta};
 ghost use Rattle.pc_recoverer.specs.Broken.{AreFrontOf, AreFrontOfOne, BreaksOffIn};
 ghost use Rattle.pc_recoverer.specs.Exchanges.{AreDoneInTurn};
-ghost use Rattle.pc_recoverer.specs.InRound.{HasSettled, IsRecovererInRound, MaySettleNow};
+ghost use Rattle.pc_recoverer.specs.InRound.{HasSettled, IsRecovererInRound, MaySettleNow, sending_of};
 ghost use Rattle.pc_recoverer.specs.Settled.{settling_of, settling_with};
 ghost use Rattle.pc_recoverer.specs.UnderWay.{HasFinishedListed, IsBeingSettled, MayFinishInRound};
 ghost use Rattle.pc_resolve.specs.Resolving.{finishing_next};
+ghost use Rattle.pc_wave.specs.Standing.{goes_beside};
 
 use crate::message::exchange;
 use pc_base::{NoMemory, TryCopy};
@@ -35,7 +36,7 @@ pub(crate) fn settle<N: Named<CommitWorld>, C: Clock, V: Wire, G: Gate, R: Wait>
     ensures ok { OnOk result (HasSettled meta.now view desk.old desk.new) }
     ensures clock { desk.new.log.clock ≡ desk.old.log.clock }
     ensures err { IfErr result (HasHalted desk.old desk.new) }
-    ensures ended { IfErr result (BreaksOffIn (AreFrontOf (AreDoneInTurn (settling_of meta.now view))) desk.old desk.new) }
+    ensures ended { IfErr result (BreaksOffIn (AreFrontOf (sending_of desk.old.log) (AreDoneInTurn (settling_of meta.now view))) desk.old desk.new) }
 {
     match view {
         View::Committed { epoch, ts, locks } => {
@@ -60,7 +61,7 @@ fn settle_locks<N: Named<CommitWorld>, C: Clock, V: Wire, G: Gate, R: Wait>(
     ensures ok { OnOk result (HasFinishedListed desk.old desk.new meta.now fate locks) }
     ensures clock { desk.new.log.clock ≡ desk.old.log.clock }
     ensures err { IfErr result (HasHalted desk.old desk.new) }
-    ensures ended { IfErr result (BreaksOffIn (AreFrontOf (AreDoneInTurn (settling_with meta.now fate locks))) desk.old desk.new) }
+    ensures ended { IfErr result (BreaksOffIn (AreFrontOf (sending_of desk.old.log) (AreDoneInTurn (settling_with meta.now fate locks))) desk.old desk.new) }
 {
     let anchor = match meta.anchor.copy() {
         Ok(anchor) => anchor,
@@ -97,11 +98,12 @@ fn settle_on<N: Named<CommitWorld>, C: Clock, V: Wire, G: Gate, R: Wait>(
     requires back { HasAllBack desk.old }
     requires client { IsRecovererInRound desk.old }
     requires may { MaySendNow desk.old.log request }
+    requires kind { goes_beside request ≡ true }
     ensures ok { (old : DeskMeaning C) (meta : TxnMeta) (fate : Fate) (locks : List (List ℕ)) → IsBeingSettled old meta fate locks machine.old desk.old → finishing_next machine.old ≡ machines.Send request → IfOk result (λ heard. heard ≡ true → IsBeingSettled old meta fate locks machine.new desk.new) }
     ensures lost { IfOk result (λ heard. heard ≡ false → HasLostAll desk.old desk.new request) }
     ensures clock { desk.new.log.clock ≡ desk.old.log.clock }
     ensures err { IfErr result (HasHalted desk.old desk.new) }
-    ensures ended { IfErr result (BreaksOffIn (AreFrontOfOne request) desk.old desk.new) }
+    ensures ended { IfErr result (BreaksOffIn (AreFrontOfOne (sending_of desk.old.log) request) desk.old desk.new) }
 {
     let Some(reply) = exchange(desk, rt, request)? else {
         return Ok(false);

@@ -1,7 +1,7 @@
 ghost use Rattle.std.specs.Prelude.{◌≡◌, ◌+◌, ◌≤◌, length, IfErr, OnOk};
 ghost use Rattle.pc_desk.specs.Desk.{HasHalted};
 ghost use Rattle.pc_recoverer.specs.Broken.{AreFrontOf, BreaksOffIn};
-ghost use Rattle.pc_recoverer.specs.InRound.{HasDealtWithEach, HasVisited, HasVisitedEach, IsMakingRound, MayPushEach};
+ghost use Rattle.pc_recoverer.specs.InRound.{HasDealtWithEach, HasVisited, HasVisitedEach, IsMakingRound, MayPushEach, sending_of};
 ghost use Rattle.pc_recoverer.specs.Round.{ArePartsFor, ArePartsOf, IsPartOf};
 
 use crate::listed::deal_with;
@@ -27,7 +27,7 @@ pub(crate) fn visit_each<N: Named<CommitWorld>, C: Clock, V: Wire, G: Gate, R: W
     ensures ok { OnOk result (HasVisitedEach maker ranges desk.old desk.new) }
     ensures clock { desk.new.log.clock ≡ desk.old.log.clock }
     ensures err { IfErr result (HasHalted desk.old desk.new) }
-    ensures ended { IfErr result (BreaksOffIn (AreFrontOf (ArePartsOf maker 0 ranges)) desk.old desk.new) }
+    ensures ended { IfErr result (BreaksOffIn (AreFrontOf (sending_of desk.old.log) (ArePartsOf maker 0 ranges)) desk.old desk.new) }
 {
     for range in 0..ranges {
         visit(desk, rt, maker, range)?;
@@ -48,7 +48,7 @@ fn visit<N: Named<CommitWorld>, C: Clock, V: Wire, G: Gate, R: Wait>(
     ensures ok { OnOk result (HasVisited maker range desk.old desk.new) }
     ensures clock { desk.new.log.clock ≡ desk.old.log.clock }
     ensures err { IfErr result (HasHalted desk.old desk.new) }
-    ensures ended { IfErr result (BreaksOffIn (AreFrontOf (IsPartOf maker range)) desk.old desk.new) }
+    ensures ended { IfErr result (BreaksOffIn (AreFrontOf (sending_of desk.old.log) (IsPartOf maker range)) desk.old desk.new) }
 {
     let Some(metas) = list_records(desk, rt, range)? else {
         return Ok(());
@@ -67,7 +67,7 @@ fn deal_with_each<N: Named<CommitWorld>, C: Clock, V: Wire, G: Gate, R: Wait>(
     ensures ok { OnOk result (HasDealtWithEach maker metas.now desk.old desk.new) }
     ensures clock { desk.new.log.clock ≡ desk.old.log.clock }
     ensures err { IfErr result (HasHalted desk.old desk.new) }
-    ensures ended { IfErr result (BreaksOffIn (AreFrontOf (ArePartsFor maker metas.now)) desk.old desk.new) }
+    ensures ended { IfErr result (BreaksOffIn (AreFrontOf (sending_of desk.old.log) (ArePartsFor maker metas.now)) desk.old desk.new) }
 {
     for meta in metas {
         deal_with(desk, rt, maker, meta)?;

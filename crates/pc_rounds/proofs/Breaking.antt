@@ -13,7 +13,9 @@ use Rattle.pc_exchange.proofs.Called.{all_heard_ever}
 use Rattle.pc_exchange.specs.Ending.{HasBrokenOff, IsEndedBy}
 use Rattle.pc_history.specs.declared.pair.Pair.{Pair}
 use Rattle.pc_proto.specs.declared.event.Event.{Event}
-use Rattle.pc_recoverer.specs.Broken.{AreAtHalt, AreOfBrokenRound, AreOfEndedRound, BreaksOffIn, HasBrokenOffIn, OrHearLast}
+use Rattle.pc_recoverer.specs.Broken.{AreOfBrokenRound, AreOfEndedRound, BreaksOffIn, HasBrokenOffIn, OrHearLast}
+use Rattle.pc_recoverer.specs.Exchanges.{Sending}
+use Rattle.pc_recoverer.specs.InRound.{sending_of}
 use Rattle.pc_recoverer.specs.Recoverer.{RecovererMeaning}
 use Rattle.pc_recoverer.specs.Round.{IsWholeRound}
 use Rattle.pc_rounds.proofs.Events.{ended_events, ended_round, heard_asks, whole_asks, whole_events}
@@ -45,7 +47,7 @@ more_or_all made rounds less = by (suc made) rounds (omega arith)
 
 module _ {C : Type 0} (old : CountedMeaning C) (new : RecovererMeaning C) (counted : GoesInRounds old) (going : old.recoverer.desk.log.stopped ≡ false) (left : old.made < old.rounds) (number : new.number ≡ old.recoverer.number) (level : new.level ≡ old.recoverer.level)
     (broke : HasBrokenOff (λ made. ⊤) old.recoverer.desk new.desk)
-    (are : IsWholeRound old.recoverer.desk.log.head.splits old.recoverer.number old.recoverer.level broke.part ⊎ OrHearLast (AreOfBrokenRound old.recoverer.desk.log.head.splits old.recoverer.number old.recoverer.level) broke.part) where
+    (are : IsWholeRound (sending_of old.recoverer.desk.log) old.recoverer.desk.log.head.splits old.recoverer.number old.recoverer.level broke.part ⊎ OrHearLast (AreOfBrokenRound (sending_of old.recoverer.desk.log) old.recoverer.desk.log.head.splits old.recoverer.number old.recoverer.level) broke.part) where
   abbrev then : CountedMeaning C
   then = record { recoverer = new; rounds = old.rounds; made = old.made }
 
@@ -73,33 +75,33 @@ module _ {C : Type 0} (old : CountedMeaning C) (new : RecovererMeaning C) (count
   stop-then = log-is (λ l. l.stop ≡ old.recoverer.desk.log.stop) refl
 
   -- All rounds were made, or fewer.
-  abbrev Stops : List (List ℕ) → ℕ → Priority → Type 0
-  Stops splits n l = AreWholeRounds splits n l old.rounds new.desk.log.part.own ⊎ StopsBefore splits n l old.rounds new.desk.log.part.own
+  abbrev Stops : Sending → List (List ℕ) → ℕ → Priority → Type 0
+  Stops s splits n l = AreWholeRounds s splits n l old.rounds new.desk.log.part.own ⊎ StopsBefore s splits n l old.rounds new.desk.log.part.own
 
   -- with one more, or broken off in it
-  stops-here : Stops old.recoverer.desk.log.head.splits old.recoverer.number old.recoverer.level
+  stops-here : Stops (sending_of old.recoverer.desk.log) old.recoverer.desk.log.head.splits old.recoverer.number old.recoverer.level
   stops-here = by are
     where
-      by : IsWholeRound old.recoverer.desk.log.head.splits old.recoverer.number old.recoverer.level part ⊎ OrHearLast (AreOfBrokenRound old.recoverer.desk.log.head.splits old.recoverer.number old.recoverer.level) part
-          → Stops old.recoverer.desk.log.head.splits old.recoverer.number old.recoverer.level
+      by : IsWholeRound (sending_of old.recoverer.desk.log) old.recoverer.desk.log.head.splits old.recoverer.number old.recoverer.level part ⊎ OrHearLast (AreOfBrokenRound (sending_of old.recoverer.desk.log) old.recoverer.desk.log.head.splits old.recoverer.number old.recoverer.level) part
+          → Stops (sending_of old.recoverer.desk.log) old.recoverer.desk.log.head.splits old.recoverer.number old.recoverer.level
       by (inr broken) = inr (record { made = old.made; fewer = left; earlier = entries_made old; last = part; whole = broke.own; are = goes.are; broken = inr broken })
       by (inl whole) =
           let splits = old.recoverer.desk.log.head.splits in
-          let one : AreWholeRounds splits old.recoverer.number old.recoverer.level (suc old.made) new.desk.log.part.own = (entries_made old, part, broke.own, goes.are, whole) in
+          let one : AreWholeRounds (sending_of old.recoverer.desk.log) splits old.recoverer.number old.recoverer.level (suc old.made) new.desk.log.part.own = (entries_made old, part, broke.own, goes.are, whole) in
           elim (more_or_all old.made old.rounds left) [
             | inl more ↦ inr (record { made = suc old.made; fewer = more; earlier = new.desk.log.part.own; last = []; whole = sym (append-nil new.desk.log.part.own); are = one; broken = inl refl })
-            | inr all ↦ inl (subst (λ n. AreWholeRounds splits old.recoverer.number old.recoverer.level n new.desk.log.part.own) all one)
+            | inr all ↦ inl (subst (λ n. AreWholeRounds (sending_of old.recoverer.desk.log) splits old.recoverer.number old.recoverer.level n new.desk.log.part.own) all one)
           ]
 
-  stops-then : Stops new.desk.log.head.splits new.number new.level
+  stops-then : Stops (sending_of new.desk.log) new.desk.log.head.splits new.number new.level
   stops-then =
-      let cut : Stops new.desk.log.head.splits old.recoverer.number old.recoverer.level = log-is (λ l. Stops l.head.splits old.recoverer.number old.recoverer.level) stops-here in
-      subst (λ n. Stops new.desk.log.head.splits n new.level) (sym number) (subst (λ l. Stops new.desk.log.head.splits old.recoverer.number l) (sym level) cut)
+      let cut : Stops (sending_of new.desk.log) new.desk.log.head.splits old.recoverer.number old.recoverer.level = log-is (λ l. Stops (sending_of l) l.head.splits old.recoverer.number old.recoverer.level) stops-here in
+      subst (λ n. Stops (sending_of new.desk.log) new.desk.log.head.splits n new.level) (sym number) (subst (λ l. Stops (sending_of new.desk.log) new.desk.log.head.splits old.recoverer.number l) (sym level) cut)
 
   asks-part : All (λ (p : Pair Event). AsksOnlyRounds p.entry.event) part
   asks-part = elim are [
-    | inl whole ↦ whole_asks old.recoverer.desk.log.head.splits old.recoverer.number old.recoverer.level part whole
-    | inr broken ↦ heard_asks old.recoverer.desk.log.head.splits old.recoverer.number old.recoverer.level part broken
+    | inl whole ↦ whole_asks (sending_of old.recoverer.desk.log) old.recoverer.desk.log.head.splits old.recoverer.number old.recoverer.level part whole
+    | inr broken ↦ heard_asks (sending_of old.recoverer.desk.log) old.recoverer.desk.log.head.splits old.recoverer.number old.recoverer.level part broken
   ]
 
   counted-then : GoesInRounds then
@@ -140,8 +142,8 @@ module _ {C : Type 0} (old : CountedMeaning C) (new : RecovererMeaning C) (count
       let before = goes.counted in
       made_left ended old.rounds old.recoverer.number (entries_made old) part is (omega arith)
       (elim are [
-        | inl whole ↦ inl (whole_events old.recoverer.desk.log.head.splits old.recoverer.number old.recoverer.level part whole)
-        | inr broken ↦ inr (ended_events old.recoverer.desk.log.head.splits old.recoverer.number old.recoverer.level part some whose-part broken, ended-then held says)
+        | inl whole ↦ inl (whole_events (sending_of old.recoverer.desk.log) old.recoverer.desk.log.head.splits old.recoverer.number old.recoverer.level part whole)
+        | inr broken ↦ inr (ended_events (sending_of old.recoverer.desk.log) old.recoverer.desk.log.head.splits old.recoverer.number old.recoverer.level part some whose-part broken, ended-then held says)
       ])
 
   broke_round : HasMadeNext old then
@@ -156,6 +158,8 @@ module _ {C : Type 0} (old : CountedMeaning C) (new : RecovererMeaning C) (count
         head = log-is (λ l. l.head ≡ old.recoverer.desk.log.head) refl;
         limit = limit-then;
         stop = stop-then;
+        verdict = log-is (λ l. l.wire ≡ old.recoverer.desk.log.wire) refl;
+        tries = log-is (λ l. l.tries ≡ old.recoverer.desk.log.tries) refl;
         range_limit = broke.limit;
       };
       own = broke.own;
@@ -169,8 +173,8 @@ module _ {C : Type 0} (old : CountedMeaning C) (new : RecovererMeaning C) (count
   }
 
 pub round_breaks : {C : Type 0} (old : CountedMeaning C) (new : RecovererMeaning C) → GoesInRounds old → old.recoverer.desk.log.stopped ≡ false → old.made < old.rounds → new.number ≡ old.recoverer.number → new.level ≡ old.recoverer.level → (halt : Halt) → (halt ≡ halts.NoMemory → ⊥)
-    → BreaksOffIn (AreOfEndedRound old.recoverer.desk.log.head.splits old.recoverer.number old.recoverer.level halt) old.recoverer.desk new.desk halt → HasMadeNext old (record { recoverer = new; rounds = old.rounds; made = old.made })
+    → BreaksOffIn (AreOfEndedRound (sending_of old.recoverer.desk.log) old.recoverer.desk.log.head.splits old.recoverer.number old.recoverer.level halt) old.recoverer.desk new.desk halt → HasMadeNext old (record { recoverer = new; rounds = old.rounds; made = old.made })
 round_breaks old new counted going left number level halt memory breaks =
     let splits = old.recoverer.desk.log.head.splits in
-    let h = ended_off halt (HasBrokenOffIn (AreAtHalt halt (AreOfEndedRound splits old.recoverer.number old.recoverer.level halt)) old.recoverer.desk new.desk) memory (breaks going) in
-    broke_round old new counted going left number level h.broke (ended_round splits old.recoverer.number old.recoverer.level halt h.broke.part h.are)
+    let h = ended_off halt (HasBrokenOffIn (OrHearLast (AreOfEndedRound (sending_of old.recoverer.desk.log) splits old.recoverer.number old.recoverer.level halt)) old.recoverer.desk new.desk) memory (breaks going) in
+    broke_round old new counted going left number level h.broke (ended_round (sending_of old.recoverer.desk.log) splits old.recoverer.number old.recoverer.level halt h.broke.part h.are)

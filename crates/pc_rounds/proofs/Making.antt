@@ -6,6 +6,8 @@ use Rattle.pc_desk.specs.OwnLog.{LogMeaning}
 use Rattle.pc_exchange.proofs.Called.{all_heard_ever}
 use Rattle.pc_history.specs.declared.pair.Pair.{Pair}
 use Rattle.pc_proto.specs.declared.event.Event.{Event}
+use Rattle.pc_recoverer.specs.Exchanges.{Sending}
+use Rattle.pc_recoverer.specs.InRound.{sending_of}
 use Rattle.pc_recoverer.specs.Recoverer.{HasMadeWholeRound, RecovererMeaning}
 use Rattle.pc_rounds.proofs.Events.{one_more_round, some_left, whole_asks, whole_events}
 use Rattle.pc_rounds.specs.Counted.{AsksOnlyRounds, CountedMeaning, GoesInRounds, GoesOnInRounds, HasMadeNext, entries_made}
@@ -38,17 +40,17 @@ module _ {C : Type 0} (old : CountedMeaning C) (new : RecovererMeaning C) (made 
   asked-then : made ≡ rounds_asked new.desk.log.part.own
   asked-then =
       let before = goes.counted in
-      is ∙ (ap (λ n. n + 1) before ∙ (sym (one_more_round old.recoverer.desk.log.head.splits old.recoverer.number old.recoverer.level (entries_made old) h.part h.whole) ∙ ap rounds_asked (sym h.grown.own)))
+      is ∙ (ap (λ n. n + 1) before ∙ (sym (one_more_round (sending_of old.recoverer.desk.log) old.recoverer.desk.log.head.splits old.recoverer.number old.recoverer.level (entries_made old) h.part h.whole) ∙ ap rounds_asked (sym h.grown.own)))
 
-  are-then : AreWholeRounds new.desk.log.head.splits new.number new.level made new.desk.log.part.own
+  are-then : AreWholeRounds (sending_of new.desk.log) new.desk.log.head.splits new.number new.level made new.desk.log.part.own
   are-then =
-      let W : List (List ℕ) → ℕ → Type 0 = λ splits n. AreWholeRounds splits old.recoverer.number old.recoverer.level n new.desk.log.part.own in
+      let W : Sending → List (List ℕ) → ℕ → Type 0 = λ s splits n. AreWholeRounds s splits old.recoverer.number old.recoverer.level n new.desk.log.part.own in
       let one : made ≡ suc old.made = omega arith in
-      let here : W old.recoverer.desk.log.head.splits (suc old.made) = (entries_made old, h.part, h.grown.own, goes.are, h.whole) in
-      let many : W old.recoverer.desk.log.head.splits made = subst (W old.recoverer.desk.log.head.splits) (sym one) here in
-      let cut : W new.desk.log.head.splits made = log-is (λ l. W l.head.splits made) many in
-      subst (λ n. AreWholeRounds new.desk.log.head.splits n new.level made new.desk.log.part.own) (sym number)
-      (subst (λ l. AreWholeRounds new.desk.log.head.splits old.recoverer.number l made new.desk.log.part.own) (sym level) cut)
+      let here : W (sending_of old.recoverer.desk.log) old.recoverer.desk.log.head.splits (suc old.made) = (entries_made old, h.part, h.grown.own, goes.are, h.whole) in
+      let many : W (sending_of old.recoverer.desk.log) old.recoverer.desk.log.head.splits made = subst (W (sending_of old.recoverer.desk.log) old.recoverer.desk.log.head.splits) (sym one) here in
+      let cut : W (sending_of new.desk.log) new.desk.log.head.splits made = log-is (λ l. W (sending_of l) l.head.splits made) many in
+      subst (λ n. AreWholeRounds (sending_of new.desk.log) new.desk.log.head.splits n new.level made new.desk.log.part.own) (sym number)
+      (subst (λ l. AreWholeRounds (sending_of new.desk.log) new.desk.log.head.splits old.recoverer.number l made new.desk.log.part.own) (sym level) cut)
 
   counted-then : GoesInRounds then
   counted-then = record {
@@ -58,7 +60,7 @@ module _ {C : Type 0} (old : CountedMeaning C) (new : RecovererMeaning C) (made 
         (All-append (λ (p : Pair Event). p.entry.actor ≡ actors.Recoverer old.recoverer.number) (entries_made old) h.part counted.whose h.whole.whose));
     asks = subst (All (λ p. AsksOnlyRounds p.entry.event)) (sym h.grown.own)
         (All-append (λ (p : Pair Event). AsksOnlyRounds p.entry.event) (entries_made old) h.part counted.asks
-        (whole_asks old.recoverer.desk.log.head.splits old.recoverer.number old.recoverer.level h.part h.whole));
+        (whole_asks (sending_of old.recoverer.desk.log) old.recoverer.desk.log.head.splits old.recoverer.number old.recoverer.level h.part h.whole));
     within = h.between.back.track.log.within;
     given = h.between.back.track.given;
     few = omega arith;
@@ -89,6 +91,8 @@ module _ {C : Type 0} (old : CountedMeaning C) (new : RecovererMeaning C) (made 
         head = log-is (λ l. l.head ≡ old.recoverer.desk.log.head) refl;
         limit = limit-then;
         stop = log-is (λ l. l.stop ≡ old.recoverer.desk.log.stop) refl;
+        verdict = log-is (λ l. l.wire ≡ old.recoverer.desk.log.wire) refl;
+        tries = log-is (λ l. l.tries ≡ old.recoverer.desk.log.tries) refl;
         range_limit = h.limit;
       };
       own = h.grown.own;
@@ -101,6 +105,6 @@ module _ {C : Type 0} (old : CountedMeaning C) (new : RecovererMeaning C) (made 
         let before = goes.counted in
         made_left (list_has_ended old.recoverer.desk.log.limit old.recoverer.desk.log.stop held) old.rounds old.recoverer.number (entries_made old) h.part
         (not_ended old.recoverer.desk.log.limit old.recoverer.desk.log.stop held (entries_made old) (goes.between.back.track.log.before_stop going) goes.between.closed (all_heard_ever old.recoverer.desk goes.between.back) room) (omega arith)
-        (inl (whole_events old.recoverer.desk.log.head.splits old.recoverer.number old.recoverer.level h.part h.whole));
+        (inl (whole_events (sending_of old.recoverer.desk.log) old.recoverer.desk.log.head.splits old.recoverer.number old.recoverer.level h.part h.whole));
     onward = λ still more. (going, is);
   }

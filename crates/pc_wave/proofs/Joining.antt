@@ -46,13 +46,13 @@ wave_joined c k ms request w join =
       no_round = join.no_round;
     }) join.differ join.back
 
-pub wave_joined_again : (c : Course) (k : Known) (ms : List Message) (request : Request) (conflicts : ℕ) → WaveStands c k ms → MayJoinAgain c k ms request conflicts → WaveStands c k (ms ++ message_again request conflicts ∷ [])
-wave_joined_again c k ms request conflicts w join =
-    with_one (message_again request conflicts) c k ms w (record {
+pub wave_joined_again : (c : Course) (k : Known) (ms : List Message) (request : Request) (conflicts lost : ℕ) → WaveStands c k ms → MayJoinAgain c k ms request conflicts lost → WaveStands c k (ms ++ message_again request conflicts lost ∷ [])
+wave_joined_again c k ms request conflicts lost w join =
+    with_one (message_again request conflicts lost) c k ms w (record {
       as_far = (is_ready c.loses c k request join.out, join.few);
       counted = join.counted;
       sent = join.sent;
-      tries = ready_tries c.loses c k (message_again request conflicts) refl refl join.out;
+      tries = join.tries;
       no_round = join.no_round;
     }) join.differ join.back
 

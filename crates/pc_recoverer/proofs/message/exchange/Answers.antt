@@ -1,27 +1,35 @@
-use Rattle.std.proofs.Common.{is_some, ap, ◌∙◌}
-use Rattle.std.proofs.lemmas.Result.{IfOk-weaker, err_from_is_err_and}
+use Rattle.std.proofs.Common.{is_some, IfNone, IfSome, refl, sym, ap, subst, ◌∙◌, arith}
+use Rattle.std.proofs.lemmas.Result.{err_from_is_err_and}
 use Rattle.pc_desk.proofs.InCall.{statement_sent}
-use Rattle.pc_recoverer.proofs.Breaking.{breaks_weaker_if}
-use Rattle.pc_recoverer.proofs.Exchanging.{ends_unsent}
-use Rattle.pc_recoverer.proofs.Fronts.{front_of_one}
-use Rattle.pc_recoverer.specs.Broken.{AreFrontOfOne, AreFrontOfOneTo}
+use Rattle.pc_desk.specs.Desk.{HasSentNext, MaySendNow}
+use Rattle.pc_recoverer.proofs.Trying.{heard_at_last, in_round_still, lost_more, lost_nothing, may_send_again, one_more_lost, try_ends_sent, try_ends_unsent}
+use Rattle.pc_recoverer.specs.InRound.{WasHeardOnce, WasLostOnce}
 use Rattle.pc_recoverer.proofs.message.exchange.Goals as goal
 
-pub hear_reply-requires : goal.hear_reply-requires
-hear_reply-requires g c = record { before = c.args.desk.now; back = c.requires.back; client = c.requires.client.whose; request = c.args.request; number = _; sent = c.in_ok-send.ensures.ok; opened = ap is_some (statement_sent c.args.desk.now c.send.new.self _ c.args.request c.in_ok-send.ensures.ok) ∙ c.requires.client.opened }
+pub loop-sending-init : goal.loop-sending-init
+loop-sending-init g c = ((lost_nothing c.args.desk.now c.args.request c.requires.back, refl), refl)
 
-pub returns-clause-ok : goal.returns-clause-ok
-returns-clause-ok g c = IfOk-weaker c.hear_reply.result _ _ (λ reply was. was.exchanged) (c.hear_reply.ensures.ok c.args.desk.now c.args.request _ c.in_ok-send.ensures.ok c.requires.back)
+pub send-requires-clause-track : goal.send-requires-clause-track
+send-requires-clause-track g c = c.loop-sending.invariant.0.0.goes.back.track
 
-pub returns-clause-ended : goal.returns-clause-ended
-returns-clause-ended g c =
-    let range = c.in_ok-send.ensures.ok.range in
-    breaks_weaker_if c.hear_reply.result c.args.desk.now c.hear_reply.new.desk (AreFrontOfOneTo range c.args.request) (AreFrontOfOne c.args.request) (front_of_one range c.args.request) (c.hear_reply.ensures.ended c.args.desk.now c.args.request _ c.in_ok-send.ensures.ok)
-
-pub returns-in_err-send-clause-ended : goal.returns-in_err-send-clause-ended
-returns-in_err-send-clause-ended g c =
-    let p = err_from_is_err_and c.from_residual.result c.from_residual.ensures.1 in
-    rw (p.1, p.2) (ends_unsent c.args.desk.now c.send.new.self c.args.request c.in_err-send.field-0.0 c.requires.back.track c.in_err-send.ensures.ended)
+pub send-requires-clause-may : goal.send-requires-clause-may
+send-requires-clause-may g c =
+    subst (λ q. MaySendNow c.loop-sending.desk.log q) (sym c.in-Ok.ensures)
+    (may_send_again c.args.desk.now c.loop-sending.desk c.args.request c.loop-sending.invariant.0.0 c.requires.client c.requires.kind c.requires.may)
 
 pub send-requires-clause-none_waits : goal.send-requires-clause-none_waits
-send-requires-clause-none_waits g c = c.requires.back.replies
+send-requires-clause-none_waits g c = c.loop-sending.invariant.0.0.goes.back.replies
+
+pub hear_reply-requires : goal.hear_reply-requires
+hear_reply-requires g c =
+    let far = c.loop-sending.invariant.0.0 in
+    let still = in_round_still c.args.desk.now c.loop-sending.desk c.args.request far c.requires.client in
+    record {
+      before = c.loop-sending.desk;
+      back = far.goes.back;
+      client = still.whose;
+      request = c.in-Ok.copy;
+      number = _;
+      sent = c.in_ok-send.ensures.ok;
+      opened = ap is_some (statement_sent c.loop-sending.desk c.send.new.self _ c.in-Ok.copy c.in_ok-send.ensures.ok) ∙ still.opened;
+    }

@@ -7,6 +7,7 @@ use Rattle.pc_proto.specs.declared.event.Event.TheVariants as events
 use Rattle.pc_recoverer.proofs.Rounding.{ask_ends_early, asked_making, has_made_round, may_ask_round, may_tell_done, round_ends_early, telling_ends_early}
 use Rattle.pc_recoverer.proofs.Traffic.{if_err, on_ok}
 use Rattle.pc_recoverer.specs.Broken.{AreOfEndedRound, BreaksOffIn}
+use Rattle.pc_recoverer.specs.InRound.{sending_of}
 use Rattle.pc_recoverer.specs.Recoverer.{HasMadeWholeRound}
 use Rattle.pc_recoverer.proofs.round.make_whole_round.Goals as goal
 
@@ -43,5 +44,5 @@ pub returns-clause-ended : goal.returns-clause-ended
 returns-clause-ended g c =
     let late = c.visit_each.new.desk in
     let new = c.tell.new.self in
-    if_err c.tell.result (EndsOnly (λ made. made ≡ events.Tell answers.Done) late new) (λ halt. BreaksOffIn (AreOfEndedRound c.args.desk.now.log.head.splits c.args.number c.args.level halt) c.args.desk.now new halt)
+    if_err c.tell.result (EndsOnly (λ made. made ≡ events.Tell answers.Done) late new) (λ halt. BreaksOffIn (AreOfEndedRound (sending_of c.args.desk.now.log) c.args.desk.now.log.head.splits c.args.number c.args.level halt) c.args.desk.now new halt)
     (telling_ends_early c.args.number c.args.level c.in_ok-reading.reading c.args.desk.now c.ask.new.self c.requires.between c.requires.whose c.in_ok-reading.ensures.ok c.args.ranges c.requires.there late c.in_ok-visit_each.ensures.ok new) c.tell.ensures.ended

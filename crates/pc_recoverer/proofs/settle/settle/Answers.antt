@@ -4,8 +4,8 @@ use Rattle.pc_proto.specs.declared.view.View.TheVariants as views
 use Rattle.pc_recoverer.proofs.Settling.{may_abort, may_commit, settled_by, settles_none}
 use Rattle.pc_recoverer.proofs.Traffic.{on_ok}
 use Rattle.pc_recoverer.specs.Broken.{AreFrontOf, BreaksOffIn}
-use Rattle.pc_recoverer.specs.Exchanges.{requests_of}
-use Rattle.pc_recoverer.specs.InRound.{HasSettled, MaySettleNow}
+use Rattle.pc_recoverer.specs.Exchanges.{AreDoneInTurn}
+use Rattle.pc_recoverer.specs.InRound.{HasSettled, MaySettleNow, sending_of}
 use Rattle.pc_recoverer.specs.Settled.{settling_of}
 use Rattle.pc_recoverer.specs.UnderWay.{HasFinishedListed}
 use Rattle.pc_recoverer.proofs.settle.settle.Goals as goal
@@ -37,8 +37,8 @@ returns-clause-ok g c = settles_none c.args.desk.now c.args.meta.now c.args.view
 
 pub returns-in-Committed-clause-ended : goal.returns-in-Committed-clause-ended
 returns-in-Committed-clause-ended g c =
-    subst (λ v. IfErr c.settle_locks.result (BreaksOffIn (AreFrontOf (λ xs. requests_of xs ≡ settling_of c.args.meta.now v)) c.args.desk.now c.settle_locks.new.desk)) (sym c.in-Committed.is) c.settle_locks.ensures.ended
+    subst (λ v. IfErr c.settle_locks.result (BreaksOffIn (AreFrontOf (sending_of c.args.desk.now.log) (AreDoneInTurn (settling_of c.args.meta.now v))) c.args.desk.now c.settle_locks.new.desk)) (sym c.in-Committed.is) c.settle_locks.ensures.ended
 
 pub returns-in-Aborted-clause-ended : goal.returns-in-Aborted-clause-ended
 returns-in-Aborted-clause-ended g c =
-    subst (λ v. IfErr c.settle_locks-in-Aborted.result (BreaksOffIn (AreFrontOf (λ xs. requests_of xs ≡ settling_of c.args.meta.now v)) c.args.desk.now c.settle_locks-in-Aborted.new.desk)) (sym c.in-Aborted.is) c.settle_locks-in-Aborted.ensures.ended
+    subst (λ v. IfErr c.settle_locks-in-Aborted.result (BreaksOffIn (AreFrontOf (sending_of c.args.desk.now.log) (AreDoneInTurn (settling_of c.args.meta.now v))) c.args.desk.now c.settle_locks-in-Aborted.new.desk)) (sym c.in-Aborted.is) c.settle_locks-in-Aborted.ensures.ended

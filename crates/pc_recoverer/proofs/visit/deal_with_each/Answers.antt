@@ -35,4 +35,4 @@ returns-in_err-deal_with-clause-ended g c =
     let p = err_from_is_err_and c.from_residual.result c.from_residual.ensures.1 in
     rw (p.1, p.2)
     (dealing_ends_early c.args.maker c.args.desk.now c.loop-meta.desk c.deal_with.new.desk (take i metas) (drop (i + 1) metas) metas meta c.in_err-deal_with.field-0.0 c.loop-meta.invariant.0
-    (cut_there metas i meta c.loop-meta-test.true c.meta-item.is) c.in_err-deal_with.ensures.ended)
+    (cut_there metas i meta c.loop-meta-test.true c.meta-item.is) c.requires.in_round.back.track.log.tries c.in_err-deal_with.ensures.ended)

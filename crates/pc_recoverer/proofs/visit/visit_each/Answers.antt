@@ -28,4 +28,4 @@ pub returns-in_err-visit-clause-ended : goal.returns-in_err-visit-clause-ended
 returns-in_err-visit-clause-ended g c =
     let p = err_from_is_err_and c.from_residual.result c.from_residual.ensures.1 in
     rw (p.1, p.2)
-    (visiting_ends_early c.args.maker c.args.desk.now c.loop-range.desk c.visit.new.desk c.loop-range.range c.args.ranges c.in_err-visit.field-0.0 c.loop-range-test.true c.loop-range.invariant.0 c.in_err-visit.ensures.ended)
+    (visiting_ends_early c.args.maker c.args.desk.now c.loop-range.desk c.visit.new.desk c.loop-range.range c.args.ranges c.in_err-visit.field-0.0 c.loop-range-test.true c.loop-range.invariant.0 c.requires.round.back.track.log.tries c.in_err-visit.ensures.ended)

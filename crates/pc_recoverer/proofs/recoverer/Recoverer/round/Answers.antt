@@ -1,6 +1,7 @@
 use Rattle.std.proofs.Common.{◌+◌, length, IfErr, sym, ap, ◌∙◌, subst}
 use Rattle.pc_recoverer.proofs.Between.{made_or_halted}
 use Rattle.pc_recoverer.specs.Broken.{AreOfEndedRound, BreaksOffIn}
+use Rattle.pc_recoverer.specs.InRound.{sending_of}
 use Rattle.pc_recoverer.specs.Recoverer.{RecovererMeaning}
 use Rattle.pc_recoverer.proofs.recoverer.Recoverer.round.Goals as goal
 
@@ -18,4 +19,4 @@ returns-clause-between g c =
 
 pub returns-clause-ended : goal.returns-clause-ended
 returns-clause-ended g c =
-    subst (λ (r : RecovererMeaning g.row.C.Denot). IfErr c.make_whole_round.result (λ halt. BreaksOffIn (AreOfEndedRound r.desk.log.head.splits r.number r.level halt) r.desk c.make_whole_round.new.desk halt)) c.self.view_is c.make_whole_round.ensures.ended
+    subst (λ (r : RecovererMeaning g.row.C.Denot). IfErr c.make_whole_round.result (λ halt. BreaksOffIn (AreOfEndedRound (sending_of r.desk.log) r.desk.log.head.splits r.number r.level halt) r.desk c.make_whole_round.new.desk halt)) c.self.view_is c.make_whole_round.ensures.ended
