@@ -25,7 +25,9 @@ pub mod Ending
 pub mod StraysRefused
 pub mod Stopping
 pub mod WaveSteps
+pub mod BagOrder
 pub mod Besides
+pub mod WaveEnded
 pub mod InCall
 pub mod Staying
 pub mod Learning

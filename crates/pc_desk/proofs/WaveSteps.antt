@@ -57,12 +57,12 @@ before-first : (first : Posted) (rest ms : List Posted) → ComeBefore (first �
 before-first first rest ms before = All-weaker (λ (m : Posted). All (λ (p : Posted). m.number < p.number) (first ∷ rest)) (λ (m : Posted). m.number < first.number) (λ m all. All-head (λ (p : Posted). m.number < p.number) first rest all) ms before
 
 -- a message that is set out says what waited, and has its number
-errand-number : {N : Type 0} {G : Ghosts N CommitWorld} (verdict : Verdict) (message : Message N G) (errand : Errand N G) → IsErrandOf verdict message errand → errand.message.number ≡ message.number
-errand-number {N} {G} verdicts.Deliver message errand is = ap (λ (e : Errand N G). e.message.number) is
-errand-number verdicts.LoseRequest message errand is = absurd is
-errand-number {N} {G} verdicts.LoseReply message errand is = ap (λ (e : Errand N G). e.message.number) is
-errand-number {N} {G} (verdicts.Repeat sends) message errand is = is.alike.number
-errand-number (verdicts.Hold sends) message errand is = absurd is
+pub errand_number : {N : Type 0} {G : Ghosts N CommitWorld} (verdict : Verdict) (message : Message N G) (errand : Errand N G) → IsErrandOf verdict message errand → errand.message.number ≡ message.number
+errand_number {N} {G} verdicts.Deliver message errand is = ap (λ (e : Errand N G). e.message.number) is
+errand_number verdicts.LoseRequest message errand is = absurd is
+errand_number {N} {G} verdicts.LoseReply message errand is = ap (λ (e : Errand N G). e.message.number) is
+errand_number {N} {G} (verdicts.Repeat sends) message errand is = is.alike.number
+errand_number (verdicts.Hold sends) message errand is = absurd is
 
 module _ {C N : Type 0} {G : Ghosts N CommitWorld} where
   pub taken_none : (d : DeskMeaning C) → HasTakenWave {N = N} {G = G} d d [] []
@@ -111,7 +111,7 @@ module _ {C N : Type 0} {G : Ghosts N CommitWorld} where
       mid-later = subst (λ ps. ComeBefore ps (posted_in wave)) first.taken.first so_far.later
 
       number : joins.joined.message.number ≡ first.message.number
-      number = ap (λ (m : Message N G). m.number) joins.message_is ∙ errand-number (verdict_of mid.log first.message.number) first.message errand first.errand_of
+      number = ap (λ (m : Message N G). m.number) joins.message_is ∙ errand_number (verdict_of mid.log first.message.number) first.message errand first.errand_of
 
       below : All (λ (p : Posted). p.number < joins.joined.message.number) (posted_in wave)
       below = subst (λ n. All (λ (p : Posted). p.number < n) (posted_in wave)) (sym number) (before-first (posted_of first.message) new.posted (posted_in wave) mid-later)
@@ -147,25 +147,25 @@ zip-push R (a ∷ xs) [] x y each one = absurd each
 zip-push R (a ∷ xs) (b ∷ ys) x y each one = (each.0, zip-push R xs ys x y each.1 one)
 
 module _ {N : Type 0} {G : Ghosts N CommitWorld} where
-  answers-push : (os : List (Result (ReplyMsg N) (ServeFault N G))) (ss : List (Sequel N G)) (o : Result (ReplyMsg N) (ServeFault N G)) (s : Sequel N G) → length os ≡ length ss → answers_in (os ++ o ∷ []) (ss ++ s ∷ []) ≡ answers_in os ss ++ answers_in (o ∷ []) (s ∷ [])
-  answers-push [] [] o s same = refl
-  answers-push [] (x ∷ ss) o s same = absurd cc
-  answers-push (x ∷ os) [] o s same = absurd cc
-  answers-push (Err f ∷ os) (x ∷ ss) o s same = answers-push os ss o s (let e = same in omega (arith, e))
-  answers-push (Ok r ∷ os) (x ∷ ss) o s same =
-      by x.is_heard (answers-push os ss o s (let e = same in omega (arith, e)))
+  pub answers_push : (os : List (Result (ReplyMsg N) (ServeFault N G))) (ss : List (Sequel N G)) (o : Result (ReplyMsg N) (ServeFault N G)) (s : Sequel N G) → length os ≡ length ss → answers_in (os ++ o ∷ []) (ss ++ s ∷ []) ≡ answers_in os ss ++ answers_in (o ∷ []) (s ∷ [])
+  answers_push [] [] o s same = refl
+  answers_push [] (x ∷ ss) o s same = absurd cc
+  answers_push (x ∷ os) [] o s same = absurd cc
+  answers_push (Err f ∷ os) (x ∷ ss) o s same = answers_push os ss o s (let e = same in omega (arith, e))
+  answers_push (Ok r ∷ os) (x ∷ ss) o s same =
+      by x.is_heard (answers_push os ss o s (let e = same in omega (arith, e)))
     where
       by : (b : Bool) → answers_in (os ++ o ∷ []) (ss ++ s ∷ []) ≡ answers_in os ss ++ answers_in (o ∷ []) (s ∷ [])
           → cond b (answered_by r ∷ answers_in (os ++ o ∷ []) (ss ++ s ∷ [])) (answers_in (os ++ o ∷ []) (ss ++ s ∷ [])) ≡ cond b (answered_by r ∷ answers_in os ss) (answers_in os ss) ++ answers_in (o ∷ []) (s ∷ [])
       by true on = ap (λ l. answered_by r ∷ l) on
       by false on = on
 
-  bag-push : (os : List (Result (ReplyMsg N) (ServeFault N G))) (ss : List (Sequel N G)) (o : Result (ReplyMsg N) (ServeFault N G)) (s : Sequel N G) (bag : List (ℕ × Stray Posted)) → length os ≡ length ss → bag_with (os ++ o ∷ []) (ss ++ s ∷ []) bag ≡ bag_with (o ∷ []) (s ∷ []) (bag_with os ss bag)
-  bag-push [] [] o s bag same = refl
-  bag-push [] (x ∷ ss) o s bag same = absurd cc
-  bag-push (x ∷ os) [] o s bag same = absurd cc
-  bag-push (Ok r ∷ os) (x ∷ ss) o s bag same = bag-push os ss o s (with_copy x.copy bag) (let e = same in omega (arith, e))
-  bag-push (Err f ∷ os) (x ∷ ss) o s bag same = bag-push os ss o s bag (let e = same in omega (arith, e))
+  pub bag_push : (os : List (Result (ReplyMsg N) (ServeFault N G))) (ss : List (Sequel N G)) (o : Result (ReplyMsg N) (ServeFault N G)) (s : Sequel N G) (bag : List (ℕ × Stray Posted)) → length os ≡ length ss → bag_with (os ++ o ∷ []) (ss ++ s ∷ []) bag ≡ bag_with (o ∷ []) (s ∷ []) (bag_with os ss bag)
+  bag_push [] [] o s bag same = refl
+  bag_push [] (x ∷ ss) o s bag same = absurd cc
+  bag_push (x ∷ os) [] o s bag same = absurd cc
+  bag_push (Ok r ∷ os) (x ∷ ss) o s bag same = bag_push os ss o s (with_copy x.copy bag) (let e = same in omega (arith, e))
+  bag_push (Err f ∷ os) (x ∷ ss) o s bag same = bag_push os ss o s bag (let e = same in omega (arith, e))
 
 -- So far the outcomes before those that are left, beside their sequels, are done with.
 pub record IsPart {X Y : Type 0} (all : List X) (beside : List Y) (left : List X) (left_beside : List Y) (done : List X) (done_beside : List Y) : Type 0 where
@@ -195,8 +195,8 @@ none-left done left none = ap (λ l. done ++ l) none ∙ append-nil done
 
 module _ {N : Type 0} {G : Ghosts N CommitWorld} where
   -- one reply is kept, or dropped, beside what came of it
-  kept-answer : (rs : List Answered) (r : ReplyMsg N) (s : Sequel N G) → kept_by s.is_heard (answered_by r) rs ≡ rs ++ answers_in (Ok r ∷ []) (s ∷ [])
-  kept-answer rs r s = by s.is_heard
+  pub kept_answer : (rs : List Answered) (r : ReplyMsg N) (s : Sequel N G) → kept_by s.is_heard (answered_by r) rs ≡ rs ++ answers_in (Ok r ∷ []) (s ∷ [])
+  kept_answer rs r s = by s.is_heard
     where
       by : (b : Bool) → kept_by b (answered_by r) rs ≡ rs ++ cond b (answered_by r ∷ []) []
       by true = refl
@@ -245,8 +245,8 @@ module _ {C N : Type 0} {G : Ghosts N CommitWorld} where
           took.rest
           ∙ (ap (λ (d : DeskMeaning C). record d { log = record d.log { part = record d.log.part { known = mid.log.part.known ++ note } }; replies = kept_by s.is_heard (answered_by r) d.replies; bag = with_copy s.copy d.bag }) so_far.kept.rest
           ∙ (ap (λ rs. desk-then (mid.log.part.known ++ note) rs (with_copy s.copy (bag_with so_far.done so_far.done_sequels old.bag)))
-          (kept-answer (old.replies ++ answers_in so_far.done so_far.done_sequels) r s ∙ (append_assoc old.replies (answers_in so_far.done so_far.done_sequels) (answers_in (Ok r ∷ []) (s ∷ [])) ∙ ap (λ rs. old.replies ++ rs) (sym (answers-push so_far.done so_far.done_sequels (Ok r) s so_far.part.same))))
-          ∙ (ap (λ b. desk-then (mid.log.part.known ++ note) (old.replies ++ answers_in (so_far.done ++ Ok r ∷ []) (so_far.done_sequels ++ s ∷ [])) b) (sym (bag-push so_far.done so_far.done_sequels (Ok r) s old.bag so_far.part.same))
+          (kept_answer (old.replies ++ answers_in so_far.done so_far.done_sequels) r s ∙ (append_assoc old.replies (answers_in so_far.done so_far.done_sequels) (answers_in (Ok r ∷ []) (s ∷ [])) ∙ ap (λ rs. old.replies ++ rs) (sym (answers_push so_far.done so_far.done_sequels (Ok r) s so_far.part.same))))
+          ∙ (ap (λ b. desk-then (mid.log.part.known ++ note) (old.replies ++ answers_in (so_far.done ++ Ok r ∷ []) (so_far.done_sequels ++ s ∷ [])) b) (sym (bag_push so_far.done so_far.done_sequels (Ok r) s old.bag so_far.part.same))
           ∙ ap (λ ks. desk-then ks (old.replies ++ answers_in (so_far.done ++ Ok r ∷ []) (so_far.done_sequels ++ s ∷ [])) (bag_with (so_far.done ++ Ok r ∷ []) (so_far.done_sequels ++ s ∷ []) old.bag)) (sym known-now))));
       learnt = learnt-one old mid new so_far.done so_far.done_sequels (Ok r) s so_far.kept.learnt (λ k there. subst (λ l. Contains l k) (sym known-now) (Contains-append_left mid.log.part.known note k there))
           (λ k there. subst (λ l. Contains l k) (sym known-now) (Contains-append_right mid.log.part.known note k (subst (λ l. Contains l k) (sym same) there)));
@@ -291,7 +291,7 @@ module _ {C N : Type 0} {G : Ghosts N CommitWorld} where
     rest =
         took.rest
         ∙ (ap (λ (d : DeskMeaning C). record d { log = record d.log { part = record d.log.part { known = new.log.part.known } }; bag = bag_with (o ∷ []) (s ∷ []) d.bag }) so_far.rest
-        ∙ ap (λ b. record old { log = record old.log { part = record old.log.part { known = new.log.part.known } }; bag = b }) (sym (bag-push so_far.done so_far.done_sequels o s old.bag so_far.part.same)));
+        ∙ ap (λ b. record old { log = record old.log { part = record old.log.part { known = new.log.part.known } }; bag = b }) (sym (bag_push so_far.done so_far.done_sequels o s old.bag so_far.part.same)));
     learnt = learnt-one old mid new so_far.done so_far.done_sequels o s so_far.learnt took.more took.knows;
   }
 
@@ -304,11 +304,11 @@ module _ {C N : Type 0} {G : Ghosts N CommitWorld} where
       (record { rest = ap (λ (d : DeskMeaning C). record d { log = record d.log { stopped = true } }) so_far.rest; learnt = record { more = so_far.learnt.more; knows = so_far.learnt.knows } })))
 
 -- lists that go beside each other are as long
-pub zip-long : {X Y : Type 0} (R : X → Y → Type 0) (xs : List X) (ys : List Y) → AllZip R xs ys → length xs ≡ length ys
-zip-long R [] [] zips = refl
-zip-long R [] (y ∷ ys) zips = absurd zips
-zip-long R (x ∷ xs) [] zips = absurd zips
-zip-long R (x ∷ xs) (y ∷ ys) zips = ap suc (zip-long R xs ys zips.1)
+pub zip_long : {X Y : Type 0} (R : X → Y → Type 0) (xs : List X) (ys : List Y) → AllZip R xs ys → length xs ≡ length ys
+zip_long R [] [] zips = refl
+zip_long R [] (y ∷ ys) zips = absurd zips
+zip_long R (x ∷ xs) [] zips = absurd zips
+zip_long R (x ∷ xs) (y ∷ ys) zips = ap suc (zip_long R xs ys zips.1)
 
 -- ---- one outcome
 
