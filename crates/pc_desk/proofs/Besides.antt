@@ -193,6 +193,13 @@ module _ {C N : Type 0} {G : Ghosts N CommitWorld} (old : DeskMeaning C) (limit 
 
 -- ---- all of them were evaluated
 
+-- The desk whose actor knows all that.
+abbrev knows-all : {C : Type 0} → DeskMeaning C → List (KnownEntry Event) → DeskMeaning C
+knows-all old known = record old { log = knowing known old.log }
+
+stands-both : {C : Type 0} (a b d : DeskMeaning C) → StandsAs a b → StandsAs b d → StandsAs a d
+stands-both a b d x y = record { track = y.track; way = λ n. y.way n ∙ x.way n; kept = λ n was. y.kept n (x.kept n was) }
+
 module _ {C N : Type 0} {G : Ghosts N CommitWorld} (old : DeskMeaning C) (known : List (KnownEntry Event)) (beside : old.log.beside ≡ true) where
   -- The message was evaluated behind all that the actor made, and the actor knows that.
   abbrev Went : Errand N G → Result (ReplyMsg N) (ServeFault N G) → Type 0
@@ -233,15 +240,8 @@ module _ {C N : Type 0} {G : Ghosts N CommitWorld} (old : DeskMeaning C) (known 
   abbrev with-all : DeskMeaning C → List (Errand N G) → List (Result (ReplyMsg N) (ServeFault N G)) → DeskMeaning C
   with-all d es os = record d { log = knowing known old.log; replies = d.replies ++ answers_in os (sequels-of es); bag = bag_with os (sequels-of es) d.bag }
 
-  -- The desk that knows all that.
-  abbrev knows-all : DeskMeaning C
-  knows-all = record old { log = knowing known old.log }
-
   same-log : (d : DeskMeaning C) (es : List (Errand N G)) → SetsOut old d es → d.log ≡ old.log
   same-log d es out = ap (λ (x : DeskMeaning C). x.log) (set_out_rest old d es out)
-
-  stands-both : (a b d : DeskMeaning C) → StandsAs a b → StandsAs b d → StandsAs a d
-  stands-both a b d x y = record { track = y.track; way = λ n. y.way n ∙ x.way n; kept = λ n was. y.kept n (x.kept n was) }
 
   passed-first : (now new : DeskMeaning C) (es : List (Errand N G)) (os : List (Result (ReplyMsg N) (ServeFault N G))) → SetsOut old now es → HasPassedFirst now new → HasPassedFirst (with-all now es os) (with-all new es os)
   passed-first now new es os out passed =
@@ -281,25 +281,25 @@ module _ {C N : Type 0} {G : Ghosts N CommitWorld} (old : DeskMeaning C) (known 
 
   module _ (track : KeepsTrack old) (more : (k : KnownEntry Event) → Contains old.log.part.known k → Contains known k) (log : IsOwnLog (knowing known old.log)) where
     -- as if they had gone one after another
-    stands-all : (mid : DeskMeaning C) (es : List (Errand N G)) (os : List (Result (ReplyMsg N) (ServeFault N G))) → SetsOut old mid es → AllZip Went es os → StandsAs knows-all (with-all mid es os)
-    stands-all mid es [] NoneYet went = subst (StandsAs knows-all) (ap (λ rs. record old { log = knowing known old.log; replies = rs }) (sym (append-nil old.replies))) (record { track = track_knowing old known track more log; way = λ n. refl; kept = λ n was. was })
+    stands-all : (mid : DeskMeaning C) (es : List (Errand N G)) (os : List (Result (ReplyMsg N) (ServeFault N G))) → SetsOut old mid es → AllZip Went es os → StandsAs (knows-all old known) (with-all mid es os)
+    stands-all mid es [] NoneYet went = subst (StandsAs (knows-all old known)) (ap (λ rs. record old { log = knowing known old.log; replies = rs }) (sym (append-nil old.replies))) (record { track = track_knowing old known track more log; way = λ n. refl; kept = λ n was. was })
     stands-all mid es (o ∷ os) NoneYet went = absurd went
     stands-all mid es os (OnePassed now new errands so_far passed) went =
         let before = stands-all now errands os so_far went in
-        stands-both knows-all (with-all now errands os) (with-all new errands os) before (stands_passed (with-all now errands os) (with-all new errands os) before.track (passed-first now new errands os so_far passed))
+        stands-both (knows-all old known) (with-all now errands os) (with-all new errands os) before (stands_passed (with-all now errands os) (with-all new errands os) before.track (passed-first now new errands os so_far passed))
     stands-all mid es os (OneSetOut now new errands errand so_far out) went = by (zip_last Went errands errand os went)
       where
-        by : ZipLast Went errands errand os → StandsAs knows-all (with-all new (errands ++ errand ∷ []) os)
-        by z = subst (λ l. StandsAs knows-all (with-all new (errands ++ errand ∷ []) l)) (sym z.whole) (last z.last z.is)
+        by : ZipLast Went errands errand os → StandsAs (knows-all old known) (with-all new (errands ++ errand ∷ []) os)
+        by z = subst (λ l. StandsAs (knows-all old known) (with-all new (errands ++ errand ∷ []) l)) (sym z.whole) (last z.last z.is)
           where
-            before : StandsAs knows-all (with-all now errands z.front)
+            before : StandsAs (knows-all old known) (with-all now errands z.front)
             before = stands-all now errands z.front so_far z.before
 
             same : length z.front ≡ length (sequels-of errands)
             same = sym (length-map errands (λ (e : Errand N G). e.sequel) ∙ zip_long Went errands z.front z.before)
 
-            last : (o : Result (ReplyMsg N) (ServeFault N G)) → Went errand o → StandsAs knows-all (with-all new (errands ++ errand ∷ []) (z.front ++ o ∷ []))
-            last (Ok r) is = stands-both knows-all (with-all now errands z.front) (with-all new (errands ++ errand ∷ []) (z.front ++ Ok r ∷ [])) before (one-more now new errands errand z.front r so_far out same is before.track)
+            last : (o : Result (ReplyMsg N) (ServeFault N G)) → Went errand o → StandsAs (knows-all old known) (with-all new (errands ++ errand ∷ []) (z.front ++ o ∷ []))
+            last (Ok r) is = stands-both (knows-all old known) (with-all now errands z.front) (with-all new (errands ++ errand ∷ []) (z.front ++ Ok r ∷ [])) before (one-more now new errands errand z.front r so_far out same is before.track)
             last (Err fault) is = absurd is
 
 module _ {C N : Type 0} {G : Ghosts N CommitWorld} (old taken new : DeskMeaning C) (wave : List (Delivery N G)) (sequels : List (Sequel N G)) (outcomes : List (Result (ReplyMsg N) (ServeFault N G))) (track : KeepsTrack old) (took : HasTakenWave old taken wave sequels)
@@ -324,7 +324,7 @@ module _ {C N : Type 0} {G : Ghosts N CommitWorld} (old taken new : DeskMeaning 
   more-known : (k : KnownEntry Event) → Contains old.log.part.known k → Contains now-known k
   more-known k there = kept.learnt.more k (subst (λ (l : LogMeaning C). Contains l.part.known k) (sym took.log) there)
 
-  all-stand : StandsAs (knows-all old now-known beside) all-done
+  all-stand : StandsAs (knows-all old now-known) all-done
   all-stand = stands-all old now-known beside track more-known (subst IsOwnLog (ap (λ (d : DeskMeaning C). d.log) new-is) kept.log) taken took.errands outcomes took.each_set_out went-so
 
   rest-is : taken ≡ record old { posted = taken.posted; lost = taken.lost; bag = taken.bag }

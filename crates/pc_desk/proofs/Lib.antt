@@ -20,6 +20,7 @@ pub mod Uses
 pub mod Errands
 pub mod Still
 pub mod StraysLeft
+pub mod StraysGone
 pub mod DueLeft
 pub mod Ending
 pub mod StraysRefused

@@ -115,13 +115,13 @@ module _ {N : Type 0} {G : Ghosts N CommitWorld} where
   with-stays (Ok r ∷ os) (s ∷ ss) bag n there = with-stays os ss (with_copy s.copy bag) n (copy-stays s.copy bag n there)
   with-stays (Err f ∷ os) (s ∷ ss) bag n there = with-stays os ss bag n there
 
+passed-bag : {C : Type 0} (now new : DeskMeaning C) (passed : HasPassedFirst now new) → new.bag ≡ held_by (verdict_of now.log passed.first.number) passed.first now.bag
+passed-bag {C} now new passed = ap (λ (d : DeskMeaning C). d.bag) passed.rest
+
+out-bag : {C N : Type 0} {G : Ghosts N CommitWorld} (now new : DeskMeaning C) (e : Errand N G) → HasSetOutFirst now new e → new.bag ≡ now.bag
+out-bag {C} now new e out = ap (λ (d : DeskMeaning C). d.bag) out.rest
+
 module _ {C N : Type 0} {G : Ghosts N CommitWorld} (old : DeskMeaning C) where
-  passed-bag : (now new : DeskMeaning C) (passed : HasPassedFirst now new) → new.bag ≡ held_by (verdict_of now.log passed.first.number) passed.first now.bag
-  passed-bag now new passed = ap (λ (d : DeskMeaning C). d.bag) passed.rest
-
-  out-bag : (now new : DeskMeaning C) (e : Errand N G) → HasSetOutFirst now new e → new.bag ≡ now.bag
-  out-bag now new e out = ap (λ (d : DeskMeaning C). d.bag) out.rest
-
   set-out-keyed : (mid : DeskMeaning C) (es : List (Errand N G)) → SetsOut old mid es → AreKeyed old.bag → AreKeyed mid.bag
   set-out-keyed mid es NoneYet keyed = keyed
   set-out-keyed mid es (OnePassed now new errands so_far passed) keyed = subst AreKeyed (sym (passed-bag now new passed)) (held-keyed (verdict_of now.log passed.first.number) passed.first now.bag (set-out-keyed now errands so_far keyed))
@@ -134,7 +134,7 @@ module _ {C N : Type 0} {G : Ghosts N CommitWorld} (old : DeskMeaning C) where
 
 -- ---- what became of each message that waited
 
-module _ {C N : Type 0} {G : Ghosts N CommitWorld} (old : DeskMeaning C) (part : Part Event) (whose : part.id ≡ old.log.part.id) (bag : List (ℕ × Stray Posted)) where
+module _ {C : Type 0} (old : DeskMeaning C) (part : Part Event) (bag : List (ℕ × Stray Posted)) where
   -- The message is lost for good by its verdict, or in the bag, or was evaluated.
   abbrev IsDone : Posted → Type 0
   IsDone p = (verdict_of old.log p.number ≡ verdicts.LoseRequest) ⊎ IsIn bag p.number ⊎ KnowsEvaluation part p.number
@@ -143,6 +143,19 @@ module _ {C N : Type 0} {G : Ghosts N CommitWorld} (old : DeskMeaning C) (part :
   abbrev Fate : Posted → Type 0
   Fate p = WasGivenBack old.range_limit part (as_sent p) ⊎ (IsDone p × (is_repeating (verdict_of old.log p.number) ≡ true → IsIn bag p.number))
 
+  never : (v : Verdict) (n : ℕ) {A : Type 0} → verdict_of old.log n ≡ v → is_repeating v ≡ false → is_repeating (verdict_of old.log n) ≡ true → A
+  never v n is once repeats = absurd (let e : true ≡ false = sym repeats ∙ (ap is_repeating is ∙ once) in cc e)
+
+  passed-fate : (v : Verdict) (p : Posted) (b : List (ℕ × Stray Posted)) → verdict_of old.log p.number ≡ v → is_not_now v ≡ true → ((n : ℕ) → IsIn (held_by v p b) n → IsIn bag n) → Fate p
+  passed-fate verdicts.LoseRequest p b is now within = inr (inl is, λ repeats. never verdicts.LoseRequest p.number is refl repeats)
+  passed-fate (verdicts.Hold sends) p b is now within =
+      let there = within p.number (key_now p.number (straying (due_by p.number sends) p) b) in
+      inr (inr (inl there), λ repeats. there)
+  passed-fate verdicts.Deliver p b is now within = absurd cc
+  passed-fate verdicts.LoseReply p b is now within = absurd cc
+  passed-fate (verdicts.Repeat sends) p b is now within = absurd cc
+
+module _ {C N : Type 0} {G : Ghosts N CommitWorld} (old : DeskMeaning C) (part : Part Event) (whose : part.id ≡ old.log.part.id) (bag : List (ℕ × Stray Posted)) where
   -- What is known of a message that was set out.
   abbrev EndOf : Errand N G → Result (ReplyMsg N) (ServeFault N G) → Type 0
   EndOf e (Ok r) = KnowsEvaluation part e.message.number × ((stray : Stray (Message N G)) → e.sequel.copy ≡ Some stray → IsIn bag stray.message.number)
@@ -193,26 +206,14 @@ module _ {C N : Type 0} {G : Ghosts N CommitWorld} (old : DeskMeaning C) (part :
 
   -- ---- of each that waited
 
-  never : (v : Verdict) (n : ℕ) {A : Type 0} → verdict_of old.log n ≡ v → is_repeating v ≡ false → is_repeating (verdict_of old.log n) ≡ true → A
-  never v n is once repeats = absurd (let e : true ≡ false = sym repeats ∙ (ap is_repeating is ∙ once) in cc e)
-
-  passed-fate : (v : Verdict) (p : Posted) (b : List (ℕ × Stray Posted)) → verdict_of old.log p.number ≡ v → is_not_now v ≡ true → ((n : ℕ) → IsIn (held_by v p b) n → IsIn bag n) → Fate p
-  passed-fate verdicts.LoseRequest p b is now within = inr (inl is, λ repeats. never verdicts.LoseRequest p.number is refl repeats)
-  passed-fate (verdicts.Hold sends) p b is now within =
-      let there = within p.number (key_now p.number (straying (due_by p.number sends) p) b) in
-      inr (inr (inl there), λ repeats. there)
-  passed-fate verdicts.Deliver p b is now within = absurd cc
-  passed-fate verdicts.LoseReply p b is now within = absurd cc
-  passed-fate (verdicts.Repeat sends) p b is now within = absurd cc
-
   twice-in : (v : Verdict) (message : Message N G) (e : Errand N G) → verdict_of old.log message.number ≡ v → IsErrandOf v message e → ((stray : Stray (Message N G)) → e.sequel.copy ≡ Some stray → IsIn bag stray.message.number) → is_repeating (verdict_of old.log message.number) ≡ true → IsIn bag message.number
-  twice-in verdicts.Deliver message e is of copy repeats = never verdicts.Deliver message.number is refl repeats
+  twice-in verdicts.Deliver message e is of copy repeats = never old part bag verdicts.Deliver message.number is refl repeats
   twice-in verdicts.LoseRequest message e is of copy repeats = absurd of
-  twice-in verdicts.LoseReply message e is of copy repeats = never verdicts.LoseReply message.number is refl repeats
+  twice-in verdicts.LoseReply message e is of copy repeats = never old part bag verdicts.LoseReply message.number is refl repeats
   twice-in (verdicts.Repeat sends) message e is of copy repeats = subst (IsIn bag) of.same.alike.number (copy of.copy of.there)
   twice-in (verdicts.Hold sends) message e is of copy repeats = absurd of
 
-  errand-fate : (message : Message N G) (e : Errand N G) (o : Result (ReplyMsg N) (ServeFault N G)) → IsErrandOf (verdict_of old.log message.number) message e → EndOf e o → Fate (posted_of message)
+  errand-fate : (message : Message N G) (e : Errand N G) (o : Result (ReplyMsg N) (ServeFault N G)) → IsErrandOf (verdict_of old.log message.number) message e → EndOf e o → Fate old part bag (posted_of message)
   errand-fate message e (Ok r) of end = inr (inr (inr (subst (KnowsEvaluation part) (errand_number (verdict_of old.log message.number) message e of) end.0)), twice-in (verdict_of old.log message.number) message e refl of end.1)
   errand-fate message e (Err fault) of end = inl (subst (WasGivenBack old.range_limit part) (errand_sent (verdict_of old.log message.number) message e of) end)
 
@@ -220,24 +221,24 @@ module _ {C N : Type 0} {G : Ghosts N CommitWorld} (old : DeskMeaning C) (part :
   log-same mid es out = ap (λ (d : DeskMeaning C). d.log) (set_out_rest old mid es out)
 
   -- each that waited waits still, or it is known what became of it
-  fates : (mid : DeskMeaning C) (es : List (Errand N G)) (os : List (Result (ReplyMsg N) (ServeFault N G))) → SetsOut old mid es → AllZip EndOf es os → ((n : ℕ) → IsIn mid.bag n → IsIn bag n) → (p : Posted) → Contains old.posted p → Contains mid.posted p ⊎ Fate p
+  fates : (mid : DeskMeaning C) (es : List (Errand N G)) (os : List (Result (ReplyMsg N) (ServeFault N G))) → SetsOut old mid es → AllZip EndOf es os → ((n : ℕ) → IsIn mid.bag n → IsIn bag n) → (p : Posted) → Contains old.posted p → Contains mid.posted p ⊎ Fate old part bag p
   fates mid es os NoneYet ends within p there = inl there
   fates mid es os (OnePassed now new errands so_far passed) ends within p there = elim (fates now errands os so_far ends (λ n c. in-new n (held-stays (verdict_of now.log passed.first.number) passed.first now.bag n c)) p there) [
-    | inl waits ↦ elim (contains_cons passed.first new.posted p (subst (λ l. Contains l p) passed.taken.first waits)) [ inl here ↦ inr (subst Fate here it) | inr behind ↦ inl behind ]
+    | inl waits ↦ elim (contains_cons passed.first new.posted p (subst (λ l. Contains l p) passed.taken.first waits)) [ inl here ↦ inr (subst (Fate old part bag) here it) | inr behind ↦ inl behind ]
     | inr fate ↦ inr fate
   ]
     where
       in-new : (n : ℕ) → IsIn (held_by (verdict_of now.log passed.first.number) passed.first now.bag) n → IsIn bag n
-      in-new n c = within n (subst (λ b. IsIn b n) (sym (passed-bag old now new passed)) c)
+      in-new n c = within n (subst (λ b. IsIn b n) (sym (passed-bag now new passed)) c)
 
-      it : Fate passed.first
-      it = passed-fate (verdict_of now.log passed.first.number) passed.first now.bag (ap (λ (l : LogMeaning C). verdict_of l passed.first.number) (sym (log-same now errands so_far))) passed.now in-new
+      it : Fate old part bag passed.first
+      it = passed-fate old part bag (verdict_of now.log passed.first.number) passed.first now.bag (ap (λ (l : LogMeaning C). verdict_of l passed.first.number) (sym (log-same now errands so_far))) passed.now in-new
   fates mid es os (OneSetOut now new errands errand so_far out) ends within p there = by (zip_last EndOf errands errand os ends)
     where
-      by : ZipLast EndOf errands errand os → Contains new.posted p ⊎ Fate p
-      by z = elim (fates now errands z.front so_far z.before (λ n c. within n (subst (λ b. IsIn b n) (sym (out-bag old now new errand out)) c)) p there) [
+      by : ZipLast EndOf errands errand os → Contains new.posted p ⊎ Fate old part bag p
+      by z = elim (fates now errands z.front so_far z.before (λ n c. within n (subst (λ b. IsIn b n) (sym (out-bag now new errand out)) c)) p there) [
         | inl waits ↦ elim (contains_cons (posted_of out.message) new.posted p (subst (λ l. Contains l p) out.taken.first waits)) [
-          | inl here ↦ inr (subst Fate here (errand-fate out.message errand z.last (subst (λ (l : LogMeaning C). IsErrandOf (verdict_of l out.message.number) out.message errand) (log-same now errands so_far) out.errand_of) z.is))
+          | inl here ↦ inr (subst (Fate old part bag) here (errand-fate out.message errand z.last (subst (λ (l : LogMeaning C). IsErrandOf (verdict_of l out.message.number) out.message errand) (log-same now errands so_far) out.errand_of) z.is))
           | inr behind ↦ inl behind
         ]
         | inr fate ↦ inr fate
@@ -295,7 +296,7 @@ module _ {C N : Type 0} {G : Ghosts N CommitWorld} (old taken new : DeskMeaning 
     ends : AllZip (EndOf old last-part refl last-bag) took.errands outcomes
     ends = end-each old last-part refl last-bag took.errands outcomes taken.bag may-all came-so known-all (λ n there. subst (λ ss. IsIn (bag_with outcomes ss taken.bag) n) (sym took.sequels_are) there)
 
-    fate-of : (p : Posted) → Contains old.posted p → Fate old last-part refl last-bag p
+    fate-of : (p : Posted) → Contains old.posted p → Fate old last-part last-bag p
     fate-of p there = elim (fates old last-part refl last-bag taken took.errands outcomes took.each_set_out ends (λ n c. with-stays outcomes sequels taken.bag n c) p there) [
       | inl waits ↦ absurd (contains_nil p (subst (λ l. Contains l p) all waits))
       | inr fate ↦ fate
@@ -319,12 +320,12 @@ module _ {C N : Type 0} {G : Ghosts N CommitWorld} (old taken new : DeskMeaning 
 
     -- ---- one that waited
 
-    done-somewhere : (x : Sent) (p : Posted) → p.number ≡ x.number → IsDone old last-part refl last-bag p → IsSomewhere over x
+    done-somewhere : (x : Sent) (p : Posted) → p.number ≡ x.number → IsDone old last-part last-bag p → IsSomewhere over x
     done-somewhere x p same (inl lost) = inr (inr (inr (subst (λ n. verdict_of old.log n ≡ verdicts.LoseRequest) same lost)))
     done-somewhere x p same (inr (inl there)) = inr (inl (subst (WaitsStill (all_waiting over)) same (bag-waits p.number there)))
     done-somewhere x p same (inr (inr knows)) = inr (inr (inl (subst (KnowsEvaluation last-part) same knows)))
 
-    by-fate : (x : Sent) → Contains sent-all x → (p : Posted) → Contains old.posted p → p.number ≡ x.number → Fate old last-part refl last-bag p → IsSpent over x ⊎ IsNotLost over x
+    by-fate : (x : Sent) → Contains sent-all x → (p : Posted) → Contains old.posted p → p.number ≡ x.number → Fate old last-part last-bag p → IsSpent over x ⊎ IsNotLost over x
     by-fate x there p within same (inl back) = inl (record { refused = subst (WasGivenBack old.range_limit last-part) (the-one p within x there same) back })
     by-fate x there p within same (inr done) = inr (
       done-somewhere x p same done.0,

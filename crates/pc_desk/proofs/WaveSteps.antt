@@ -1,21 +1,23 @@
 -- A wave that is taken from the outbox message by message, and what became of it, taken in outcome by outcome.
-use Rattle.std.proofs.Common.{◌≡◌, ℕ, ◌+◌, ◌<◌, ◌≤◌, suc, cond, Bool, true, false, All, Contains, List, [], ◌∷◌, ◌++◌, length, map, Result, Ok, Err, refl, sym, ap, subst, ◌∙◌, arith, length-append}
+use Rattle.std.proofs.Common.{◌≡◌, ℕ, ◌+◌, ◌<◌, ◌≤◌, suc, cond, Bool, true, false, All, Contains, List, [], ◌∷◌, ◌++◌, length, map, None, Option, Some, Result, Ok, Err, refl, sym, ap, subst, ◌∙◌, arith, length-append}
 use Rattle.std.proofs.lemmas.List.{append-nil, append_assoc, map-append}
 use Rattle.std.proofs.lemmas.List.Elements.{All-head, All-nil, All-push, All-tail, All-weaker, Contains-append_left, Contains-append_right}
 use Rattle.std.specs.List.{AllZip}
+use Rattle.pc_desk.proofs.StraysRefused.{told_copy_is}
 use Rattle.pc_desk.specs.declared.answered.Answered.{Answered}
 use Rattle.pc_desk.specs.declared.errand.Errand.{Errand}
 use Rattle.pc_desk.specs.declared.errand.Sequel.{Sequel}
 use Rattle.pc_desk.specs.Desk.{DeskMeaning, Posted}
-use Rattle.pc_desk.specs.Errand.{HasPassedFirst, HasSetOutFirst, IsErrandOf, with_copy}
-use Rattle.pc_desk.specs.Evaluating.{HasTakenReply, kept_by}
+use Rattle.pc_desk.specs.Errand.{HasPassedFirst, HasSetOutFirst, IsErrandOf, MayBeKept, with_copy}
+use Rattle.pc_desk.specs.Evaluating.{HasTakenReply, kept_by, told_copy}
 use Rattle.pc_desk.specs.OwnLog.{IsOwnLog, LogMeaning, verdict_of}
-use Rattle.pc_desk.specs.TakenWave.{HasKeptAll, HasStoppedFor, HasTakenAllIn, HasTakenIn, HasTakenWave, KnowsOutcome, MayBeTakenIn, NoneYet, OnePassed, OneSetOut, SetsOut, answers_in, bag_with}
+use Rattle.pc_desk.specs.TakenWave.{HasKeptAll, HasStoppedFor, HasTakenAllIn, HasTakenIn, HasTakenWave, KnowsOutcome, MayBeTakenIn, NoneYet, OnePassed, OneSetOut, SetsOut, answers_in, bag_with, copy_note}
 use Rattle.pc_desk.specs.Waiting.{IsBehindAll}
 use Rattle.pc_desk.specs.Wave.{AreRisingMessages, GoesOut, HasJoined, IsReply, MayGo, answered_by, posted_in, posted_of}
 use Rattle.pc_history.specs.declared.named.Named.{Ghosts}
 use Rattle.pc_history.specs.declared.view.Known.{Known as KnownEntry}
 use Rattle.pc_history.specs.declared.view.Part.{Part}
+use Rattle.pc_history.specs.Meanings.{NoteMeaning}
 use Rattle.pc_history.specs.Parts.{told, with_uses, without_uses}
 use Rattle.pc_proto.specs.declared.event.Event.{Event}
 use Rattle.pc_range.specs.declared.commit_world.CommitWorld.{CommitWorld}
@@ -28,6 +30,7 @@ use Rattle.pc_serving.specs.Delivery.{MayBeServed}
 use Rattle.pc_wire.specs.declared.outbox.Stray.{Stray}
 use Rattle.pc_wire.specs.declared.verdict.Verdict.{Verdict}
 use Rattle.pc_wire.specs.declared.verdict.Verdict.TheVariants as verdicts
+use Rattle.pc_world.specs.Local.{Head}
 
 -- ---- a wave is taken
 
@@ -331,3 +334,33 @@ module _ {C N : Type 0} {G : Ghosts N CommitWorld} where
   taken_in_reply old mid new o r s note is copied same took =
       subst (λ x. HasTakenIn old new x s) (sym is)
       (took-in old new (Ok r) s note (with_copy s.copy old.bag) (took ∙ ap (λ (d : DeskMeaning C). record d { log = record d.log { part = told note d.log.part } }) copied) refl (λ all k there. all k (subst (λ l. Contains l k) (sym same) there)))
+
+  -- a message that was given back is taken in
+  pub taken_in_back : (old new : DeskMeaning C) (fault : ServeFault N G) (at : ℕ) (last : NoteMeaning Head Event) (message : Message N G) (s : Sequel N G) (first other : LogMeaning C) → fault ≡ faults.Full at last message → first ≡ record old.log { part = told last.known old.log.part }
+      → other ≡ record first { part = told message.note.known first.part } → new ≡ record old { log = record other { part = told_copy s.copy other.part } } → HasTakenIn old new (Err fault) s
+  taken_in_back old new fault at last message s first other is took_last took_use took_copy =
+      subst (λ (f : ServeFault N G). HasTakenIn old new (Err f) s) (sym is) (took-in old new (Err (faults.Full at last message)) s (last.known ++ (message.note.known ++ copy_note s.copy)) old.bag told-all refl (λ all. all))
+    where
+      logs : other ≡ record old.log { part = told message.note.known (told last.known old.log.part) }
+      logs = took_use ∙ ap (λ (l : LogMeaning C). record l { part = told message.note.known l.part }) took_last
+
+      told-all : new ≡ record old { log = record old.log { part = told (last.known ++ (message.note.known ++ copy_note s.copy)) old.log.part } }
+      told-all =
+          took_copy
+          ∙ (ap (λ (l : LogMeaning C). record old { log = record l { part = told_copy s.copy l.part } }) logs
+          ∙ (ap (λ (p : Part Event). record old { log = record old.log { part = p } }) (told_copy_is s.copy (told message.note.known (told last.known old.log.part)))
+          ∙ ap (λ ks. record old { log = record old.log { part = record old.log.part { known = ks } } })
+          (append_assoc (old.log.part.known ++ last.known) message.note.known (copy_note s.copy) ∙ append_assoc old.log.part.known last.known (message.note.known ++ copy_note s.copy))))
+
+-- ---- the next of a wave
+
+module _ {C N : Type 0} {G : Ghosts N CommitWorld} where
+  -- the copy of the next may go into the bag still
+  pub next_may : (old now : DeskMeaning C) (all left : List (Result (ReplyMsg N) (ServeFault N G))) (sequels left_sequels : List (Sequel N G)) (o : Result (ReplyMsg N) (ServeFault N G)) (s : Sequel N G) → (log : LogMeaning C) → log ≡ record old.log { part = record old.log.part { known = log.part.known } }
+      → AllZip (MayBeTakenIn old.log) (o ∷ left) (s ∷ left_sequels) → MayBeTakenIn log o s
+  next_may old now all left sequels left_sequels (Ok r) s log same each = subst (λ (l : LogMeaning C). MayBeTakenIn l (Ok r) s) (sym same) (kept-on s.copy each.0)
+    where
+      kept-on : (copy : Option (Stray (Message N G))) → MayBeKept old.log copy r.note.known → MayBeKept (record old.log { part = record old.log.part { known = log.part.known } }) copy r.note.known
+      kept-on None may = tt
+      kept-on (Some stray) may = may
+  next_may old now all left sequels left_sequels (Err fault) s log same each = tt
