@@ -73,10 +73,6 @@ zip_last R (a ∷ xs) x (y ∷ ys) zips = let l = zip_last R xs x ys zips.1 in r
 -- ---- what is put into a bag
 
 module _ {N : Type 0} {G : Ghosts N CommitWorld} where
-  -- What became of a message.
-  abbrev Outcome : Type 0
-  Outcome = Result (ReplyMsg N) (ServeFault N G)
-
   -- The copy, if there is one, has a lower number.
   abbrev IsBelow : ℕ → Sequel N G → Type 0
   IsBelow n s = (stray : Stray (Message N G)) → s.copy ≡ Some stray → stray.message.number < n
@@ -86,16 +82,16 @@ module _ {N : Type 0} {G : Ghosts N CommitWorld} where
   copy-held None due m bag below = refl
   copy-held (Some stray) due m bag below = swapped stray.message.number m.number (straying stray.due (posted_of stray.message)) (straying (due_by m.number due) m) bag (below stray refl)
 
-  hold-under : (due : ℕ) (m : Posted) (os : List Outcome) (ss : List (Sequel N G)) (bag : List (ℕ × Stray Posted)) → All (IsBelow m.number) ss → bag_with os ss (held_by (verdicts.Hold due) m bag) ≡ held_by (verdicts.Hold due) m (bag_with os ss bag)
+  hold-under : (due : ℕ) (m : Posted) (os : List (Result (ReplyMsg N) (ServeFault N G))) (ss : List (Sequel N G)) (bag : List (ℕ × Stray Posted)) → All (IsBelow m.number) ss → bag_with os ss (held_by (verdicts.Hold due) m bag) ≡ held_by (verdicts.Hold due) m (bag_with os ss bag)
   hold-under due m [] ss bag below = refl
   hold-under due m (Ok r ∷ os) [] bag below = refl
   hold-under due m (Err f ∷ os) [] bag below = refl
   hold-under due m (Ok r ∷ os) (s ∷ ss) bag below =
-      ap (bag_with os ss) (copy-held s.copy due m bag (All-head (IsBelow m.number) s ss below)) ∙ hold-under due m os ss (with_copy s.copy bag) (All-tail (IsBelow m.number) s ss below)
+      ap (λ b. bag_with os ss b) (copy-held s.copy due m bag (All-head (IsBelow m.number) s ss below)) ∙ hold-under due m os ss (with_copy s.copy bag) (All-tail (IsBelow m.number) s ss below)
   hold-under due m (Err f ∷ os) (s ∷ ss) bag below = hold-under due m os ss bag (All-tail (IsBelow m.number) s ss below)
 
   -- a message that is held may go into the bag before the copies of those with lower numbers, or behind them
-  held-under : (v : Verdict) (m : Posted) (os : List Outcome) (ss : List (Sequel N G)) (bag : List (ℕ × Stray Posted)) → All (IsBelow m.number) ss → bag_with os ss (held_by v m bag) ≡ held_by v m (bag_with os ss bag)
+  held-under : (v : Verdict) (m : Posted) (os : List (Result (ReplyMsg N) (ServeFault N G))) (ss : List (Sequel N G)) (bag : List (ℕ × Stray Posted)) → All (IsBelow m.number) ss → bag_with os ss (held_by v m bag) ≡ held_by v m (bag_with os ss bag)
   held-under verdicts.Deliver m os ss bag below = refl
   held-under verdicts.LoseRequest m os ss bag below = refl
   held-under verdicts.LoseReply m os ss bag below = refl
