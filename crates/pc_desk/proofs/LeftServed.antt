@@ -109,8 +109,15 @@ module _ {N : Type 0} {G : Ghosts N CommitWorld} (left : Left N G) where
 
     -- it was evaluated once more
     pub again_known : (part : Part Event) (note : NoteMeaning Head Event) → left.first ≡ Some note → KnowsTimes part (posted_of left.message) 2 → KnowsTimes part (posted_of left.message) (times_known (left_of left))
-    again_known part note is knows = subst (KnowsTimes part (posted_of left.message)) (sym (ap (λ f. times_first (first_told f) + left.times) is ∙ ap (λ n. 1 + n) (once-again note is))) knows
+    again_known part note is knows =
+        let first : times_first (first_told left.first) ≡ 1 = ap (λ f. times_first (first_told f)) is in
+        let one = once-again note is in
+        let both : times_first (first_told left.first) + left.times ≡ 2 = omega (arith, first, one) in
+        subst (KnowsTimes part (posted_of left.message)) (sym both) knows
 
   -- it was evaluated so often
   pub first_known : (part : Part Event) (n : ℕ) → left.first ≡ None → left.times ≡ n → KnowsTimes part (posted_of left.message) n → KnowsTimes part (posted_of left.message) (times_known (left_of left))
-  first_known part n is times knows = subst (KnowsTimes part (posted_of left.message)) (sym (ap (λ f. times_first (first_told f) + left.times) is ∙ times)) knows
+  first_known part n is times knows =
+      let first : times_first (first_told left.first) ≡ 0 = ap (λ f. times_first (first_told f)) is in
+      let all : times_first (first_told left.first) + left.times ≡ n = omega (arith, first, times) in
+      subst (KnowsTimes part (posted_of left.message)) (sym all) knows
