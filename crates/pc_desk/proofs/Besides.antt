@@ -275,6 +275,18 @@ module _ {C N : Type 0} {G : Ghosts N CommitWorld} (old : DeskMeaning C) (known 
       ∙ ap (λ b. record now { log = knowing known old.log; posted = new.posted; lost = lost_by (verdict_of old.log n) n now.lost; replies = kept_by e.sequel.is_heard a (now.replies ++ answers_in os (sequels-of es)); bag = b }) (bag_push os (sequels-of es) (Ok r) e.sequel now.bag same)))) in
       subst (StandsAs (with-all now es os)) (sym is) stands
 
+  -- so it is with the last of those that became of all
+  one-last : (now new : DeskMeaning C) (es : List (Errand N G)) (e : Errand N G) (os : List (Result (ReplyMsg N) (ServeFault N G))) → SetsOut old now es → HasSetOutFirst now new e → (z : ZipLast Went es e os) → StandsAs (knows-all old known) (with-all now es z.front)
+      → StandsAs (knows-all old known) (with-all new (es ++ e ∷ []) os)
+  one-last now new es e os so_far out z before = subst (λ l. StandsAs (knows-all old known) (with-all new (es ++ e ∷ []) l)) (sym z.whole) (last z.last z.is)
+    where
+      same : length z.front ≡ length (sequels-of es)
+      same = sym (length-map es (λ (x : Errand N G). x.sequel) ∙ zip_long Went es z.front z.before)
+
+      last : (o : Result (ReplyMsg N) (ServeFault N G)) → Went e o → StandsAs (knows-all old known) (with-all new (es ++ e ∷ []) (z.front ++ o ∷ []))
+      last (Ok r) is = stands-both (knows-all old known) (with-all now es z.front) (with-all new (es ++ e ∷ []) (z.front ++ Ok r ∷ [])) before (one-more now new es e z.front r so_far out same is before.track)
+      last (Err fault) is = absurd is
+
   module _ (track : KeepsTrack old) (more : (k : KnownEntry Event) → Contains old.log.part.known k → Contains known k) (log : IsOwnLog (knowing known old.log)) where
     -- as if they had gone one after another
     stands-all : (mid : DeskMeaning C) (es : List (Errand N G)) (os : List (Result (ReplyMsg N) (ServeFault N G))) → SetsOut old mid es → AllZip Went es os → StandsAs (knows-all old known) (with-all mid es os)
@@ -283,20 +295,9 @@ module _ {C N : Type 0} {G : Ghosts N CommitWorld} (old : DeskMeaning C) (known 
     stands-all mid es os (OnePassed now new errands so_far passed) went =
         let before = stands-all now errands os so_far went in
         stands-both (knows-all old known) (with-all now errands os) (with-all new errands os) before (stands_passed (with-all now errands os) (with-all new errands os) before.track (passed-first now new errands os so_far passed))
-    stands-all mid es os (OneSetOut now new errands errand so_far out) went = by (zip_last Went errands errand os went)
-      where
-        by : ZipLast Went errands errand os → StandsAs (knows-all old known) (with-all new (errands ++ errand ∷ []) os)
-        by z = subst (λ l. StandsAs (knows-all old known) (with-all new (errands ++ errand ∷ []) l)) (sym z.whole) (last z.last z.is)
-          where
-            before : StandsAs (knows-all old known) (with-all now errands z.front)
-            before = stands-all now errands z.front so_far z.before
-
-            same : length z.front ≡ length (sequels-of errands)
-            same = sym (length-map errands (λ (e : Errand N G). e.sequel) ∙ zip_long Went errands z.front z.before)
-
-            last : (o : Result (ReplyMsg N) (ServeFault N G)) → Went errand o → StandsAs (knows-all old known) (with-all new (errands ++ errand ∷ []) (z.front ++ o ∷ []))
-            last (Ok r) is = stands-both (knows-all old known) (with-all now errands z.front) (with-all new (errands ++ errand ∷ []) (z.front ++ Ok r ∷ [])) before (one-more now new errands errand z.front r so_far out same is before.track)
-            last (Err fault) is = absurd is
+    stands-all mid es os (OneSetOut now new errands errand so_far out) went =
+        let z = zip_last Went errands errand os went in
+        one-last now new errands errand os so_far out z (stands-all now errands z.front so_far z.before)
 
 module _ {C N : Type 0} {G : Ghosts N CommitWorld} (old taken new : DeskMeaning C) (wave : List (Delivery N G)) (sequels : List (Sequel N G)) (outcomes : List (Result (ReplyMsg N) (ServeFault N G))) (track : KeepsTrack old) (took : HasTakenWave old taken wave sequels)
     (became : AllZip (Became old.range_limit) wave outcomes) (beside : old.log.beside ≡ true) (replies : All IsReply outcomes) (kept : HasKeptAll taken new outcomes sequels) where

@@ -233,10 +233,9 @@ module _ {C N : Type 0} {G : Ghosts N CommitWorld} (old : DeskMeaning C) (part :
 
       it : Fate old part bag passed.first
       it = passed-fate old part bag (verdict_of now.log passed.first.number) passed.first now.bag (ap (λ (l : LogMeaning C). verdict_of l passed.first.number) (sym (log-same now errands so_far))) passed.now in-new
-  fates mid es os (OneSetOut now new errands errand so_far out) ends within p there = by (zip_last EndOf errands errand os ends)
-    where
-      by : ZipLast EndOf errands errand os → Contains new.posted p ⊎ Fate old part bag p
-      by z = elim (fates now errands z.front so_far z.before (λ n c. within n (subst (λ b. IsIn b n) (sym (out-bag now new errand out)) c)) p there) [
+  fates mid es os (OneSetOut now new errands errand so_far out) ends within p there =
+      let z = zip_last EndOf errands errand os ends in
+      elim (fates now errands z.front so_far z.before (λ n c. within n (subst (λ b. IsIn b n) (sym (out-bag now new errand out)) c)) p there) [
         | inl waits ↦ elim (contains_cons (posted_of out.message) new.posted p (subst (λ l. Contains l p) out.taken.first waits)) [
           | inl here ↦ inr (subst (Fate old part bag) here (errand-fate out.message errand z.last (subst (λ (l : LogMeaning C). IsErrandOf (verdict_of l out.message.number) out.message errand) (log-same now errands so_far) out.errand_of) z.is))
           | inr behind ↦ inl behind
