@@ -1,34 +1,32 @@
--- A wave that was evaluated beside each other: its replies wait in order, or its list has ended.
-use Rattle.std.proofs.Common.{◌≡◌, ℕ, ◌+◌, ◌<◌, ◌≤◌, ◌⊎◌, ◌==◌, ◌||◌, Bool, true, false, nat_lt, inl, inr, All, Contains, IsTrue, List, [], ◌∷◌, ◌++◌, length, map, Option, Some, Result, Ok, Err, IfErr, refl, sym, ap, subst, ◌∙◌, arith}
-use Rattle.std.proofs.lemmas.Bool.{eq-eqb, eqb-true}
-use Rattle.std.proofs.lemmas.List.{append-nil}
-use Rattle.std.proofs.lemmas.List.Elements.{Contains-append_cases, Contains-append_left, Contains-append_right, All-contains, All-cons, All-head, All-nil, All-tail, All-weaker}
-use Rattle.std.specs.List.{AllZip, list_any}
-use Rattle.pc_base.specs.declared.actor.ActorId.{ActorId}
-use Rattle.pc_base.specs.declared.actor.ActorId.TheVariants as actors
-use Rattle.pc_desk.proofs.Counting.{any_counts, counted_once}
-use Rattle.pc_desk.proofs.Ending.{all_wait, ended_memory, not_lost}
+-- A wave that was evaluated beside each other: its replies wait in order, as if the messages had gone one after another.
+use Rattle.std.proofs.Common.{◌≡◌, ℕ, ◌<◌, ◌≤◌, ◌||◌, true, false, All, Contains, List, [], ◌∷◌, ◌++◌, length, map, None, Option, Some, Result, Ok, Err, IfErr, refl, sym, ap, subst, ◌∙◌}
+use Rattle.std.proofs.lemmas.List.{append-nil, append_assoc, length-map, map-append}
+use Rattle.std.proofs.lemmas.List.Elements.{All-head, All-map, All-nil, All-push, All-tail, All-weaker}
+use Rattle.std.specs.List.{AllZip}
+use Rattle.pc_desk.proofs.BagOrder.{swapped}
+use Rattle.pc_desk.proofs.Delivering.{StandsAs, stands_evaluated, stands_passed}
+use Rattle.pc_desk.proofs.Ending.{ended_memory}
+use Rattle.pc_desk.proofs.Errands.{may_be_kept}
 use Rattle.pc_desk.proofs.Halting.{wants_memory}
-use Rattle.pc_desk.proofs.Refusing.{refused_still, was_given_back}
-use Rattle.pc_desk.proofs.Tracking.{stray_on}
-use Rattle.pc_desk.proofs.Waves.{in_wave_now}
+use Rattle.pc_desk.proofs.Learning.{knowing, track_knowing}
+use Rattle.pc_desk.proofs.WaveSteps.{answers_push, bag_push, errand_number, kept_answer, zip_long}
 use Rattle.pc_desk.specs.declared.answered.Answered.{Answered}
+use Rattle.pc_desk.specs.declared.errand.Errand.{Errand}
+use Rattle.pc_desk.specs.declared.errand.Sequel.{Sequel}
 use Rattle.pc_desk.specs.declared.halt.Halt.{Halt}
 use Rattle.pc_desk.specs.declared.halt.Halt.TheVariants as halts
-use Rattle.pc_desk.specs.Desk.{AreInTurn, DeskMeaning, HasDelivered, HasHalted, IsAnsweredBy, IsOneSent, IsStray, KeepsTrack, KnowsFull, Posted, answered_as, as_sent, heard_as_number, is_on_way, posted_as, times_sent}
-use Rattle.pc_desk.specs.Ending.{EndsBy, EndsOnly, HasEnded, IsNotLost, IsSpent, KnowsEvaluation, PostsInCall, PutsInCall, WaitsUnheard, all_waiting}
-use Rattle.pc_desk.specs.OwnLog.{IsOwnLog, LogMeaning}
-use Rattle.pc_desk.specs.Refused.{WasGivenBack}
-use Rattle.pc_desk.specs.Waiting.{EndsUnheard, WentOn}
-use Rattle.pc_desk.specs.Wave.{AreRisingMessages, EndsFor, GoesOut, HasKeptAll, HasStoppedFor, HasTakenWave, IsHaltOf, IsRefusalIn, IsReply, KnowsOutcome, answered_by, answers_in, posted_in, posted_of}
-use Rattle.pc_follows.specs.WaveEvaluation.{IsInWave}
+use Rattle.pc_desk.specs.Desk.{DeskMeaning, HasDelivered, HasHalted, KeepsTrack, Posted, has_lost, is_on_way, straying}
+use Rattle.pc_desk.specs.Ending.{EndsOnly}
+use Rattle.pc_desk.specs.Errand.{HasPassedFirst, HasSetOutFirst, IsCopyFor, IsErrandOf, IsItsCopy, due_by, held_by, is_not_now, lost_by, with_copy}
+use Rattle.pc_desk.specs.Evaluating.{kept_by}
+use Rattle.pc_desk.specs.OwnLog.{IsOwnLog, LogMeaning, verdict_of}
+use Rattle.pc_desk.specs.TakenWave.{HasKeptAll, HasTakenWave, KnowsOutcome, MayBeTakenIn, NoneYet, OnePassed, OneSetOut, SetsOut, answers_in, bag_with}
+use Rattle.pc_desk.specs.Wave.{GoesOut, IsReply, MayGo, answered_by, posted_of}
 use Rattle.pc_history.specs.declared.named.Named.{Ghosts}
 use Rattle.pc_history.specs.declared.pair.Pair.{Pair}
 use Rattle.pc_history.specs.declared.view.Known.{Known as KnownEntry}
 use Rattle.pc_history.specs.declared.view.Part.{Part}
-use Rattle.pc_history.specs.Meanings.{NoteMeaning}
-use Rattle.pc_lists.proofs.Counts.{count-cons, one_if}
-use Rattle.pc_lists.proofs.Lists.{all_from_contains, contains_cons, contains_head, contains_in_map, contains_map, contains_nil, contains_tail}
+use Rattle.pc_lists.proofs.Lists.{contains_head}
 use Rattle.pc_proto.specs.declared.event.Event.{Event}
 use Rattle.pc_range.specs.declared.commit_world.CommitWorld.{CommitWorld}
 use Rattle.pc_range.specs.declared.message.Message.{Message}
@@ -36,352 +34,317 @@ use Rattle.pc_range.specs.declared.message.ReplyMsg.{ReplyMsg}
 use Rattle.pc_range.specs.declared.message.ServeFault.{ServeFault}
 use Rattle.pc_range.specs.declared.message.ServeFault.TheVariants as faults
 use Rattle.pc_range.specs.Cell.{IsFullAt}
-use Rattle.pc_range.specs.Message.{evaluation}
+use Rattle.pc_range.specs.Message.{IsEvalNote, evaluation}
 use Rattle.pc_serving.specs.declared.delivery.Delivery.{Delivery}
 use Rattle.pc_serving.specs.Delivery.{Became, IsReplyTo, MayBeServed}
-use Rattle.pc_world.specs.Known.{Known, known_of}
-use Rattle.pc_world.specs.Known.Traffic.{Heard, Sent, request_sent}
-use Rattle.pc_world.specs.Local.{Head}
-use Rattle.pc_world.specs.Tell.Refusal.{is_heard}
+use Rattle.pc_wire.specs.declared.outbox.Stray.{Stray}
+use Rattle.pc_wire.specs.declared.verdict.Verdict.{Verdict}
+use Rattle.pc_wire.specs.declared.verdict.Verdict.TheVariants as verdicts
 
--- What was sent under this message's number asks this.
-abbrev Says : List Sent → Posted → Type 0
-Says sent m = request_sent m.number sent ≡ Some m.request
+-- ---- lists beside each other
 
-or-false : (b : Bool) → (b || false) ≡ b
-or-false true = refl
-or-false false = refl
+zip-from-map : {X Y Z : Type 0} (f : X → Z) (R : Z → Y → Type 0) (xs : List X) (ys : List Y) → AllZip R (map f xs) ys → AllZip (λ x. R (f x)) xs ys
+zip-from-map f R [] [] zips = tt
+zip-from-map f R [] (y ∷ ys) zips = absurd zips
+zip-from-map f R (x ∷ xs) [] zips = absurd zips
+zip-from-map f R (x ∷ xs) (y ∷ ys) zips = (zips.0, zip-from-map f R xs ys zips.1)
 
--- ---- a message and its reply
+zip-to-map : {X Y Z : Type 0} (f : X → Z) (R : Z → Y → Type 0) (xs : List X) (ys : List Y) → AllZip (λ x. R (f x)) xs ys → AllZip R (map f xs) ys
+zip-to-map f R [] [] zips = tt
+zip-to-map f R [] (y ∷ ys) zips = absurd zips
+zip-to-map f R (x ∷ xs) [] zips = absurd zips
+zip-to-map f R (x ∷ xs) (y ∷ ys) zips = (zips.0, zip-to-map f R xs ys zips.1)
 
-module _ (own : List (Pair Event)) (id : ActorId) (known : List (KnownEntry Event)) where
-  -- The reply is to the message, of an evaluation that is known, behind all these entries.
-  record Answers (m : Posted) (a : Answered) : Type 0 where
-    place : ℕ
-    number : a.number ≡ m.number
-    behind : All (λ (p : Pair Event). p.entry.step < a.step) own
-    knows : Contains known (record { entry = evaluation a.step m.range id a.number a.reply; place = place; uses = 0 })
+-- lists that go beside each other, of which the one has a last, both have
+pub record ZipLast {X Y : Type 0} (R : X → Y → Type 0) (xs : List X) (x : X) (all : List Y) : Type 0 where
+  pub front : List Y
+  pub last : Y
+  pub whole : all ≡ front ++ last ∷ []
+  pub before : AllZip R xs front
+  pub is : R x last
 
-  counts : (ms : List Posted) (rs : List Answered) → AllZip Answers ms rs → (n : ℕ) → answered_as n rs ≡ posted_as n ms
-  counts [] [] zips n = refl
-  counts [] (a ∷ rs) zips n = absurd zips
-  counts (m ∷ ms) [] zips n = absurd zips
-  counts (m ∷ ms) (a ∷ rs) zips n =
-      let rest = counts ms rs zips.1 n in
-      let one : one_if (a.number == n) ≡ one_if (m.number == n) = ap (λ i. one_if (i == n)) zips.0.number in
-      omega (arith, rest, one, count-cons (λ (x : Answered). x.number == n) a rs, count-cons (λ (x : Posted). x.number == n) m ms)
+pub zip_last : {X Y : Type 0} (R : X → Y → Type 0) (xs : List X) (x : X) (all : List Y) → AllZip R (xs ++ x ∷ []) all → ZipLast R xs x all
+zip_last R [] x [] zips = absurd zips
+zip_last R [] x (y ∷ []) zips = record { front = []; last = y; whole = refl; before = tt; is = zips.0 }
+zip_last R [] x (y ∷ z ∷ ys) zips = absurd zips.1
+zip_last R (a ∷ xs) x [] zips = absurd zips
+zip_last R (a ∷ xs) x (y ∷ ys) zips = let l = zip_last R xs x ys zips.1 in record { front = y ∷ l.front; last = l.last; whole = ap (λ ls. y ∷ ls) l.whole; before = (zips.0, l.before); is = l.is }
 
-  all-later : (least : ℕ) (ms : List Posted) (rs : List Answered) → AllZip Answers ms rs → All (λ (m : Posted). least < m.number) ms → All (λ (a : Answered). least < a.number) rs
-  all-later least [] [] zips later = All-nil (λ (a : Answered). least < a.number)
-  all-later least [] (a ∷ rs) zips later = absurd zips
-  all-later least (m ∷ ms) [] zips later = absurd zips
-  all-later least (m ∷ ms) (a ∷ rs) zips later =
-      All-cons (λ (b : Answered). least < b.number) a rs (subst (λ n. least < n) (sym zips.0.number) (All-head (λ (x : Posted). least < x.number) m ms later))
-      (all-later least ms rs zips.1 (All-tail (λ (x : Posted). least < x.number) m ms later))
+-- ---- what is put into a bag
 
-  in-turn : (ms : List Posted) (rs : List Answered) → AllZip Answers ms rs → AreRisingMessages ms → AreInTurn rs
-  in-turn [] [] zips rising = tt
-  in-turn [] (a ∷ rs) zips rising = absurd zips
-  in-turn (m ∷ ms) [] zips rising = absurd zips
-  in-turn (m ∷ ms) (a ∷ rs) zips rising = (
-    subst (λ n. All (λ (b : Answered). n < b.number) rs) (sym zips.0.number) (all-later m.number ms rs zips.1 rising.0),
-    in-turn ms rs zips.1 rising.1,
-  )
+module _ {N : Type 0} {G : Ghosts N CommitWorld} where
+  -- The copy, if there is one, has a lower number.
+  abbrev IsBelow : ℕ → Sequel N G → Type 0
+  IsBelow n s = (stray : Stray (Message N G)) → s.copy ≡ Some stray → stray.message.number < n
 
-  in-wave : (ms : List Posted) (rs : List Answered) → AllZip Answers ms rs → All (λ (m : Posted). EndsUnheard own) ms → All (λ (a : Answered). IsInWave own a.step) rs
-  in-wave [] [] zips unheard = All-nil (λ (a : Answered). IsInWave own a.step)
-  in-wave [] (a ∷ rs) zips unheard = absurd zips
-  in-wave (m ∷ ms) [] zips unheard = absurd zips
-  in-wave (m ∷ ms) (a ∷ rs) zips unheard =
-      All-cons (λ (b : Answered). IsInWave own b.step) a rs (in_wave_now own a.step (All-head (λ (x : Posted). EndsUnheard own) m ms unheard) zips.0.behind)
-      (in-wave ms rs zips.1 (All-tail (λ (x : Posted). EndsUnheard own) m ms unheard))
+  copy-held : (copy : Option (Stray (Message N G))) (due : ℕ) (m : Posted) (bag : List (ℕ × Stray Posted)) → ((stray : Stray (Message N G)) → copy ≡ Some stray → stray.message.number < m.number)
+      → with_copy copy (held_by (verdicts.Hold due) m bag) ≡ held_by (verdicts.Hold due) m (with_copy copy bag)
+  copy-held None due m bag below = refl
+  copy-held (Some stray) due m bag below = swapped stray.message.number m.number (straying stray.due (posted_of stray.message)) (straying (due_by m.number due) m) bag (below stray refl)
 
-  answered-so : {C : Type 0} (log : LogMeaning C) → log.part.own ≡ own → log.part.id ≡ id → log.part.known ≡ known → (ms : List Posted) (rs : List Answered) → AllZip Answers ms rs → All (Says (known_of own).sent) ms → All (IsAnsweredBy log) rs
-  answered-so log own-is id-is known-is [] [] zips says = All-nil (IsAnsweredBy log)
-  answered-so log own-is id-is known-is [] (a ∷ rs) zips says = absurd zips
-  answered-so log own-is id-is known-is (m ∷ ms) [] zips says = absurd zips
-  answered-so log own-is id-is known-is (m ∷ ms) (a ∷ rs) zips says =
-      All-cons (IsAnsweredBy log) a rs
-      (record {
-        range = m.range;
-        place = zips.0.place;
-        request = m.request;
-        said = subst (λ n. request_sent n (known_of log.part.own).sent ≡ Some m.request) (sym zips.0.number) (subst (λ o. request_sent m.number (known_of o).sent ≡ Some m.request) (sym own-is) (All-head (Says (known_of own).sent) m ms says));
-        knows = subst (λ ks. Contains ks (record { entry = evaluation a.step m.range log.part.id a.number a.reply; place = zips.0.place; uses = 0 })) (sym known-is)
-            (subst (λ i. Contains known (record { entry = evaluation a.step m.range i a.number a.reply; place = zips.0.place; uses = 0 })) (sym id-is) zips.0.knows);
-      })
-      (answered-so log own-is id-is known-is ms rs zips.1 (All-tail (Says (known_of own).sent) m ms says))
+  hold-under : (due : ℕ) (m : Posted) (os : List (Result (ReplyMsg N) (ServeFault N G))) (ss : List (Sequel N G)) (bag : List (ℕ × Stray Posted)) → All (IsBelow m.number) ss → bag_with os ss (held_by (verdicts.Hold due) m bag) ≡ held_by (verdicts.Hold due) m (bag_with os ss bag)
+  hold-under due m [] ss bag below = refl
+  hold-under due m (Ok r ∷ os) [] bag below = refl
+  hold-under due m (Err f ∷ os) [] bag below = refl
+  hold-under due m (Ok r ∷ os) (s ∷ ss) bag below =
+      ap (λ b. bag_with os ss b) (copy-held s.copy due m bag (All-head (IsBelow m.number) s ss below)) ∙ hold-under due m os ss (with_copy s.copy bag) (All-tail (IsBelow m.number) s ss below)
+  hold-under due m (Err f ∷ os) (s ∷ ss) bag below = hold-under due m os ss bag (All-tail (IsBelow m.number) s ss below)
 
--- ---- all of them may be served
+  -- a message that is held may go into the bag before the copies of those with lower numbers, or behind them
+  held-under : (v : Verdict) (m : Posted) (os : List (Result (ReplyMsg N) (ServeFault N G))) (ss : List (Sequel N G)) (bag : List (ℕ × Stray Posted)) → All (IsBelow m.number) ss → bag_with os ss (held_by v m bag) ≡ held_by v m (bag_with os ss bag)
+  held-under verdicts.Deliver m os ss bag below = refl
+  held-under verdicts.LoseRequest m os ss bag below = refl
+  held-under verdicts.LoseReply m os ss bag below = refl
+  held-under (verdicts.Repeat sends) m os ss bag below = refl
+  held-under (verdicts.Hold sends) m os ss bag below = hold-under sends m os ss bag below
 
-pub wave_may_be_served : {C N : Type 0} {G : Ghosts N CommitWorld} (old taken v : DeskMeaning C) (splits : List (List ℕ)) (wave : List (Delivery N G)) → HasTakenWave old taken wave → v ≡ taken → splits ≡ v.log.head.splits → All (MayBeServed splits) wave
-wave_may_be_served {C} {N} {G} old taken v splits wave took same cut =
-    let here : splits ≡ old.log.head.splits = cut ∙ (ap (λ (d : DeskMeaning C). d.log.head.splits) same ∙ ap (λ (d : DeskMeaning C). d.log.head.splits) took.rest) in
+-- ---- what was set out
+
+module _ {C N : Type 0} {G : Ghosts N CommitWorld} (old : DeskMeaning C) where
+  -- nothing else was done
+  pub set_out_rest : (mid : DeskMeaning C) (errands : List (Errand N G)) → SetsOut old mid errands → mid ≡ record old { posted = mid.posted; lost = mid.lost; bag = mid.bag }
+  set_out_rest mid errands NoneYet = refl
+  set_out_rest mid errands (OnePassed now new es so_far passed) = passed.rest ∙ ap (λ (d : DeskMeaning C). record d { posted = mid.posted; lost = now.lost ++ passed.first.number ∷ []; bag = held_by (verdict_of now.log passed.first.number) passed.first now.bag }) (set_out_rest now es so_far) ∙ ap (λ (d : DeskMeaning C). record old { posted = d.posted; lost = d.lost; bag = d.bag }) (sym passed.rest)
+  set_out_rest mid errands (OneSetOut now new es errand so_far out) = out.rest ∙ ap (λ (d : DeskMeaning C). record d { posted = mid.posted; lost = lost_by (verdict_of now.log out.message.number) out.message.number now.lost }) (set_out_rest now es so_far) ∙ ap (λ (d : DeskMeaning C). record old { posted = d.posted; lost = d.lost; bag = d.bag }) (sym out.rest)
+
+  -- What a message that was set out may do, and its copy.
+  abbrev pub MayBe : Errand N G → Type 0
+  MayBe e = MayGo old e.message × IsItsCopy (verdict_of old.log) e.message e.sequel.copy
+
+  pub all_may : (mid : DeskMeaning C) (errands : List (Errand N G)) → SetsOut old mid errands → All MayBe errands
+  all_may mid errands NoneYet = All-nil MayBe
+  all_may mid errands (OnePassed now new es so_far passed) = all_may now es so_far
+  all_may mid errands (OneSetOut now new es errand so_far out) =
+      All-push MayBe es errand (all_may now es so_far)
+      (subst (λ (d : DeskMeaning C). MayGo d errand.message → IsItsCopy (verdict_of d.log) errand.message errand.sequel.copy → MayBe errand) (sym (set_out_rest now es so_far))
+      (λ may copy. (record { whose = may.whose; there = may.there; use_left = may.use_left; below = may.below }, copy)) out.may out.copy)
+
+  -- Each copy of those that were set out has a number below all that wait still.
+  abbrev ComesBefore : DeskMeaning C → Errand N G → Type 0
+  ComesBefore d e = All (λ (p : Posted). IsBelow p.number e.sequel) d.posted
+
+  copy-below : (v : Verdict) (message : Message N G) (errand : Errand N G) (n : ℕ) → IsErrandOf v message errand → message.number < n → IsBelow n errand.sequel
+  copy-below verdicts.Deliver message errand n is low = subst (λ (e : Errand N G). IsBelow n e.sequel) (sym is) (λ stray some. absurd cc)
+  copy-below verdicts.LoseRequest message errand n is low = absurd is
+  copy-below verdicts.LoseReply message errand n is low = subst (λ (e : Errand N G). IsBelow n e.sequel) (sym is) (λ stray some. absurd cc)
+  copy-below (verdicts.Repeat sends) message errand n is low = λ stray some.
+      let same : Some is.copy ≡ Some stray = sym is.there ∙ some in
+      let it : is.copy ≡ stray = cc in
+      subst (λ (s : Stray (Message N G)). s.message.number < n) it (subst (λ k. k < n) (sym is.same.alike.number) low)
+  copy-below (verdicts.Hold sends) message errand n is low = absurd is
+
+  copies_before : (mid : DeskMeaning C) (errands : List (Errand N G)) → SetsOut old mid errands → All (ComesBefore mid) errands
+  copies_before mid errands NoneYet = All-nil (ComesBefore old)
+  copies_before mid errands (OnePassed now new es so_far passed) =
+      All-weaker (ComesBefore now) (ComesBefore mid) (λ e all. All-tail (λ (p : Posted). IsBelow p.number e.sequel) passed.first mid.posted (subst (All (λ (p : Posted). IsBelow p.number e.sequel)) passed.taken.first all)) es (copies_before now es so_far)
+  copies_before mid errands (OneSetOut now new es errand so_far out) =
+      All-push (ComesBefore mid) es errand
+      (All-weaker (ComesBefore now) (ComesBefore mid) (λ e all. All-tail (λ (p : Posted). IsBelow p.number e.sequel) (posted_of out.message) mid.posted (subst (All (λ (p : Posted). IsBelow p.number e.sequel)) out.taken.first all)) es (copies_before now es so_far))
+      (All-weaker (λ (p : Posted). out.message.number < p.number) (λ (p : Posted). IsBelow p.number errand.sequel) (λ p low. copy-below (verdict_of now.log out.message.number) out.message errand p.number out.errand_of low) mid.posted out.taken.later)
+
+-- ---- all of them may be served, and their copies may be kept
+
+pub wave_may_be_served : {C N : Type 0} {G : Ghosts N CommitWorld} (old taken v : DeskMeaning C) (splits : List (List ℕ)) (wave : List (Delivery N G)) (sequels : List (Sequel N G)) → HasTakenWave old taken wave sequels → v ≡ taken → splits ≡ v.log.head.splits → All (MayBeServed splits) wave
+wave_may_be_served {C} {N} {G} old taken v splits wave sequels took same cut =
+    let here : splits ≡ old.log.head.splits = cut ∙ (ap (λ (d : DeskMeaning C). d.log.head.splits) same ∙ ap (λ (l : LogMeaning C). l.head.splits) took.log) in
     subst (λ s. All (MayBeServed s) wave) (sym here) (All-weaker (GoesOut old) (MayBeServed old.log.head.splits) (λ d goes. goes.may) wave took.each)
+
+-- ---- what became of each message that was set out
+
+module _ {C N : Type 0} {G : Ghosts N CommitWorld} (old : DeskMeaning C) (limit : ℕ) where
+  -- What became of a message: it was evaluated behind all that the actor made, or its range gave it back.
+  abbrev pub Came : Message N G → Result (ReplyMsg N) (ServeFault N G) → Type 0
+  Came m (Ok r) = (r.number ≡ m.number) × IsEvalNote m.sender m.number m.range r.step r.reply r.note.known × All (λ (p : Pair Event). p.entry.step < r.step) old.log.part.own
+  Came m (Err fault) = IsFullAt m.range limit m fault
+
+  came-one : (d : Delivery N G) (o : Result (ReplyMsg N) (ServeFault N G)) → GoesOut old d → Became limit d o → Came d.message o
+  came-one d (Ok r) goes is = (is.number, is.told, goes.behind r.step is.behind)
+  came-one d (Err fault) goes full = full
+
+  came-each : (ds : List (Delivery N G)) (os : List (Result (ReplyMsg N) (ServeFault N G))) → All (GoesOut old) ds → AllZip (Became limit) ds os → AllZip (λ (d : Delivery N G). Came d.message) ds os
+  came-each [] [] goes zips = tt
+  came-each [] (o ∷ os) goes zips = absurd zips
+  came-each (d ∷ ds) [] goes zips = absurd zips
+  came-each (d ∷ ds) (o ∷ os) goes zips = (came-one d o (All-head (GoesOut old) d ds goes) zips.0, came-each ds os (All-tail (GoesOut old) d ds goes) zips.1)
+
+  -- beside each message that was set out stands what became of it
+  pub came_all : (taken : DeskMeaning C) (wave : List (Delivery N G)) (sequels : List (Sequel N G)) (outcomes : List (Result (ReplyMsg N) (ServeFault N G))) (took : HasTakenWave old taken wave sequels) → AllZip (Became limit) wave outcomes → AllZip (λ (e : Errand N G). Came e.message) took.errands outcomes
+  came_all taken wave sequels outcomes took became =
+      zip-from-map (λ (e : Errand N G). e.message) Came took.errands outcomes (subst (λ (ms : List (Message N G)). AllZip Came ms outcomes) took.messages (zip-to-map (λ (d : Delivery N G). d.message) Came wave outcomes (came-each wave outcomes took.each became)))
+
+  may-each : (es : List (Errand N G)) (os : List (Result (ReplyMsg N) (ServeFault N G))) → All (MayBe old) es → AllZip (λ (e : Errand N G). Came e.message) es os → AllZip (MayBeTakenIn old.log) os (map (λ (e : Errand N G). e.sequel) es)
+  may-each [] [] may zips = tt
+  may-each [] (o ∷ os) may zips = absurd zips
+  may-each (e ∷ es) [] may zips = absurd zips
+  may-each (e ∷ es) (Ok r ∷ os) may zips =
+      let first = All-head (MayBe old) e es may in
+      (may_be_kept old e.message e.sequel.copy r.step r.reply r.note.known first.0 first.1 zips.0.1, may-each es os (All-tail (MayBe old) e es may) zips.1)
+  may-each (e ∷ es) (Err fault ∷ os) may zips = (tt, may-each es os (All-tail (MayBe old) e es may) zips.1)
+
+  -- the copies may go into the bag
+  pub wave_may_be_kept : (taken : DeskMeaning C) (wave : List (Delivery N G)) (sequels : List (Sequel N G)) (outcomes : List (Result (ReplyMsg N) (ServeFault N G))) → HasTakenWave old taken wave sequels → AllZip (Became limit) wave outcomes → AllZip (MayBeTakenIn taken.log) outcomes sequels
+  wave_may_be_kept taken wave sequels outcomes took became =
+      subst (λ (l : LogMeaning C). AllZip (MayBeTakenIn l) outcomes sequels) (sym took.log)
+      (subst (AllZip (MayBeTakenIn old.log) outcomes) (sym took.sequels_are) (may-each took.errands outcomes (all_may old taken took.errands took.each_set_out) (came_all taken wave sequels outcomes took became)))
 
 -- ---- all of them were evaluated
 
-module _ {C N : Type 0} {G : Ghosts N CommitWorld} (old taken new : DeskMeaning C) (wave : List (Delivery N G)) (outcomes : List (Result (ReplyMsg N) (ServeFault N G))) (track : KeepsTrack old) (took : HasTakenWave old taken wave) (all : taken.posted ≡ [])
-    (became : AllZip (Became old.range_limit) wave outcomes) where
-  wave-is : old.posted ≡ posted_in wave
-  wave-is = took.whole ∙ (ap (λ ps. posted_in wave ++ ps) all ∙ append-nil (posted_in wave))
+-- The desk whose actor knows all that.
+abbrev knows-all : {C : Type 0} → DeskMeaning C → List (KnownEntry Event) → DeskMeaning C
+knows-all old known = record old { log = knowing known old.log }
 
-  taken-is : taken ≡ record old { posted = [] }
-  taken-is = took.rest ∙ ap (λ ps. record old { posted = ps }) all
+stands-both : {C : Type 0} (a b d : DeskMeaning C) → StandsAs a b → StandsAs b d → StandsAs a d
+stands-both a b d x y = record { track = y.track; way = λ n. y.way n ∙ x.way n; kept = λ n was. y.kept n (x.kept n was) }
 
-  module _ (beside : old.log.beside ≡ true) (none : old.replies ≡ []) (replies : All IsReply outcomes) (kept : HasKeptAll taken new outcomes) where
-    abbrev now-known : List (KnownEntry Event)
-    now-known = new.log.part.known
+module _ {C N : Type 0} {G : Ghosts N CommitWorld} (old : DeskMeaning C) (known : List (KnownEntry Event)) (beside : old.log.beside ≡ true) where
+  -- The message was evaluated behind all that the actor made, and the actor knows that.
+  abbrev Went : Errand N G → Result (ReplyMsg N) (ServeFault N G) → Type 0
+  Went e (Ok r) =
+      (r.number ≡ e.message.number) × ((place : ℕ) × Contains known (record { entry = evaluation r.step e.message.range old.log.part.id r.number r.reply; place = place; uses = 0 }))
+      × All (λ (p : Pair Event). p.entry.step < r.step) old.log.part.own
+  Went e (Err fault) = ⊥
 
-    -- The desk, as it is then.
-    abbrev then : DeskMeaning C
-    then = record old { log = record old.log { part = record old.log.part { known = now-known } }; posted = []; replies = answers_in outcomes }
+  went-one : (limit : ℕ) (e : Errand N G) (r : ReplyMsg N) → MayBe old e → Came old limit e.message (Ok r) → ((k : KnownEntry Event) → Contains r.note.known k → Contains known k) → Went e (Ok r)
+  went-one limit e r may came knows =
+      let k : KnownEntry Event = record { entry = evaluation r.step e.message.range e.message.sender e.message.number r.reply; place = came.1.place; uses = 0 } in
+      let there : Contains known k = knows k (subst (λ l. Contains l k) (sym came.1.tells) (contains_head k [])) in (
+        came.0,
+        (
+          came.1.place,
+          subst (λ n. Contains known (record { entry = evaluation r.step e.message.range old.log.part.id n r.reply; place = came.1.place; uses = 0 })) (sym came.0)
+              (subst (λ i. Contains known (record { entry = evaluation r.step e.message.range i e.message.number r.reply; place = came.1.place; uses = 0 })) may.0.whose there),
+        ),
+        came.2,
+      )
 
-    new-is : new ≡ then
-    new-is =
-        kept.rest
-        ∙ (ap (λ (t : DeskMeaning C). record t { log = record t.log { part = record t.log.part { known = now-known } }; replies = t.replies ++ answers_in outcomes }) taken-is
-        ∙ ap (λ rs. record old { log = record old.log { part = record old.log.part { known = now-known } }; posted = []; replies = rs ++ answers_in outcomes }) none)
+  went-each : (limit : ℕ) (part : Part Event) (same : part.known ≡ known) (es : List (Errand N G)) (os : List (Result (ReplyMsg N) (ServeFault N G))) → All (MayBe old) es → AllZip (λ (e : Errand N G). Came old limit e.message) es os → All IsReply os → AllZip (KnowsOutcome part) os (map (λ (e : Errand N G). e.sequel) es)
+      → AllZip Went es os
+  went-each limit part same [] [] may came is knows = tt
+  went-each limit part same [] (o ∷ os) may came is knows = absurd came
+  went-each limit part same (e ∷ es) [] may came is knows = absurd came
+  went-each limit part same (e ∷ es) (Ok r ∷ os) may came is knows = (
+    went-one limit e r (All-head (MayBe old) e es may) came.0 (λ k there. subst (λ l. Contains l k) same (knows.0 k there)),
+    went-each limit part same es os (All-tail (MayBe old) e es may) came.1 (All-tail IsReply (Ok r) os is) knows.1,
+  )
+  went-each limit part same (e ∷ es) (Err fault ∷ os) may came is knows = absurd (All-head IsReply (Err fault) os is)
 
-    abbrev Pairs : Posted → Answered → Type 0
-    Pairs = Answers old.log.part.own old.log.part.id now-known
+  -- What comes of these.
+  abbrev sequels-of : List (Errand N G) → List (Sequel N G)
+  sequels-of es = map (λ (e : Errand N G). e.sequel) es
 
-    paired-one : (d : Delivery N G) (r : ReplyMsg N) → GoesOut old d → IsReplyTo d r → ((k : KnownEntry Event) → Contains r.note.known k → Contains now-known k) → Pairs (posted_of d.message) (answered_by r)
-    paired-one d r goes is knows = record {
-      place = is.told.place;
-      number = is.number;
-      behind = goes.behind r.step is.behind;
-      knows = subst (λ n. Contains now-known (record { entry = evaluation r.step d.message.range old.log.part.id n r.reply; place = is.told.place; uses = 0 })) (sym is.number)
-          (subst (λ i. Contains now-known (record { entry = evaluation r.step d.message.range i d.message.number r.reply; place = is.told.place; uses = 0 })) goes.whose
-          (knows (record { entry = evaluation r.step d.message.range d.message.sender d.message.number r.reply; place = is.told.place; uses = 0 })
-          (subst (λ l. Contains l (record { entry = evaluation r.step d.message.range d.message.sender d.message.number r.reply; place = is.told.place; uses = 0 })) (sym is.told.tells)
-          (contains_head (record { entry = evaluation r.step d.message.range d.message.sender d.message.number r.reply; place = is.told.place; uses = 0 }) []))));
-    }
+  -- The desk from which these were set out, once all that became of them is known.
+  abbrev with-all : DeskMeaning C → List (Errand N G) → List (Result (ReplyMsg N) (ServeFault N G)) → DeskMeaning C
+  with-all d es os = record d { log = knowing known old.log; replies = d.replies ++ answers_in os (sequels-of es); bag = bag_with os (sequels-of es) d.bag }
 
-    paired : (ds : List (Delivery N G)) (os : List (Result (ReplyMsg N) (ServeFault N G))) → AllZip (Became old.range_limit) ds os → All (GoesOut old) ds → All IsReply os → All (KnowsOutcome new.log.part) os → AllZip Pairs (posted_in ds) (answers_in os)
-    paired [] [] zips goes is knows = tt
-    paired [] (o ∷ os) zips goes is knows = absurd zips
-    paired (d ∷ ds) [] zips goes is knows = absurd zips
-    paired (d ∷ ds) (Ok r ∷ os) zips goes is knows = (
-      paired-one d r (All-head (GoesOut old) d ds goes) zips.0 (All-head (KnowsOutcome new.log.part) (Ok r) os knows),
-      paired ds os zips.1 (All-tail (GoesOut old) d ds goes) (All-tail IsReply (Ok r) os is) (All-tail (KnowsOutcome new.log.part) (Ok r) os knows),
-    )
-    paired (d ∷ ds) (Err fault ∷ os) zips goes is knows = absurd (All-head IsReply (Err fault) os is)
+  same-log : (d : DeskMeaning C) (es : List (Errand N G)) → SetsOut old d es → d.log ≡ old.log
+  same-log d es out = ap (λ (x : DeskMeaning C). x.log) (set_out_rest old d es out)
 
-    pairs : AllZip Pairs old.posted (answers_in outcomes)
-    pairs = subst (λ ps. AllZip Pairs ps (answers_in outcomes)) (sym wave-is) (paired wave outcomes became took.each replies kept.learnt.knows)
+  passed-first : (now new : DeskMeaning C) (es : List (Errand N G)) (os : List (Result (ReplyMsg N) (ServeFault N G))) → SetsOut old now es → HasPassedFirst now new → HasPassedFirst (with-all now es os) (with-all new es os)
+  passed-first now new es os out passed =
+      let n = passed.first.number in
+      let log = same-log now es out in
+      let below : All (IsBelow n) (sequels-of es) = All-map (IsBelow n) (λ (e : Errand N G). e.sequel) es
+      (All-weaker (ComesBefore old now) (λ (e : Errand N G). IsBelow n e.sequel) (λ e all. All-head (λ (p : Posted). IsBelow p.number e.sequel) passed.first new.posted (subst (All (λ (p : Posted). IsBelow p.number e.sequel)) passed.taken.first all)) es (copies_before old now es out)) in
+      record {
+        first = passed.first;
+        taken = record { first = passed.taken.first; rest = refl; later = passed.taken.later };
+        now = subst (λ (l : LogMeaning C). is_not_now (verdict_of l n) ≡ true) log passed.now;
+        rest =
+            ap (λ (d : DeskMeaning C). record d { log = knowing known old.log; replies = d.replies ++ answers_in os (sequels-of es); bag = bag_with os (sequels-of es) d.bag }) passed.rest
+            ∙ (ap (λ (l : LogMeaning C). record now { log = knowing known old.log; posted = new.posted; lost = now.lost ++ n ∷ []; replies = now.replies ++ answers_in os (sequels-of es); bag = bag_with os (sequels-of es) (held_by (verdict_of l n) passed.first now.bag) }) log
+            ∙ ap (λ b. record now { log = knowing known old.log; posted = new.posted; lost = now.lost ++ n ∷ []; replies = now.replies ++ answers_in os (sequels-of es); bag = b }) (held-under (verdict_of old.log n) passed.first os (sequels-of es) now.bag below));
+      }
 
-    counted : (n : ℕ) → answered_as n (answers_in outcomes) ≡ posted_as n old.posted
-    counted n = counts old.log.part.own old.log.part.id now-known old.posted (answers_in outcomes) pairs n
+  -- one more was set out, and evaluated
+  one-more : (now new : DeskMeaning C) (es : List (Errand N G)) (e : Errand N G) (os : List (Result (ReplyMsg N) (ServeFault N G))) (r : ReplyMsg N) → SetsOut old now es → HasSetOutFirst now new e → length os ≡ length (sequels-of es) → Went e (Ok r) → KeepsTrack (with-all now es os)
+      → StandsAs (with-all now es os) (with-all new (es ++ e ∷ []) (os ++ Ok r ∷ []))
+  one-more now new es e os r so_far out same went track =
+      let n = out.message.number in
+      let log = same-log now es so_far in
+      let a = answered_by r in
+      let stands = stands_evaluated (with-all now es os) out.message e new.posted a went.1.0 track out.taken.first out.taken.later (subst (λ (l : LogMeaning C). IsErrandOf (verdict_of l n) out.message e) log out.errand_of) went.0 went.1.1 went.2
+      (λ one. absurd (let bad : true ≡ false = sym beside ∙ one in cc bad)) in
+      let last : sequels-of (es ++ e ∷ []) ≡ sequels-of es ++ e.sequel ∷ [] = map-append (λ (x : Errand N G). x.sequel) es (e ∷ []) in
+      let replies : now.replies ++ answers_in (os ++ Ok r ∷ []) (sequels-of es ++ e.sequel ∷ []) ≡ kept_by e.sequel.is_heard a (now.replies ++ answers_in os (sequels-of es)) =
+      ap (λ rs. now.replies ++ rs) (answers_push os (sequels-of es) (Ok r) e.sequel same) ∙ (sym (append_assoc now.replies (answers_in os (sequels-of es)) (answers_in (Ok r ∷ []) (e.sequel ∷ []))) ∙ sym (kept_answer (now.replies ++ answers_in os (sequels-of es)) r e.sequel)) in
+      let is : with-all new (es ++ e ∷ []) (os ++ Ok r ∷ []) ≡ record (with-all now es os) { posted = new.posted; lost = lost_by (verdict_of old.log n) n now.lost; replies = kept_by e.sequel.is_heard a (now.replies ++ answers_in os (sequels-of es)); bag = with_copy e.sequel.copy (bag_with os (sequels-of es) now.bag) } =
+      ap (λ (d : DeskMeaning C). with-all d (es ++ e ∷ []) (os ++ Ok r ∷ [])) out.rest
+      ∙ (ap (λ (l : LogMeaning C). with-all (record now { posted = new.posted; lost = lost_by (verdict_of l n) n now.lost }) (es ++ e ∷ []) (os ++ Ok r ∷ [])) log
+      ∙ (ap (λ ss. record now { log = knowing known old.log; posted = new.posted; lost = lost_by (verdict_of old.log n) n now.lost; replies = now.replies ++ answers_in (os ++ Ok r ∷ []) ss; bag = bag_with (os ++ Ok r ∷ []) ss now.bag }) last
+      ∙ (ap (λ rs. record now { log = knowing known old.log; posted = new.posted; lost = lost_by (verdict_of old.log n) n now.lost; replies = rs; bag = bag_with (os ++ Ok r ∷ []) (sequels-of es ++ e.sequel ∷ []) now.bag }) replies
+      ∙ ap (λ b. record now { log = knowing known old.log; posted = new.posted; lost = lost_by (verdict_of old.log n) n now.lost; replies = kept_by e.sequel.is_heard a (now.replies ++ answers_in os (sequels-of es)); bag = b }) (bag_push os (sequels-of es) (Ok r) e.sequel now.bag same)))) in
+      subst (StandsAs (with-all now es os)) (sym is) stands
 
-    none-answered : (n : ℕ) → answered_as n old.replies ≡ 0
-    none-answered n = ap (answered_as n) none
+  -- so it is with the last of those that became of all
+  one-last : (now new : DeskMeaning C) (es : List (Errand N G)) (e : Errand N G) (os : List (Result (ReplyMsg N) (ServeFault N G))) → SetsOut old now es → HasSetOutFirst now new e → (z : ZipLast Went es e os) → StandsAs (knows-all old known) (with-all now es z.front)
+      → StandsAs (knows-all old known) (with-all new (es ++ e ∷ []) os)
+  one-last now new es e os so_far out z before = subst (λ l. StandsAs (knows-all old known) (with-all new (es ++ e ∷ []) l)) (sym z.whole) (last z.last z.is)
+    where
+      same : length z.front ≡ length (sequels-of es)
+      same = sym (length-map es (λ (x : Errand N G). x.sequel) ∙ zip_long Went es z.front z.before)
 
-    knows-on : (k : KnownEntry Event) → Contains old.log.part.known k → Contains now-known k
-    knows-on k there = kept.learnt.more k (subst (λ (t : DeskMeaning C). Contains t.log.part.known k) (sym taken-is) there)
+      last : (o : Result (ReplyMsg N) (ServeFault N G)) → Went e o → StandsAs (knows-all old known) (with-all new (es ++ e ∷ []) (z.front ++ o ∷ []))
+      last (Ok r) is = stands-both (knows-all old known) (with-all now es z.front) (with-all new (es ++ e ∷ []) (z.front ++ Ok r ∷ [])) before (one-more now new es e z.front r so_far out same is before.track)
+      last (Err fault) is = absurd is
 
-    track-then : KeepsTrack then
-    track-then = record {
-      log = subst (λ (d : DeskMeaning C). IsOwnLog d.log) new-is kept.log;
-      counted = track.counted;
-      numbers = track.numbers;
-      once = track.once;
-      dropped = track.dropped;
-      strays = All-weaker (IsStray old.log) (IsStray then.log) (λ p. stray_on old.log then.log p refl (λ one. one) knows-on) track.dropped track.strays;
-      stages = λ n. let s = track.stages n in omega (arith, s, counted n, none-answered n);
-      posted = All-nil (Says (known_of old.log.part.own).sent);
-      waits = All-nil (IsOneSent (known_of old.log.part.own).sent);
-      aside = track.aside;
-      answered = answered-so old.log.part.own old.log.part.id now-known then.log refl refl refl old.posted (answers_in outcomes) pairs track.posted;
-      turn = record {
-        rising = in-turn old.log.part.own old.log.part.id now-known old.posted (answers_in outcomes) pairs (subst AreRisingMessages (sym wave-is) took.rising);
-        behind = All-nil (λ (m : Posted). All (λ (a : Answered). a.number < m.number) (answers_in outcomes));
-      };
-      wave = record {
-        wave = in-wave old.log.part.own old.log.part.id now-known old.posted (answers_in outcomes) pairs track.wave.unheard;
-        unheard = All-nil (λ (m : Posted). EndsUnheard old.log.part.own);
-        order = λ one. let e : true ≡ false = sym beside ∙ one in absurd cc;
-        heard = track.wave.heard;
-      };
-      given = record { each = track.given.each; once = track.given.once };
-    }
+  module _ (track : KeepsTrack old) (more : (k : KnownEntry Event) → Contains old.log.part.known k → Contains known k) (log : IsOwnLog (knowing known old.log)) where
+    -- as if they had gone one after another
+    stands-all : (mid : DeskMeaning C) (es : List (Errand N G)) (os : List (Result (ReplyMsg N) (ServeFault N G))) → SetsOut old mid es → AllZip Went es os → StandsAs (knows-all old known) (with-all mid es os)
+    stands-all mid es [] NoneYet went = subst (StandsAs (knows-all old known)) (ap (λ rs. record old { log = knowing known old.log; replies = rs }) (sym (append-nil old.replies))) (record { track = track_knowing old known track more log; way = λ n. refl; kept = λ n was. was })
+    stands-all mid es (o ∷ os) NoneYet went = absurd went
+    stands-all mid es os (OnePassed now new errands so_far passed) went =
+        let before = stands-all now errands os so_far went in
+        stands-both (knows-all old known) (with-all now errands os) (with-all new errands os) before (stands_passed (with-all now errands os) (with-all new errands os) before.track (passed-first now new errands os so_far passed))
+    stands-all mid es os (OneSetOut now new errands errand so_far out) went =
+        let z = zip_last Went errands errand os went in
+        one-last now new errands errand os so_far out z (stands-all now errands z.front so_far z.before)
 
-    way-then : (n : ℕ) → is_on_way n then ≡ is_on_way n old
-    way-then n =
-        any_counts (λ (y : Answered). y.number == n) (answers_in outcomes)
-        ∙ (ap (λ m. nat_lt 0 m) (counted n)
-        ∙ (sym (any_counts (λ (y : Posted). y.number == n) old.posted)
-        ∙ (sym (or-false (list_any (λ (y : Posted). y.number == n) old.posted))
-        ∙ ap (λ rs. list_any (λ (y : Posted). y.number == n) old.posted || list_any (λ (y : Answered). y.number == n) rs) (sym none))))
+module _ {C N : Type 0} {G : Ghosts N CommitWorld} (old taken new : DeskMeaning C) (wave : List (Delivery N G)) (sequels : List (Sequel N G)) (outcomes : List (Result (ReplyMsg N) (ServeFault N G))) (track : KeepsTrack old) (took : HasTakenWave old taken wave sequels)
+    (became : AllZip (Became old.range_limit) wave outcomes) (beside : old.log.beside ≡ true) (replies : All IsReply outcomes) (kept : HasKeptAll taken new outcomes sequels) where
+  abbrev now-known : List (KnownEntry Event)
+  now-known = new.log.part.known
 
-    delivered-then : HasDelivered old then
-    delivered-then = record {
-      own = refl;
-      sends = refl;
-      track = track-then;
-      way = way-then;
-      later = refl;
-      more = knows-on;
-      limit = refl;
-    }
+  -- The desk, as it is then.
+  abbrev all-done : DeskMeaning C
+  all-done = with-all old now-known beside taken took.errands outcomes
 
-    pub wave_delivered : HasDelivered old new
-    wave_delivered = subst (HasDelivered old) (sym new-is) delivered-then
+  new-is : new ≡ all-done
+  new-is =
+      kept.rest
+      ∙ (ap (λ (l : LogMeaning C). record taken { log = knowing now-known l; replies = taken.replies ++ answers_in outcomes sequels; bag = bag_with outcomes sequels taken.bag }) took.log
+      ∙ ap (λ ss. record taken { log = knowing now-known old.log; replies = taken.replies ++ answers_in outcomes ss; bag = bag_with outcomes ss taken.bag }) took.sequels_are)
 
-  -- ---- a range gave some of them back
+  went-so : AllZip (Went old now-known beside) took.errands outcomes
+  went-so = went-each old now-known beside old.range_limit new.log.part refl took.errands outcomes (all_may old taken took.errands took.each_set_out) (came_all old old.range_limit taken wave sequels outcomes took became) replies
+      (subst (AllZip (KnowsOutcome new.log.part) outcomes) took.sequels_are kept.learnt.knows)
 
-  module _ (in_call : PostsInCall old) (stopped : HasStoppedFor taken new outcomes) where
-    abbrev know : List (KnownEntry Event)
-    know = new.log.part.known
+  more-known : (k : KnownEntry Event) → Contains old.log.part.known k → Contains now-known k
+  more-known k there = kept.learnt.more k (subst (λ (l : LogMeaning C). Contains l.part.known k) (sym took.log) there)
 
-    -- The desk that has stopped.
-    abbrev over : DeskMeaning C
-    over = record old { log = record old.log { part = record old.log.part { known = know }; stopped = true }; posted = [] }
+  all-stand : StandsAs (knows-all old now-known) all-done
+  all-stand = stands-all old now-known beside track more-known (subst IsOwnLog (ap (λ (d : DeskMeaning C). d.log) new-is) kept.log) taken took.errands outcomes took.each_set_out went-so
 
-    new-over : new ≡ over
-    new-over = stopped.rest ∙ ap (λ (t : DeskMeaning C). record t { log = record t.log { part = record t.log.part { known = know }; stopped = true } }) taken-is
+  rest-is : taken ≡ record old { posted = taken.posted; lost = taken.lost; bag = taken.bag }
+  rest-is = set_out_rest old taken took.errands took.each_set_out
 
-    -- The message was spent, or its evaluation is known.
-    abbrev Fate : Delivery N G → Type 0
-    Fate d = IsSpent over (as_sent (posted_of d.message)) ⊎ KnowsEvaluation over.log.part d.message.number
-
-    posted-there : (d : Delivery N G) → Contains wave d → Contains old.posted (posted_of d.message)
-    posted-there d there = subst (λ l. Contains l (posted_of d.message)) (sym wave-is) (contains_map (λ (x : Delivery N G). posted_of x.message) wave d there)
-
-    waited : (d : Delivery N G) → Contains wave d → WaitsUnheard (known_of old.log.part.own) (posted_of d.message)
-    waited d there =
-        All-contains (WaitsUnheard (known_of old.log.part.own)) (all_waiting old) (posted_of d.message) (all_wait old track)
-        (Contains-append_left old.posted old.later (posted_of d.message) (posted-there d there))
-
-    spent-by : (d : Delivery N G) (at : ℕ) (last : NoteMeaning Head Event) (message : Message N G) → GoesOut old d → IsFullAt d.message.range old.range_limit d.message (faults.Full at last message) → KnowsOutcome new.log.part (Err (faults.Full at last message))
-        → WasGivenBack old.range_limit over.log.part (as_sent (posted_of d.message))
-    spent-by d at last message goes full knows =
-        let m = posted_of d.message in
-        let part : Part Event = record old.log.part { known = last.known ++ d.message.note.known } in
-        let knows-it = subst (λ (x : Message N G). (k : KnownEntry Event) → Contains (last.known ++ x.note.known) k → Contains know k) full.2 knows in
-        refused_still old.range_limit old.range_limit part over.log.part (as_sent m) refl refl knows-it
-        (was_given_back old.range_limit part m d.message last.known [] refl full.1 goes.whose refl goes.may.use_left)
-
-    fate-of : (d : Delivery N G) (o : Result (ReplyMsg N) (ServeFault N G)) → Contains wave d → GoesOut old d → Became old.range_limit d o → KnowsOutcome new.log.part o → Fate d
-    fate-of d (Ok r) there goes is knows =
-        let k : KnownEntry Event = record { entry = evaluation r.step d.message.range d.message.sender d.message.number r.reply; place = is.told.place; uses = 0 } in
-        inr (record { evaluation = k; knows = knows k (subst (λ l. Contains l k) (sym is.told.tells) (contains_head k [])); of_it = (goes.whose, refl) })
-    fate-of d (Err (faults.Full at last message)) there goes full knows = inl (record { refused = spent-by d at last message goes full knows; unheard = (waited d there).unheard })
-    fate-of d (Err faults.NoMemory) there goes full knows = absurd knows
-
-    fates : (ds : List (Delivery N G)) (os : List (Result (ReplyMsg N) (ServeFault N G))) → ((d : Delivery N G) → Contains ds d → Contains wave d) → AllZip (Became old.range_limit) ds os → All (GoesOut old) ds → All (KnowsOutcome new.log.part) os → All Fate ds
-    fates [] [] within zips goes knows = All-nil Fate
-    fates [] (o ∷ os) within zips goes knows = absurd zips
-    fates (d ∷ ds) [] within zips goes knows = absurd zips
-    fates (d ∷ ds) (o ∷ os) within zips goes knows =
-        All-cons Fate d ds (fate-of d o (within d (contains_head d ds)) (All-head (GoesOut old) d ds goes) zips.0 (All-head (KnowsOutcome new.log.part) o os knows))
-        (fates ds os (λ x there. within x (contains_tail d ds x there)) zips.1 (All-tail (GoesOut old) d ds goes) (All-tail (KnowsOutcome new.log.part) o os knows))
-
-    all-fates : All Fate wave
-    all-fates = fates wave outcomes (λ d there. there) became took.each stopped.learnt.knows
-
-    -- what was sent under its number is it
-    the-one : (d : Delivery N G) → Contains wave d → (x : Sent) → Contains (known_of old.log.part.own).sent x → d.message.number ≡ x.number → as_sent (posted_of d.message) ≡ x
-    the-one d within x there same =
-        counted_once (λ (y : Sent). y.number == d.message.number) (known_of old.log.part.own).sent (as_sent (posted_of d.message)) x (track.once d.message.number) (waited d within).sent there (eq-eqb d.message.number d.message.number refl)
-        (eq-eqb x.number d.message.number (sym same))
-
-    others : (x : Sent) → Contains (known_of old.log.part.own).sent x → IsNotLost old x → IsSpent over x ⊎ IsNotLost over x
-    others x there (inl heard) = inr (inl heard)
-    others x there (inr (inl waits)) = elim (Contains-append_cases old.posted old.later waits.waiting waits.there) [
-      | inl of_wave ↦
-          let w = contains_in_map (λ (d : Delivery N G). posted_of d.message) wave waits.waiting (subst (λ l. Contains l waits.waiting) wave-is of_wave) in
-          let number : w.0.message.number ≡ x.number = ap (λ (p : Posted). p.number) w.2 ∙ waits.is in
-          elim (All-contains Fate wave w.0 all-fates w.1) [
-            | inl spent ↦ inl (subst (IsSpent over) (the-one w.0 w.1 x there number) spent)
-            | inr knows ↦ inr (inr (inr (subst (KnowsEvaluation over.log.part) number knows)))
-          ]
-      | inr aside ↦ inr (inr (inl (record { waiting = waits.waiting; there = aside; is = waits.is })))
-    ]
-    others x there (inr (inr knows)) =
-        inr (inr (inr (record { evaluation = knows.evaluation; knows = stopped.learnt.more knows.evaluation (subst (λ (t : DeskMeaning C). Contains t.log.part.known knows.evaluation) (sym taken-is) knows.knows); of_it = knows.of_it })))
-
-    -- The message that a full range gave back.
-    record GivenBack (at : ℕ) : Type 0 where
-      delivery : Delivery N G
-      within : Contains wave delivery
-      at-is : at ≡ delivery.message.range
-      back : WasGivenBack old.range_limit over.log.part (as_sent (posted_of delivery.message))
-
-    given-back : (at : ℕ) (last : NoteMeaning Head Event) (message : Message N G) (ds : List (Delivery N G)) (os : List (Result (ReplyMsg N) (ServeFault N G))) → ((d : Delivery N G) → Contains ds d → Contains wave d) → AllZip (Became old.range_limit) ds os → All (GoesOut old) ds
-        → All (KnowsOutcome new.log.part) os → Contains os (Err (faults.Full at last message)) → GivenBack at
-    given-back at last message ds [] within zips goes knows there = absurd (contains_nil (Err (faults.Full at last message)) there)
-    given-back at last message [] (o ∷ os) within zips goes knows there = absurd zips
-    given-back at last message (d ∷ ds) (o ∷ os) within zips goes knows there = elim (contains_cons o os (Err (faults.Full at last message)) there) [
-      | inl here ↦
-          let full : IsFullAt d.message.range old.range_limit d.message (faults.Full at last message) = subst (Became old.range_limit d) here zips.0 in
-          let told = subst (KnowsOutcome new.log.part) here (All-head (KnowsOutcome new.log.part) o os knows) in
-          record { delivery = d; within = within d (contains_head d ds); at-is = full.0; back = spent-by d at last message (All-head (GoesOut old) d ds goes) full told }
-      | inr later ↦
-          given-back at last message ds os (λ x c. within x (contains_tail d ds x c)) zips.1 (All-tail (GoesOut old) d ds goes) (All-tail (KnowsOutcome new.log.part) o os knows) later
-    ]
-
-    one-back : (at : ℕ) (last : NoteMeaning Head Event) (message : Message N G) → Contains outcomes (Err (faults.Full at last message)) → GivenBack at
-    one-back at last message there = given-back at last message wave outcomes (λ d c. c) became took.each stopped.learnt.knows there
-
-    ended-over : (at : ℕ) → GivenBack at → HasEnded old over
-    ended-over at b = record {
-      known = λ k there. stopped.learnt.more k (subst (λ (t : DeskMeaning C). Contains t.log.part.known k) (sym taken-is) there);
-      rest = refl;
-      limit = refl;
-      end = inr (record {
-        message = as_sent (posted_of b.delivery.message);
-        sent = (waited b.delivery b.within).sent;
-        spent = record { refused = b.back; unheard = (waited b.delivery b.within).unheard };
-        in_call = All-contains (λ (p : Posted). PutsInCall (known_of old.log.part.own) p.request) old.posted (posted_of b.delivery.message) in_call (posted-there b.delivery b.within);
-        others = all_from_contains (λ (x : Sent). IsSpent over x ⊎ IsNotLost over x) (known_of old.log.part.own).sent
-            (λ x there. others x there (All-contains (IsNotLost old) (known_of old.log.part.own).sent x (not_lost old track) there));
-        waits = all_from_contains (WaitsUnheard (known_of old.log.part.own)) old.later
-            (λ p there. All-contains (WaitsUnheard (known_of old.log.part.own)) (all_waiting old) p (all_wait old track) (Contains-append_right old.posted old.later p there));
-        later = All-nil (λ (p : Posted). b.delivery.message.number < p.number);
-      });
-    }
-
-    halted-over : (at : ℕ) → GivenBack at → HasHalted old over (halts.Full (actors.Range at))
-    halted-over at b = record { stopped = refl; head = refl; id = refl; cause = inr (b.delivery.message.range, ap actors.Range b.at-is, b.back.full) }
-
-    memory-over : HasHalted old over halts.NoMemory
-    memory-over = record { stopped = refl; head = refl; id = refl; cause = tt }
-
-    -- the list has ended for this fault
-    stops-at : (fault : ServeFault N G) (halt : Halt) → Contains outcomes (Err fault) → IsHaltOf fault halt → HasHalted old over halt × EndsBy (λ made. ⊥) old over halt
-    stops-at (faults.Full at last message) halt there is =
-        let b = one-back at last message there in
-        subst (λ h. HasHalted old over h × EndsBy (λ made. ⊥) old over h) (sym is) (halted-over at b, ended-over at b)
-    stops-at faults.NoMemory halt there is = subst (λ h. HasHalted old over h × EndsBy (λ made. ⊥) old over h) (sym is) (memory-over, tt)
-
-    -- the refusal is one of the outcomes
-    is-among : (cause : Halt) (refusal : IsRefusalIn outcomes cause) → Contains outcomes (Err refusal.fault)
-    is-among cause refusal =
-        let rest = Err refusal.fault ∷ refusal.behind in
-        subst (λ os. Contains os (Err refusal.fault)) (sym refusal.whole)
-        (Contains-append_right refusal.before rest (Err refusal.fault) (contains_head (Err refusal.fault) refusal.behind))
-
-    pub stops_for : (cause : Halt) → IsRefusalIn outcomes cause → HasHalted old new cause × EndsBy (λ made. ⊥) old new cause
-    stops_for cause refusal = subst (λ (d : DeskMeaning C). HasHalted old d cause × EndsBy (λ made. ⊥) old d cause) (sym new-over) (stops-at refusal.fault cause (is-among cause refusal) refusal.is)
-
-  -- the list has ended, for want of memory or for a refusal
-  pub wave_halted : (in_call : PostsInCall old) (cause halt : Halt) → IsRefusalIn outcomes cause → EndsFor taken new outcomes cause halt → HasHalted old new halt
-  wave_halted in_call cause halt refusal (inl memory) =
-      subst (HasHalted old new) (sym memory.0)
-      (wants_memory old taken new halts.NoMemory refl (ap (λ (d : DeskMeaning C). d.log.head) took.rest) (ap (λ (d : DeskMeaning C). d.log.part.id) took.rest) memory.1)
-  wave_halted in_call cause halt refusal (inr stopped) = subst (HasHalted old new) (sym stopped.0) (stops_for in_call stopped.1 cause refusal).0
-
-  pub wave_ended : (in_call : PostsInCall old) (cause halt : Halt) → IsRefusalIn outcomes cause → EndsFor taken new outcomes cause halt → EndsOnly (λ made. ⊥) old new halt
-  wave_ended in_call cause halt refusal (inl memory) = λ going. subst (EndsBy (λ made. ⊥) old new) (sym memory.0) tt
-  wave_ended in_call cause halt refusal (inr stopped) = λ going. subst (EndsBy (λ made. ⊥) old new) (sym stopped.0) (stops_for in_call stopped.1 cause refusal).1
+  pub wave_delivered : HasDelivered old new
+  wave_delivered = subst (HasDelivered old) (sym new-is) (record {
+    own = refl;
+    sends = ap (λ (d : DeskMeaning C). d.sends) rest-is;
+    track = all-stand.track;
+    way = all-stand.way;
+    kept = all-stand.kept;
+    later = ap (λ (d : DeskMeaning C). d.later) rest-is;
+    more = more-known;
+    limit = ap (λ (d : DeskMeaning C). d.range_limit) rest-is;
+  })
 
 -- ---- want of memory, after the wave was taken
 
-pub wave_halted_unless : {C N X : Type 0} {G : Ghosts N CommitWorld} (old taken new : DeskMeaning C) (wave : List (Delivery N G)) (r : Result X Halt) → HasTakenWave old taken wave → IfErr r (λ halt. halt ≡ halts.NoMemory) → IfErr r (HasHalted taken new) → IfErr r (HasHalted old new)
-wave_halted_unless old taken new wave (Ok x) took want halted = tt
-wave_halted_unless {C} old taken new wave (Err halt) took want halted =
-    wants_memory old taken new halt want (ap (λ (d : DeskMeaning C). d.log.head) took.rest) (ap (λ (d : DeskMeaning C). d.log.part.id) took.rest) halted
+pub wave_halted_unless : {C N X : Type 0} {G : Ghosts N CommitWorld} (old taken new : DeskMeaning C) (wave : List (Delivery N G)) (sequels : List (Sequel N G)) (r : Result X Halt) → HasTakenWave old taken wave sequels → IfErr r (λ halt. halt ≡ halts.NoMemory) → IfErr r (HasHalted taken new) → IfErr r (HasHalted old new)
+wave_halted_unless old taken new wave sequels (Ok x) took want halted = tt
+wave_halted_unless {C} old taken new wave sequels (Err halt) took want halted =
+    wants_memory old taken new halt want (ap (λ (l : LogMeaning C). l.head) took.log) (ap (λ (l : LogMeaning C). l.part.id) took.log) halted
 
 pub ended_unless : {C X : Type 0} (Is : Event → Type 0) (old new : DeskMeaning C) (r : Result X Halt) → IfErr r (λ halt. halt ≡ halts.NoMemory) → IfErr r (EndsOnly Is old new)
 ended_unless Is old new (Ok x) want = tt

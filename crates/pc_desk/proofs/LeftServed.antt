@@ -1,15 +1,22 @@
 -- An actor that has a message of its own evaluated behind its last entry, and takes the note of that.
-use Rattle.std.proofs.Common.{◌≡◌, ℕ, ◌<◌, ◌≤◌, All, Contains, List, [], ◌∷◌, ◌++◌, Option, None, Some, IfSome, refl, sym, ap, subst, ◌∙◌}
+use Rattle.std.proofs.Common.{◌≡◌, ℕ, ◌<◌, ◌≤◌, All, Contains, List, [], ◌∷◌, ◌++◌, Option, None, Some, IfSome, refl, sym, ap, subst, ◌∙◌, ◌+◌, zero, suc, arith}
 use Rattle.std.proofs.lemmas.List.Elements.{All-head, Contains-append_left, Contains-push}
 use Rattle.pc_base.specs.declared.actor.ActorId.{ActorId}
 use Rattle.pc_desk.proofs.Leaving.{knows_at_on}
-use Rattle.pc_desk.specs.Desk.{ComesAfterFirst, Posted, TellsFirst, first_told}
-use Rattle.pc_desk.specs.Rest.{HasOnlyLearnt, KnowsAt, KnowsTimes, WasEvaluatedNow}
+use Rattle.pc_desk.specs.declared.left.Left.{Left}
+use Rattle.pc_desk.specs.Desk.{ComesAfterFirst, Posted, TellsFirst, first_told, times_first}
+use Rattle.pc_desk.specs.Left.{left_of}
+use Rattle.pc_desk.specs.Rest.{HasOnlyLearnt, IsOnceMore, IsReadyLeft, KnowsAt, KnowsTimes, MayBeServedFor, WasEvaluatedNow, times_known}
+use Rattle.pc_desk.specs.Wave.{posted_of}
+use Rattle.pc_history.specs.declared.named.Named.{Ghosts}
 use Rattle.pc_history.specs.declared.view.Known.{Known as KnownEntry}
+use Rattle.pc_history.specs.declared.view.Part.{Part}
 use Rattle.pc_history.specs.Meanings.{ActorMeaning, NoteMeaning}
-use Rattle.pc_history.specs.Parts.{known_entry, told, with_uses, without_uses}
+use Rattle.pc_history.specs.Parts.{known_entry, told, uses_left, with_uses, without_uses}
 use Rattle.pc_proto.specs.declared.event.Event.{Event}
 use Rattle.pc_proto.specs.declared.reply.Reply.{Reply}
+use Rattle.pc_range.specs.declared.commit_world.CommitWorld.{CommitWorld}
+use Rattle.pc_range.specs.declared.message.Message.{Message}
 use Rattle.pc_range.specs.Message.{ComesAfter, IsEvalNote, evaluation}
 use Rattle.pc_world.specs.Local.{Head}
 
@@ -74,3 +81,43 @@ pub twice_known : (mid new : ActorMeaning Head Event) (m : Posted) (before : Opt
 twice_known mid new m before first note one learnt other =
     let id : new.part.id ≡ mid.part.id = ap (λ (a : ActorMeaning Head Event). a.part.id) learnt.rest in
     (one.step, other.step, one.before other.step other.behind, knows_at_on mid.part new.part m one.step id learnt.more one.knows, other.knows)
+
+-- ---- what is left may be evaluated as often as is left of it
+
+-- two evaluations are as many as more than one
+pub more_known : (part : Part Event) (m : Posted) (n : ℕ) → 2 ≤ n → KnowsTimes part m 2 → KnowsTimes part m n
+more_known part m zero two knows = absurd (omega (arith, two))
+more_known part m (suc zero) two knows = absurd (omega (arith, two))
+more_known part m (suc (suc more)) two knows = knows
+
+module _ {N : Type 0} {G : Ghosts N CommitWorld} (left : Left N G) where
+  module _ (id : ActorId) (splits : List (List ℕ)) (ready : IsReadyLeft id splits (left_of left)) where
+    pub once_may : 1 ≤ left.times → MayBeServedFor id splits left.message
+    once_may some = let u = ready.uses in record { whose = ready.whose; there = ready.there; use_left = omega (arith, some, u); below = ready.below }
+
+    once-again : (note : NoteMeaning Head Event) → left.first ≡ Some note → left.times ≡ 1
+    once-again note is = subst (λ f. IsOnceMore (first_told f) left.times) is ready.once_more
+
+    pub again_may : (note : NoteMeaning Head Event) → left.first ≡ Some note → MayBeServedFor id splits left.message
+    again_may note is = let one = once-again note is in once_may (omega (arith, one))
+
+    pub again_tells : (note : NoteMeaning Head Event) → left.first ≡ Some note → TellsFirst id (posted_of left.message) (Some note.known)
+    again_tells note is = subst (λ f. TellsFirst id (posted_of left.message) (first_told f)) is ready.tells
+
+    pub twice_left : 2 ≤ left.times → 2 ≤ uses_left left.message.note.known
+    twice_left two = let u = ready.uses in omega (arith, two, u)
+
+    -- it was evaluated once more
+    pub again_known : (part : Part Event) (note : NoteMeaning Head Event) → left.first ≡ Some note → KnowsTimes part (posted_of left.message) 2 → KnowsTimes part (posted_of left.message) (times_known (left_of left))
+    again_known part note is knows =
+        let first : times_first (first_told left.first) ≡ 1 = ap (λ f. times_first (first_told f)) is in
+        let one = once-again note is in
+        let both : times_first (first_told left.first) + left.times ≡ 2 = omega (arith, first, one) in
+        subst (KnowsTimes part (posted_of left.message)) (sym both) knows
+
+  -- it was evaluated so often
+  pub first_known : (part : Part Event) (n : ℕ) → left.first ≡ None → left.times ≡ n → KnowsTimes part (posted_of left.message) n → KnowsTimes part (posted_of left.message) (times_known (left_of left))
+  first_known part n is times knows =
+      let first : times_first (first_told left.first) ≡ 0 = ap (λ f. times_first (first_told f)) is in
+      let all : times_first (first_told left.first) + left.times ≡ n = omega (arith, first, times) in
+      subst (KnowsTimes part (posted_of left.message)) (sym all) knows

@@ -20,12 +20,15 @@ pub mod Uses
 pub mod Errands
 pub mod Still
 pub mod StraysLeft
+pub mod StraysGone
 pub mod DueLeft
 pub mod Ending
 pub mod StraysRefused
 pub mod Stopping
 pub mod WaveSteps
+pub mod BagOrder
 pub mod Besides
+pub mod WaveEnded
 pub mod InCall
 pub mod Staying
 pub mod Learning

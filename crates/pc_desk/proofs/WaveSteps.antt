@@ -1,21 +1,23 @@
 -- A wave that is taken from the outbox message by message, and what became of it, taken in outcome by outcome.
-use Rattle.std.proofs.Common.{◌≡◌, ℕ, ◌+◌, ◌<◌, ◌≤◌, suc, cond, Bool, true, false, All, Contains, List, [], ◌∷◌, ◌++◌, length, map, Result, Ok, Err, refl, sym, ap, subst, ◌∙◌, arith, length-append}
+use Rattle.std.proofs.Common.{◌≡◌, ℕ, ◌+◌, ◌<◌, ◌≤◌, suc, cond, Bool, true, false, All, Contains, List, [], ◌∷◌, ◌++◌, length, map, None, Option, Some, Result, Ok, Err, refl, sym, ap, subst, ◌∙◌, arith, length-append}
 use Rattle.std.proofs.lemmas.List.{append-nil, append_assoc, map-append}
 use Rattle.std.proofs.lemmas.List.Elements.{All-head, All-nil, All-push, All-tail, All-weaker, Contains-append_left, Contains-append_right}
 use Rattle.std.specs.List.{AllZip}
+use Rattle.pc_desk.proofs.StraysRefused.{told_copy_is}
 use Rattle.pc_desk.specs.declared.answered.Answered.{Answered}
 use Rattle.pc_desk.specs.declared.errand.Errand.{Errand}
 use Rattle.pc_desk.specs.declared.errand.Sequel.{Sequel}
 use Rattle.pc_desk.specs.Desk.{DeskMeaning, Posted}
-use Rattle.pc_desk.specs.Errand.{HasPassedFirst, HasSetOutFirst, IsErrandOf, with_copy}
-use Rattle.pc_desk.specs.Evaluating.{HasTakenReply, kept_by}
+use Rattle.pc_desk.specs.Errand.{HasPassedFirst, HasSetOutFirst, IsErrandOf, MayBeKept, with_copy}
+use Rattle.pc_desk.specs.Evaluating.{HasTakenReply, kept_by, told_copy}
 use Rattle.pc_desk.specs.OwnLog.{IsOwnLog, LogMeaning, verdict_of}
-use Rattle.pc_desk.specs.TakenWave.{HasKeptAll, HasStoppedFor, HasTakenAllIn, HasTakenIn, HasTakenWave, KnowsOutcome, MayBeTakenIn, NoneYet, OnePassed, OneSetOut, SetsOut, answers_in, bag_with}
+use Rattle.pc_desk.specs.TakenWave.{HasKeptAll, HasStoppedFor, HasTakenAllIn, HasTakenIn, HasTakenWave, KnowsOutcome, MayBeTakenIn, NoneYet, OnePassed, OneSetOut, SetsOut, answers_in, bag_with, copy_note}
 use Rattle.pc_desk.specs.Waiting.{IsBehindAll}
 use Rattle.pc_desk.specs.Wave.{AreRisingMessages, GoesOut, HasJoined, IsReply, MayGo, answered_by, posted_in, posted_of}
 use Rattle.pc_history.specs.declared.named.Named.{Ghosts}
 use Rattle.pc_history.specs.declared.view.Known.{Known as KnownEntry}
 use Rattle.pc_history.specs.declared.view.Part.{Part}
+use Rattle.pc_history.specs.Meanings.{NoteMeaning}
 use Rattle.pc_history.specs.Parts.{told, with_uses, without_uses}
 use Rattle.pc_proto.specs.declared.event.Event.{Event}
 use Rattle.pc_range.specs.declared.commit_world.CommitWorld.{CommitWorld}
@@ -28,6 +30,7 @@ use Rattle.pc_serving.specs.Delivery.{MayBeServed}
 use Rattle.pc_wire.specs.declared.outbox.Stray.{Stray}
 use Rattle.pc_wire.specs.declared.verdict.Verdict.{Verdict}
 use Rattle.pc_wire.specs.declared.verdict.Verdict.TheVariants as verdicts
+use Rattle.pc_world.specs.Local.{Head}
 
 -- ---- a wave is taken
 
@@ -57,12 +60,12 @@ before-first : (first : Posted) (rest ms : List Posted) → ComeBefore (first �
 before-first first rest ms before = All-weaker (λ (m : Posted). All (λ (p : Posted). m.number < p.number) (first ∷ rest)) (λ (m : Posted). m.number < first.number) (λ m all. All-head (λ (p : Posted). m.number < p.number) first rest all) ms before
 
 -- a message that is set out says what waited, and has its number
-errand-number : {N : Type 0} {G : Ghosts N CommitWorld} (verdict : Verdict) (message : Message N G) (errand : Errand N G) → IsErrandOf verdict message errand → errand.message.number ≡ message.number
-errand-number {N} {G} verdicts.Deliver message errand is = ap (λ (e : Errand N G). e.message.number) is
-errand-number verdicts.LoseRequest message errand is = absurd is
-errand-number {N} {G} verdicts.LoseReply message errand is = ap (λ (e : Errand N G). e.message.number) is
-errand-number {N} {G} (verdicts.Repeat sends) message errand is = is.alike.number
-errand-number (verdicts.Hold sends) message errand is = absurd is
+pub errand_number : {N : Type 0} {G : Ghosts N CommitWorld} (verdict : Verdict) (message : Message N G) (errand : Errand N G) → IsErrandOf verdict message errand → errand.message.number ≡ message.number
+errand_number {N} {G} verdicts.Deliver message errand is = ap (λ (e : Errand N G). e.message.number) is
+errand_number verdicts.LoseRequest message errand is = absurd is
+errand_number {N} {G} verdicts.LoseReply message errand is = ap (λ (e : Errand N G). e.message.number) is
+errand_number {N} {G} (verdicts.Repeat sends) message errand is = is.alike.number
+errand_number (verdicts.Hold sends) message errand is = absurd is
 
 module _ {C N : Type 0} {G : Ghosts N CommitWorld} where
   pub taken_none : (d : DeskMeaning C) → HasTakenWave {N = N} {G = G} d d [] []
@@ -111,7 +114,7 @@ module _ {C N : Type 0} {G : Ghosts N CommitWorld} where
       mid-later = subst (λ ps. ComeBefore ps (posted_in wave)) first.taken.first so_far.later
 
       number : joins.joined.message.number ≡ first.message.number
-      number = ap (λ (m : Message N G). m.number) joins.message_is ∙ errand-number (verdict_of mid.log first.message.number) first.message errand first.errand_of
+      number = ap (λ (m : Message N G). m.number) joins.message_is ∙ errand_number (verdict_of mid.log first.message.number) first.message errand first.errand_of
 
       below : All (λ (p : Posted). p.number < joins.joined.message.number) (posted_in wave)
       below = subst (λ n. All (λ (p : Posted). p.number < n) (posted_in wave)) (sym number) (before-first (posted_of first.message) new.posted (posted_in wave) mid-later)
@@ -147,25 +150,25 @@ zip-push R (a ∷ xs) [] x y each one = absurd each
 zip-push R (a ∷ xs) (b ∷ ys) x y each one = (each.0, zip-push R xs ys x y each.1 one)
 
 module _ {N : Type 0} {G : Ghosts N CommitWorld} where
-  answers-push : (os : List (Result (ReplyMsg N) (ServeFault N G))) (ss : List (Sequel N G)) (o : Result (ReplyMsg N) (ServeFault N G)) (s : Sequel N G) → length os ≡ length ss → answers_in (os ++ o ∷ []) (ss ++ s ∷ []) ≡ answers_in os ss ++ answers_in (o ∷ []) (s ∷ [])
-  answers-push [] [] o s same = refl
-  answers-push [] (x ∷ ss) o s same = absurd cc
-  answers-push (x ∷ os) [] o s same = absurd cc
-  answers-push (Err f ∷ os) (x ∷ ss) o s same = answers-push os ss o s (let e = same in omega (arith, e))
-  answers-push (Ok r ∷ os) (x ∷ ss) o s same =
-      by x.is_heard (answers-push os ss o s (let e = same in omega (arith, e)))
+  pub answers_push : (os : List (Result (ReplyMsg N) (ServeFault N G))) (ss : List (Sequel N G)) (o : Result (ReplyMsg N) (ServeFault N G)) (s : Sequel N G) → length os ≡ length ss → answers_in (os ++ o ∷ []) (ss ++ s ∷ []) ≡ answers_in os ss ++ answers_in (o ∷ []) (s ∷ [])
+  answers_push [] [] o s same = refl
+  answers_push [] (x ∷ ss) o s same = absurd cc
+  answers_push (x ∷ os) [] o s same = absurd cc
+  answers_push (Err f ∷ os) (x ∷ ss) o s same = answers_push os ss o s (let e = same in omega (arith, e))
+  answers_push (Ok r ∷ os) (x ∷ ss) o s same =
+      by x.is_heard (answers_push os ss o s (let e = same in omega (arith, e)))
     where
       by : (b : Bool) → answers_in (os ++ o ∷ []) (ss ++ s ∷ []) ≡ answers_in os ss ++ answers_in (o ∷ []) (s ∷ [])
           → cond b (answered_by r ∷ answers_in (os ++ o ∷ []) (ss ++ s ∷ [])) (answers_in (os ++ o ∷ []) (ss ++ s ∷ [])) ≡ cond b (answered_by r ∷ answers_in os ss) (answers_in os ss) ++ answers_in (o ∷ []) (s ∷ [])
       by true on = ap (λ l. answered_by r ∷ l) on
       by false on = on
 
-  bag-push : (os : List (Result (ReplyMsg N) (ServeFault N G))) (ss : List (Sequel N G)) (o : Result (ReplyMsg N) (ServeFault N G)) (s : Sequel N G) (bag : List (ℕ × Stray Posted)) → length os ≡ length ss → bag_with (os ++ o ∷ []) (ss ++ s ∷ []) bag ≡ bag_with (o ∷ []) (s ∷ []) (bag_with os ss bag)
-  bag-push [] [] o s bag same = refl
-  bag-push [] (x ∷ ss) o s bag same = absurd cc
-  bag-push (x ∷ os) [] o s bag same = absurd cc
-  bag-push (Ok r ∷ os) (x ∷ ss) o s bag same = bag-push os ss o s (with_copy x.copy bag) (let e = same in omega (arith, e))
-  bag-push (Err f ∷ os) (x ∷ ss) o s bag same = bag-push os ss o s bag (let e = same in omega (arith, e))
+  pub bag_push : (os : List (Result (ReplyMsg N) (ServeFault N G))) (ss : List (Sequel N G)) (o : Result (ReplyMsg N) (ServeFault N G)) (s : Sequel N G) (bag : List (ℕ × Stray Posted)) → length os ≡ length ss → bag_with (os ++ o ∷ []) (ss ++ s ∷ []) bag ≡ bag_with (o ∷ []) (s ∷ []) (bag_with os ss bag)
+  bag_push [] [] o s bag same = refl
+  bag_push [] (x ∷ ss) o s bag same = absurd cc
+  bag_push (x ∷ os) [] o s bag same = absurd cc
+  bag_push (Ok r ∷ os) (x ∷ ss) o s bag same = bag_push os ss o s (with_copy x.copy bag) (let e = same in omega (arith, e))
+  bag_push (Err f ∷ os) (x ∷ ss) o s bag same = bag_push os ss o s bag (let e = same in omega (arith, e))
 
 -- So far the outcomes before those that are left, beside their sequels, are done with.
 pub record IsPart {X Y : Type 0} (all : List X) (beside : List Y) (left : List X) (left_beside : List Y) (done : List X) (done_beside : List Y) : Type 0 where
@@ -195,8 +198,8 @@ none-left done left none = ap (λ l. done ++ l) none ∙ append-nil done
 
 module _ {N : Type 0} {G : Ghosts N CommitWorld} where
   -- one reply is kept, or dropped, beside what came of it
-  kept-answer : (rs : List Answered) (r : ReplyMsg N) (s : Sequel N G) → kept_by s.is_heard (answered_by r) rs ≡ rs ++ answers_in (Ok r ∷ []) (s ∷ [])
-  kept-answer rs r s = by s.is_heard
+  pub kept_answer : (rs : List Answered) (r : ReplyMsg N) (s : Sequel N G) → kept_by s.is_heard (answered_by r) rs ≡ rs ++ answers_in (Ok r ∷ []) (s ∷ [])
+  kept_answer rs r s = by s.is_heard
     where
       by : (b : Bool) → kept_by b (answered_by r) rs ≡ rs ++ cond b (answered_by r ∷ []) []
       by true = refl
@@ -245,8 +248,8 @@ module _ {C N : Type 0} {G : Ghosts N CommitWorld} where
           took.rest
           ∙ (ap (λ (d : DeskMeaning C). record d { log = record d.log { part = record d.log.part { known = mid.log.part.known ++ note } }; replies = kept_by s.is_heard (answered_by r) d.replies; bag = with_copy s.copy d.bag }) so_far.kept.rest
           ∙ (ap (λ rs. desk-then (mid.log.part.known ++ note) rs (with_copy s.copy (bag_with so_far.done so_far.done_sequels old.bag)))
-          (kept-answer (old.replies ++ answers_in so_far.done so_far.done_sequels) r s ∙ (append_assoc old.replies (answers_in so_far.done so_far.done_sequels) (answers_in (Ok r ∷ []) (s ∷ [])) ∙ ap (λ rs. old.replies ++ rs) (sym (answers-push so_far.done so_far.done_sequels (Ok r) s so_far.part.same))))
-          ∙ (ap (λ b. desk-then (mid.log.part.known ++ note) (old.replies ++ answers_in (so_far.done ++ Ok r ∷ []) (so_far.done_sequels ++ s ∷ [])) b) (sym (bag-push so_far.done so_far.done_sequels (Ok r) s old.bag so_far.part.same))
+          (kept_answer (old.replies ++ answers_in so_far.done so_far.done_sequels) r s ∙ (append_assoc old.replies (answers_in so_far.done so_far.done_sequels) (answers_in (Ok r ∷ []) (s ∷ [])) ∙ ap (λ rs. old.replies ++ rs) (sym (answers_push so_far.done so_far.done_sequels (Ok r) s so_far.part.same))))
+          ∙ (ap (λ b. desk-then (mid.log.part.known ++ note) (old.replies ++ answers_in (so_far.done ++ Ok r ∷ []) (so_far.done_sequels ++ s ∷ [])) b) (sym (bag_push so_far.done so_far.done_sequels (Ok r) s old.bag so_far.part.same))
           ∙ ap (λ ks. desk-then ks (old.replies ++ answers_in (so_far.done ++ Ok r ∷ []) (so_far.done_sequels ++ s ∷ [])) (bag_with (so_far.done ++ Ok r ∷ []) (so_far.done_sequels ++ s ∷ []) old.bag)) (sym known-now))));
       learnt = learnt-one old mid new so_far.done so_far.done_sequels (Ok r) s so_far.kept.learnt (λ k there. subst (λ l. Contains l k) (sym known-now) (Contains-append_left mid.log.part.known note k there))
           (λ k there. subst (λ l. Contains l k) (sym known-now) (Contains-append_right mid.log.part.known note k (subst (λ l. Contains l k) (sym same) there)));
@@ -291,7 +294,7 @@ module _ {C N : Type 0} {G : Ghosts N CommitWorld} where
     rest =
         took.rest
         ∙ (ap (λ (d : DeskMeaning C). record d { log = record d.log { part = record d.log.part { known = new.log.part.known } }; bag = bag_with (o ∷ []) (s ∷ []) d.bag }) so_far.rest
-        ∙ ap (λ b. record old { log = record old.log { part = record old.log.part { known = new.log.part.known } }; bag = b }) (sym (bag-push so_far.done so_far.done_sequels o s old.bag so_far.part.same)));
+        ∙ ap (λ b. record old { log = record old.log { part = record old.log.part { known = new.log.part.known } }; bag = b }) (sym (bag_push so_far.done so_far.done_sequels o s old.bag so_far.part.same)));
     learnt = learnt-one old mid new so_far.done so_far.done_sequels o s so_far.learnt took.more took.knows;
   }
 
@@ -304,11 +307,11 @@ module _ {C N : Type 0} {G : Ghosts N CommitWorld} where
       (record { rest = ap (λ (d : DeskMeaning C). record d { log = record d.log { stopped = true } }) so_far.rest; learnt = record { more = so_far.learnt.more; knows = so_far.learnt.knows } })))
 
 -- lists that go beside each other are as long
-pub zip-long : {X Y : Type 0} (R : X → Y → Type 0) (xs : List X) (ys : List Y) → AllZip R xs ys → length xs ≡ length ys
-zip-long R [] [] zips = refl
-zip-long R [] (y ∷ ys) zips = absurd zips
-zip-long R (x ∷ xs) [] zips = absurd zips
-zip-long R (x ∷ xs) (y ∷ ys) zips = ap suc (zip-long R xs ys zips.1)
+pub zip_long : {X Y : Type 0} (R : X → Y → Type 0) (xs : List X) (ys : List Y) → AllZip R xs ys → length xs ≡ length ys
+zip_long R [] [] zips = refl
+zip_long R [] (y ∷ ys) zips = absurd zips
+zip_long R (x ∷ xs) [] zips = absurd zips
+zip_long R (x ∷ xs) (y ∷ ys) zips = ap suc (zip_long R xs ys zips.1)
 
 -- ---- one outcome
 
@@ -331,3 +334,33 @@ module _ {C N : Type 0} {G : Ghosts N CommitWorld} where
   taken_in_reply old mid new o r s note is copied same took =
       subst (λ x. HasTakenIn old new x s) (sym is)
       (took-in old new (Ok r) s note (with_copy s.copy old.bag) (took ∙ ap (λ (d : DeskMeaning C). record d { log = record d.log { part = told note d.log.part } }) copied) refl (λ all k there. all k (subst (λ l. Contains l k) (sym same) there)))
+
+  -- a message that was given back is taken in
+  pub taken_in_back : (old new : DeskMeaning C) (fault : ServeFault N G) (at : ℕ) (last : NoteMeaning Head Event) (message : Message N G) (s : Sequel N G) (first other : LogMeaning C) → fault ≡ faults.Full at last message → first ≡ record old.log { part = told last.known old.log.part }
+      → other ≡ record first { part = told message.note.known first.part } → new ≡ record old { log = record other { part = told_copy s.copy other.part } } → HasTakenIn old new (Err fault) s
+  taken_in_back old new fault at last message s first other is took_last took_use took_copy =
+      subst (λ (f : ServeFault N G). HasTakenIn old new (Err f) s) (sym is) (took-in old new (Err (faults.Full at last message)) s (last.known ++ (message.note.known ++ copy_note s.copy)) old.bag told-all refl (λ all. all))
+    where
+      logs : other ≡ record old.log { part = told message.note.known (told last.known old.log.part) }
+      logs = took_use ∙ ap (λ (l : LogMeaning C). record l { part = told message.note.known l.part }) took_last
+
+      told-all : new ≡ record old { log = record old.log { part = told (last.known ++ (message.note.known ++ copy_note s.copy)) old.log.part } }
+      told-all =
+          took_copy
+          ∙ (ap (λ (l : LogMeaning C). record old { log = record l { part = told_copy s.copy l.part } }) logs
+          ∙ (ap (λ (p : Part Event). record old { log = record old.log { part = p } }) (told_copy_is s.copy (told message.note.known (told last.known old.log.part)))
+          ∙ ap (λ ks. record old { log = record old.log { part = record old.log.part { known = ks } } })
+          (append_assoc (old.log.part.known ++ last.known) message.note.known (copy_note s.copy) ∙ append_assoc old.log.part.known last.known (message.note.known ++ copy_note s.copy))))
+
+-- ---- the next of a wave
+
+module _ {C N : Type 0} {G : Ghosts N CommitWorld} where
+  -- the copy of the next may go into the bag still
+  pub next_may : (old now : DeskMeaning C) (all left : List (Result (ReplyMsg N) (ServeFault N G))) (sequels left_sequels : List (Sequel N G)) (o : Result (ReplyMsg N) (ServeFault N G)) (s : Sequel N G) → (log : LogMeaning C) → log ≡ record old.log { part = record old.log.part { known = log.part.known } }
+      → AllZip (MayBeTakenIn old.log) (o ∷ left) (s ∷ left_sequels) → MayBeTakenIn log o s
+  next_may old now all left sequels left_sequels (Ok r) s log same each = subst (λ (l : LogMeaning C). MayBeTakenIn l (Ok r) s) (sym same) (kept-on s.copy each.0)
+    where
+      kept-on : (copy : Option (Stray (Message N G))) → MayBeKept old.log copy r.note.known → MayBeKept (record old.log { part = record old.log.part { known = log.part.known } }) copy r.note.known
+      kept-on None may = tt
+      kept-on (Some stray) may = may
+  next_may old now all left sequels left_sequels (Err fault) s log same each = tt

@@ -8,7 +8,7 @@ pub loop-left-init : goal.loop-left-init
 loop-left-init g c = begun_leaving c.args.ranges.now.splits c.args.rest c.args.actor.now c.requires
 
 pub evaluate-requires : goal.evaluate-requires
-evaluate-requires g c = first_ready c.args.ranges.now.splits c.args.rest c.loop-left.rest c.take_first.new.self c.args.actor.now c.loop-left.actor (left_of c.in-Some.left) c.loop-left.invariant c.in-Some.ensures.first refl
+evaluate-requires g c = record { ready = first_ready c.args.ranges.now.splits c.args.rest c.loop-left.rest c.take_first.new.self c.args.actor.now c.loop-left.actor (left_of c.in-Some.left) c.loop-left.invariant c.in-Some.ensures.first refl }
 
 pub loop-left-preserved : goal.loop-left-preserved
 loop-left-preserved g c =

@@ -3,4 +3,4 @@ use Rattle.pc_desk.proofs.WaveSteps.{KeptSoFar}
 use Rattle.pc_desk.proofs.beside.Desk.keep_all.Given as goal
 
 abbrev pub invariant-loop-outcome : goal.invariant-loop-outcome
-invariant-loop-outcome g l = KeptSoFar l.fn.self l.self l.fn.outcomes.items l.outcome-iterator.rest.items × (l.self.log.clock ≡ l.fn.self.log.clock)
+invariant-loop-outcome g l = KeptSoFar l.fn.self l.self l.fn.outcomes.items l.outcome-iterator.rest.items l.fn.sequels.items l.sequels.rest.items × (l.self.log.clock ≡ l.fn.self.log.clock)
