@@ -1,4 +1,4 @@
-use Rattle.std.proofs.Common.{refl, sym, ap, inl, inr, ◌∙◌}
+use Rattle.std.proofs.Common.{rules, refl, sym, ap, inl, inr, ◌∙◌}
 use Rattle.std.proofs.lemmas.Result.{err_from_is_err_and}
 use Rattle.pc_exchange.proofs.Ending.{goes_breaks}
 use Rattle.pc_exchange.proofs.Recovering.{is_staging, recovering_asks, recovering_begins, recovering_ends}
@@ -26,7 +26,7 @@ returns-in-Changed-clause-ok g c = λ start.
 pub loop-preserved : goal.loop-preserved
 loop-preserved g c =
     let on : (start : MayRecoverInRound c.args.desk.now c.args.own c.args.holder c.args.met) → RecoversForRound c.args.desk.now c.args.own c.args.holder c.args.met start c.recover_on.new.machine c.recover_on.new.desk = λ start.
-    c.in_ok-recover_on-in-Send.ensures.ok c.args.desk.now c.args.own c.args.holder c.args.met start (c.loop.invariant.0 start) (sym c.in-Ok.ensures.due ∙ c.in-Send.is) in
+    c.in_ok-recover_on-in-Send.ensures.ok c.args.desk.now c.args.own c.args.holder c.args.met start (c.loop.invariant.0 start) (sym c.in-Ok.ensures.due ∙ c.in-Send.is) (search rules) in
     let rest = (on c.requires).goes.grown.rest in
     (on, c.in_ok-recover_on-in-Send.ensures.clock ∙ c.loop.invariant.1, (ap (λ l. l.head) rest, ap (λ l. l.part.id) rest, ap (λ l. l.stopped) rest))
 
