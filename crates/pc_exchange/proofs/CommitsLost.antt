@@ -1,12 +1,9 @@
 -- The commit with which a job begins was lost as often as it may be sent: its transaction was told committed at just that timestamp, and may be committed there
 -- still.
-use Rattle.std.proofs.Common.{◌≡◌, ℕ, ◌+◌, true, false, inl, inr, Contains, List, Some, refl, sym, ap, ◌∙◌, subst}
+use Rattle.std.proofs.Common.{◌≡◌, ℕ, ◌+◌, ◌&&◌, ◌==◌, true, false, inl, inr, Contains, List, Some, refl, sym, ap, ◌∙◌, subst}
 use Rattle.std.proofs.lemmas.Bool.{and_parts}
 use Rattle.std.proofs.lemmas.Option.{same_Some}
-use Rattle.pc_base.specs.declared.actor.ActorId.{ActorId}
 use Rattle.pc_base.specs.declared.actor.ActorId.TheVariants as actors
-use Rattle.pc_base.specs.declared.entry.Entry.{Entry}
-use Rattle.pc_base.specs.declared.transaction.TxnId.{TxnId}
 use Rattle.pc_call.specs.Finished.{KnowsFate, MayBeCommittedFirst}
 use Rattle.pc_coord.specs.declared.job.Job.{Job}
 use Rattle.pc_coord.specs.Knows.{left_for}
@@ -18,14 +15,12 @@ use Rattle.pc_exchange.proofs.Learned.{known_sent}
 use Rattle.pc_exchange.proofs.Told.{decided_still, stays_committing}
 use Rattle.pc_exchange.specs.Exchange.{HasLostAll}
 use Rattle.pc_exchange.specs.Told.{StaysDecided, StillDecides}
-use Rattle.pc_history.specs.declared.pair.Pair.{Pair}
 use Rattle.pc_implicit.proofs.Agreed.{agreed, one_txn, owned}
 use Rattle.pc_implicit.proofs.Fates.{shown_fate}
 use Rattle.pc_implicit.proofs.Runs.{kept-status}
 use Rattle.pc_implicit.proofs.ToldCommits.{told_commits_stand_ok}
 use Rattle.pc_implicit.specs.Decided.{decision}
 use Rattle.pc_implicit.specs.Writes.{home_of, txns_of}
-use Rattle.pc_proto.specs.declared.event.Event.{Event}
 use Rattle.pc_proto.specs.declared.fate.Fate.TheVariants as fates
 use Rattle.pc_proto.specs.declared.meta.TxnMeta.{TxnMeta}
 use Rattle.pc_proto.specs.declared.record.Standing.TheVariants as standings
@@ -36,7 +31,6 @@ use Rattle.pc_proto.specs.RecordRows.Reached.{is_staged_at, is_staging, status_o
 use Rattle.pc_world.specs.After.{known_at}
 use Rattle.pc_world.specs.Known.{Known, known_of, next_number}
 use Rattle.pc_world.specs.Known.Transactions.{Txn}
-use Rattle.pc_world.specs.Run.{IsRun}
 use Rattle.pc_world.specs.Send.Settling.{MaySendResolve}
 
 -- a record that stages is not decided committed
@@ -44,7 +38,7 @@ staged-undecided : (p : Place) (epoch ts at_epoch at : ℕ) → is_staged_at p e
 staged-undecided Nothing epoch ts at_epoch at staged so = absurd cc
 staged-undecided (Kept r) epoch ts at_epoch at staged so =
     let same : r.status ≡ status_of standings.Committed at_epoch at = kept-status (is_final r.status.standing) r.status (status_of standings.Committed at_epoch at) so in
-    let stages : is_staging r.status.standing ≡ true = (and_parts (is_staging r.status.standing) _ staged).0 in
+    let stages : is_staging r.status.standing ≡ true = (and_parts (is_staging r.status.standing) (r.status.epoch == epoch && r.status.ts == ts) staged).0 in
     let both : false ≡ true = sym (ap (λ (s : Status). is_staging s.standing) same) ∙ stages in
     cc both
 staged-undecided (Marked s) epoch ts at_epoch at staged so = absurd cc
@@ -58,9 +52,6 @@ module _ {C : Type 0} (l : LogMeaning C) (log : IsOwnLog l) where
       one_txn l.part.id (k.begun + 1) k.txns u t (agreed l.head (history_of l log) (is_run l log) l.part.id).numbered (back u there) (back t mine) same
 
   module _ (t : Txn) (anchor : List ℕ) (ts : ℕ) (mine : Contains (known_of l.part.own).txns t) (anchored : t.anchor ≡ Some anchor) (committed : t.committed ≡ Some ts) where
-    abbrev history : List (Entry Event)
-    history = history_of l log
-
     known_mine : Contains (known_at l.head l.part.id (history_of l log)).txns t
     known_mine = subst (λ (k : Known). Contains k.txns t) (sym (known_there l log)) mine
 
