@@ -20,7 +20,7 @@ use Rattle.pc_exchange.proofs.Learned.{with_exchange, with_sent}
 use Rattle.pc_exchange.specs.Aside.{IsAside, IsLaterAside, IsOfRoundOrJob, MayGoOnBeside, lasting_of}
 use Rattle.pc_exchange.proofs.Told.{fate_committed}
 use Rattle.pc_exchange.specs.Jobs.{IsFinishable}
-use Rattle.pc_exchange.specs.Told.{KeepsTold}
+use Rattle.pc_exchange.specs.Told.{KeepsTold, KeepsToldBut, StaysDecided, StillDecides}
 use Rattle.pc_lists.proofs.Anywhere.{any_kept}
 use Rattle.pc_lists.proofs.Lists.{all_from_contains, contains_in_map, contains_map}
 use Rattle.pc_proto.specs.declared.fate.Fate.{Fate}
@@ -247,8 +247,9 @@ module _ (session : ℕ) (start k : Known) (ts : ℕ) (l : IsLaterAside session 
   pub heard_since : (later : List Heard) → k.heard_now ≡ start.heard_now ++ later → l.heard_more ≡ later
   heard_since later more = append_cancel_left start.heard_now l.heard_more later (sym l.heard_now ∙ more)
 
-  -- a job whose record is to be committed first may be done so still, where the transactions that were told committed stay so
-  module _ (told : KeepsTold start k) (named : IsNamedBy k) (job : Job) (at : ℕ) (other : (t : Txn) → open_txn start ≡ Some t → job.meta.id ≡ t.id → ⊥) (may : MayBeCommittedFirst start at (left_for job)) where
+  -- a job whose record is to be committed first may be done so still, where its transaction stays so that was told committed
+  module _ (named : IsNamedBy k) (job : Job) (at : ℕ) (other : (t : Txn) → open_txn start ≡ Some t → job.meta.id ≡ t.id → ⊥) (may : MayBeCommittedFirst start at (left_for job))
+      (told : may.commit.t.anchor ≡ Some job.meta.anchor → may.commit.t.committed ≡ Some at → StillDecides start may.commit.t at → StaysDecided k may.commit.t at) where
     abbrev its_txn : Txn
     its_txn = may.commit.t
 
@@ -287,15 +288,16 @@ module _ (session : ℕ) (start k : Known) (ts : ℕ) (l : IsLaterAside session 
 
     first_still : KnowsFate start its_txn may.epoch at job.fate → MayBeCommittedFirst k at (left_for job)
     first_still (inl (own, decides)) =
-        elim (told its_txn job.meta.anchor at may.commit.whose.anchored (told_so decides.may) (may.commit.mine, decides)) [
-          | inl still ↦ first_made its_txn still.0 refl (inl still.1) (inl (own, still.1))
+        elim (told may.commit.whose.anchored (told_so decides.may) (may.commit.mine, decides)) [
+          | inl still ↦ first_made still.u still.decides.0 still.same (inl still.decides.1) (inl (own ∙ sym (ap (λ (x : Txn). x.epoch) still.same), still.decides.1))
           | inr shown ↦ first_shown (subst (MaySendResolve k its_txn.id) (ap (λ e. fates.Committed e at) (sym own) ∙ sym may.fate) shown)
         ]
     first_still (inr shown) = first_shown (heard_still (ShowsFate its_txn.id job.fate) shown)
 
-  -- each job may be done still
-  pub left_still : KeepsTold start k → IsNamedBy k → (job : Job) → IsFinishable start job → IsFinishable k job
-  left_still told named job left = record {
+  -- a job may be done still, where its transaction stays so
+  left-by : IsNamedBy k → (job : Job) → ((t : Txn) (at : ℕ) → job.meta.id ≡ t.id → t.anchor ≡ Some job.meta.anchor → t.committed ≡ Some at → StillDecides start t at → StaysDecided k t at)
+      → IsFinishable start job → IsFinishable k job
+  left-by named job told left = record {
     may = by job.staged left.may;
     begun = subst (λ n. job.meta.id.number ≤ n) (sym l.begun) left.begun;
     other = λ t is. left.other t (sym (open_same session start k ts l) ∙ is);
@@ -303,7 +305,15 @@ module _ (session : ℕ) (start k : Known) (ts : ℕ) (l : IsLaterAside session 
     where
       by : (staged : Option ℕ) → MayBeSettledAfter staged start (left_for job) → MayBeSettledAfter staged k (left_for job)
       by None may = finish_still job.meta.id job.meta.anchor job.fate job.locks may
-      by (Some at) may = first_still told named job at left.other may may.known
+      by (Some at) may = first_still named job at left.other may (told may.commit.t at (ap (λ (m : TxnMeta). m.id) may.commit.whose.same)) may.known
+
+  -- each may
+  pub left_still : KeepsTold start k → IsNamedBy k → (job : Job) → IsFinishable start job → IsFinishable k job
+  left_still told named job left = left-by named job (λ t at same anchored committed decides. told t job.meta.anchor at anchored committed decides) left
+
+  -- each may but that of the transaction of this name
+  pub left_but : (id : TxnId) → KeepsToldBut id start k → IsNamedBy k → (job : Job) → IsFinishable start job → (job.meta.id ≡ id → ⊥) → IsFinishable k job
+  left_but id told named job left differ = left-by named job (λ t at same anchored committed decides. told t job.meta.anchor at anchored committed decides (λ is. differ (same ∙ is))) left
 
   -- ---- the coordinator
 

@@ -16,7 +16,8 @@ use Rattle.pc_desk.proofs.Making.{added, known_after_it, sent_then}
 use Rattle.pc_desk.proofs.Turns.{oldest_waits}
 use Rattle.pc_desk.specs.declared.answered.Answered.{Answered}
 use Rattle.pc_desk.specs.declared.halt.Halt.{Halt}
-use Rattle.pc_desk.specs.Desk.{AreInTurn, DeskMeaning, HasDelivered, HasSentNext, IsAnsweredBy, MayHearNow, Posted, heard_as_number, is_on_way, times_sent}
+use Rattle.pc_desk.specs.declared.halt.Halt.TheVariants as halts
+use Rattle.pc_desk.specs.Desk.{AreInTurn, DeskMeaning, HasDelivered, HasHalted, IsCause, HasSentNext, IsAnsweredBy, MayHearNow, Posted, heard_as_number, is_on_way, times_sent}
 use Rattle.pc_desk.specs.Ending.{EndsOnly}
 use Rattle.pc_desk.specs.Keeping.{KeepsAs, KeepsOverQuiet, LosesNothing, Terms}
 use Rattle.pc_desk.specs.Late.{HasDeliveredDue}
@@ -29,7 +30,7 @@ use Rattle.pc_exchange.proofs.Learned.{first_kept, heard_then}
 use Rattle.pc_exchange.proofs.Unsent.{own_before}
 use Rattle.pc_exchange.specs.Ending.{BreaksOff}
 use Rattle.pc_exchange.specs.Exchange.{HasLostOne, HasOneOut, MayExchangeNow, WasExchangedOnce, WasHeardLast, WasLostLast, heard_pair, sent_pair}
-use Rattle.pc_exchange.specs.Growing.{HasAllBack, HasGoneBeside, HasGrownBy}
+use Rattle.pc_exchange.specs.Growing.{HasAllBack, HasGoneBeside, HasGrownBy, IsSameActor}
 use Rattle.pc_history.specs.declared.pair.Pair.{Pair}
 use Rattle.pc_history.specs.Own.{pair}
 use Rattle.pc_history.specs.Parts.{entry_of, knowledge, named_by}
@@ -450,6 +451,21 @@ module _ {C : Type 0} (old mid late : DeskMeaning C) (request : Request) (number
         by None h l = l.back
         by (Some r) h l = h.back
 
+    -- it is the same actor, and has not stopped since
+    pub same_then : IsSameActor old then
+    same_then = by reply heard lost
+      where
+        early : IsSameActor old late
+        early = let rest = grown-late.rest in (ap (λ (l : LogMeaning C). l.head) rest, ap (λ (l : LogMeaning C). l.part.id) rest, ap (λ (l : LogMeaning C). l.stopped) rest)
+
+        by : (o : Option Reply) → IfSome o (WasHeardLast late then) → IfNone o (WasLostLast late then) → IsSameActor old then
+        by None h l =
+            let rest : then.log ≡ late.log = ap (λ (d : DeskMeaning C). d.log) l.taken.rest in
+            (ap (λ (l : LogMeaning C). l.head) rest ∙ early.0, ap (λ (l : LogMeaning C). l.part.id) rest ∙ early.1, ap (λ (l : LogMeaning C). l.stopped) rest ∙ early.2)
+        by (Some r) h l =
+            let rest = (grows_entered late.log then.log (events.Hear h.answered.number h.answered.step) h.heard.entered refl).rest in
+            (ap (λ (l : LogMeaning C). l.head) rest ∙ early.0, ap (λ (l : LogMeaning C). l.part.id) rest ∙ early.1, ap (λ (l : LogMeaning C). l.stopped) rest ∙ early.2)
+
     pub heard_once : HasDeliveredDue then new → IfSome reply (WasExchangedOnce old new request)
     heard_once due = by reply heard
       where
@@ -465,6 +481,16 @@ module _ {C : Type 0} (old mid late : DeskMeaning C) (request : Request) (number
         by (Some r) l = tt
 
 -- ---- an actor that halts on the way
+
+-- it halted so since it was the same actor before
+pub halted_since : {C : Type 0} (old then new : DeskMeaning C) (halt : Halt) → IsSameActor old then → HasHalted then new halt → HasHalted old new halt
+halted_since old then new halt same h = record { stopped = h.stopped; head = h.head ∙ same.0; id = h.id ∙ same.1; cause = by halt h.cause }
+  where
+    by : (halt : Halt) → IsCause then new halt → IsCause old new halt
+    by halts.Stopped (inl was) = inl (sym same.2 ∙ was)
+    by halts.Stopped (inr at) = inr at
+    by (halts.Full actor) cause = cause
+    by halts.NoMemory cause = tt
 
 -- where its list ends once the message was sent
 module _ {C : Type 0} (old mid : DeskMeaning C) (request : Request) (number : ℕ) (sent : HasSentNext old mid number request) where

@@ -14,6 +14,7 @@ use Rattle.pc_desk.specs.OwnLog.{LogMeaning, verdict_of}
 use Rattle.pc_exchange.proofs.Anchored.{anchor_is, own_named}
 use Rattle.pc_exchange.proofs.Aside.{aside_none, goes_on_beside, heard_since, kind_now, left_still, must}
 use Rattle.pc_exchange.proofs.Called.{all_heard_ever, all_heard_or_lost}
+use Rattle.pc_exchange.proofs.CommitsLost.{lost_committed}
 use Rattle.pc_exchange.proofs.Coordinator.{counted_closed}
 use Rattle.pc_exchange.proofs.Going.{answered_to_by, aside_by, goes_by, heard_by_it, heard_now_by, jobs_by, lost_aside, lost_told, never_quiet, not_same, part_by, reply_by, told_by}
 use Rattle.pc_exchange.proofs.Growing.{goes_both, goes_none}
@@ -23,6 +24,7 @@ use Rattle.pc_exchange.proofs.RowsDecide.{commit_decides}
 use Rattle.pc_exchange.proofs.SameRange.{more_is_heard, went_on}
 use Rattle.pc_exchange.proofs.Silent.{beside_commits_none}
 use Rattle.pc_exchange.proofs.Timely.{IsTimely, may_exchange}
+use Rattle.pc_exchange.proofs.Told.{decided_still}
 use Rattle.pc_exchange.proofs.ToldViews.{IsCommittedView}
 use Rattle.pc_exchange.proofs.Waves.{none_awaited}
 use Rattle.pc_exchange.specs.Aside.{IsAside, IsLaterAside}
@@ -34,7 +36,7 @@ use Rattle.pc_exchange.specs.Told.{KeepsTold, StaysDecided, StillDecides}
 use Rattle.pc_history.specs.declared.pair.Pair.{Pair}
 use Rattle.pc_lists.proofs.Anywhere.{any_last}
 use Rattle.pc_lists.proofs.Lists.{contains_head}
-use Rattle.pc_lists.proofs.Same.{same_txn-self}
+use Rattle.pc_lists.proofs.Same.{same_txn-is, same_txn-self}
 use Rattle.pc_proto.specs.declared.event.Event.{Event}
 use Rattle.pc_proto.specs.declared.machine.MachineNext.{MachineNext}
 use Rattle.pc_proto.specs.declared.machine.MachineNext.TheVariants as machine
@@ -89,7 +91,7 @@ finishing_begins old job m start none made knows = record {
   part = [];
   goes = goes_none old start.back;
   aside = aside_none start.session (known_of old.log.part.own);
-  told = λ t anchor at anchored committed decides. inl decides;
+  told = λ t anchor at anchored committed decides. decided_still (known_of old.log.part.own) t at decides;
   began = known_of old.log.part.own;
   knows = knows (known_of old.log.part.own)
       (subst (λ (m : Resolving). MayFinish (known_of old.log.part.own) m.id m.anchor m.fate m.locks) (sym made) (subst (λ o. MayBeSettledAfter o (known_of old.log.part.own) (left_for job)) none start.may.may));
@@ -237,7 +239,7 @@ module _ {C : Type 0} (old : DeskMeaning C) (job : Job) (at : ℕ) (start : MayF
         by true is =
             inr (told_heard old new (part_by old new commit_of_job reply x) (goes_by old new commit_of_job reply x) start.back.track start.session (max 0 (greatest_of (reply_stamps reply))) its_aside t anchor other decides.0 anchored committed it_heard there_since is (views.Committed may_first.epoch at shown_committed.0) view_told
             (λ staged. let both : views.Committed may_first.epoch at shown_committed.0 ≡ views.Staging t.epoch other staged.0 = staged.1 in cc both))
-        by false not = told_by old new commit_of_job reply start.back x commit_aside.kind t other (λ commits. not) refl committed (inl decides)
+        by false not = told_by old new commit_of_job reply start.back x commit_aside.kind t other (λ commits. not) refl committed (decided_still before_known t other decides)
 
     -- so the rest of the job begins
     pub job_begins : (m : Resolving) → IsMachineOf job m → ((k : Known) → MayFinish k m.id m.anchor m.fate m.locks → ResolveKnows k k m) → IsJobUnderWay old job m new (greatest_of (reply_stamps reply))
@@ -426,7 +428,7 @@ commit_lost old job at start staged new lost =
     let before = known_of old.log.part.own in
     let is = commit_aside old job at start staged in
     let aside = lost_aside old new request lost start.session before 0 (aside_none start.session before) is in
-    let told : KeepsTold before (known_of new.log.part.own) = λ t anchor other anchored committed decides. by-name t other committed decides (same_txn job.meta.id t.id) refl in
+    let told : KeepsTold before (known_of new.log.part.own) = λ t anchor other anchored committed decides. by-name t anchor other anchored committed decides (same_txn job.meta.id t.id) refl in
     record {
       session = start.session;
       whose = start.whose;
@@ -437,7 +439,7 @@ commit_lost old job at start staged new lost =
       quiet = λ quiet. absurd (never_quiet old new request lost quiet);
     }
   where
-    by-name : (t : Txn) (other : ℕ) → t.committed ≡ Some other → StillDecides (known_of old.log.part.own) t other → (b : Bool) → same_txn job.meta.id t.id ≡ b → StaysDecided (known_of new.log.part.own) t other
-    by-name t other committed decides true is = ?
-    by-name t other committed decides false not =
-        lost_told old new (requests.Commit job.meta at job.locks) lost (commit_aside old job at start staged).kind t other (λ commits. not) committed (inl decides)
+    by-name : (t : Txn) (anchor : List ℕ) (other : ℕ) → t.anchor ≡ Some anchor → t.committed ≡ Some other → StillDecides (known_of old.log.part.own) t other → (b : Bool) → same_txn job.meta.id t.id ≡ b → StaysDecided (known_of new.log.part.own) t other
+    by-name t anchor other anchored committed decides true is = lost_committed old new job at lost start.back.track (may_first old job at start staged) t anchor other anchored committed decides (same_txn-is job.meta.id t.id is)
+    by-name t anchor other anchored committed decides false not =
+        lost_told old new (requests.Commit job.meta at job.locks) lost (commit_aside old job at start staged).kind t other (λ commits. not) committed (decided_still (known_of old.log.part.own) t other decides)

@@ -42,6 +42,9 @@ module _ {C : Type 0} (old new : DeskMeaning C) (out : HasOneOut old) where
         };
       }
 
+  pub lost_by : (taken : Option ℕ) (number : ℕ) → IfSome taken (HasTakenLost old new) → taken ≡ Some number → WasLostLast old new
+  lost_by taken number if_some is = lost_last number (subst (λ o. IfSome o (HasTakenLost old new)) is if_some)
+
   -- one of both is so
   pub never_none : HasNoneLostFirst old → old.replies ≡ [] → ⊥
   never_none none empty =

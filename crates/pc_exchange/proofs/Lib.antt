@@ -5,6 +5,7 @@ pub mod Aside
 pub mod Beaten
 pub mod Behind
 pub mod Called
+pub mod CommitsLost
 pub mod Coordinator
 pub mod Ending
 pub mod EvaluatedSince
@@ -30,6 +31,7 @@ pub mod PastEpochs
 pub mod Places
 pub mod Pushed
 pub mod Recovering
+pub mod RecoveryLost
 pub mod Rounding
 pub mod Rounds
 pub mod RowsDecide

@@ -402,6 +402,22 @@ module _ {C : Type 0} (d : DeskMeaning C) (own : TxnId) (holder : TxnMeta) (met 
   ask_now (progresses.Missing key) request come e = let is : recover_of r (findings.Missing key r.by) ≡ request = cc in subst MayAskNow is (recover_now (findings.Missing key r.by) come)
   ask_now (progresses.Over view) request come e = absurd (over_none (is_final_view view) view request e)
 
+  -- what its machine has due is asked for beside the coordinator, behind the push
+  pub recovering_aside : (request : Request) → recovering_next r ≡ machine.Send request → IsAside number first_known request
+  recovering_aside request due = (ask_now r.progress request f.come due).aside
+
+  pub recovering_behind : (request : Request) → recovering_next r ≡ machine.Send request → IsBehindPushOf holder.id request
+  recovering_behind request due = (ask_now r.progress request f.come due).behind
+
+  -- and no timestamp was heard yet
+  none_yet : (p : Progress) (request : Request) → recovering_due p r ≡ machine.Send request → last_recovered p ≡ 0
+  none_yet (progresses.Found n) request e = refl
+  none_yet (progresses.Missing key) request e = refl
+  none_yet (progresses.Over view) request e = absurd (over_none (is_final_view view) view request e)
+
+  pub recovering_none : (request : Request) → recovering_next r ≡ machine.Send request → last_recovered r.progress ≡ 0
+  recovering_none request due = none_yet r.progress request due
+
   -- what its machine gives may be exchanged
   pub recovering_asks : (given : MachineNext) (request : Request) → given ≡ recovering_next r → given ≡ machine.Send request
       → ((splits : List (List ℕ)) (actor : ActorId) (start k : Known) → RecoverKnows actor start k r → RecoveringMayCome splits actor start k r given) → MayExchangeNow now request

@@ -6,6 +6,7 @@ use Rattle.pc_base.specs.declared.actor.ActorId.TheVariants as actors
 use Rattle.pc_base.specs.declared.transaction.TxnId.{TxnId}
 use Rattle.pc_base.specs.declared.transaction.Who.TheVariants as whos
 use Rattle.pc_base.specs.Timestamp.{greatest}
+use Rattle.pc_coord.specs.declared.job.Job.{Job}
 use Rattle.pc_coord.specs.declared.pusher.Pusher.{Pusher}
 use Rattle.pc_coord.specs.declared.round.Round.{Round}
 use Rattle.pc_coord.specs.declared.round.Round.TheVariants as rounds
@@ -27,6 +28,7 @@ use Rattle.pc_exchange.proofs.Rounding.{IsMade, IsOfConflict, at_finished, at_re
 use Rattle.pc_exchange.proofs.SameRange.{more_is_heard, went_on}
 use Rattle.pc_exchange.proofs.Silent.{asks_commits_none, asks_unqueried}
 use Rattle.pc_exchange.proofs.Timely.{IsTimely, IsTurnIn, may_exchange}
+use Rattle.pc_exchange.proofs.Told.{decided_still}
 use Rattle.pc_exchange.proofs.Unmet.{resolve_unmet}
 use Rattle.pc_exchange.specs.Aside.{IsAside, IsLaterAside}
 use Rattle.pc_exchange.specs.Exchange.{HasLostAll, MayExchangeNow, WasExchanged}
@@ -34,7 +36,8 @@ use Rattle.pc_exchange.specs.Growing.{HasGoneBeside}
 use Rattle.pc_exchange.specs.InTurn.{IsNextRoundIn}
 use Rattle.pc_exchange.specs.Recovering.{MayDecideNow}
 use Rattle.pc_exchange.specs.Rounding.{HasComeTo, IsRoundUnderWay, LeavesFateSince, WasPushedOnceFor, pushes_sent}
-use Rattle.pc_exchange.specs.Rounds.{HasMadeRoundOf, IsRoundMade, MayMakeRound}
+use Rattle.pc_exchange.specs.Jobs.{IsFinishable}
+use Rattle.pc_exchange.specs.Rounds.{HasMadeRoundOf, IsRoundMade, IsSparedBy, MayMakeRound}
 use Rattle.pc_exchange.specs.Told.{KeepsTold}
 use Rattle.pc_follows.specs.CallMessages.{IsOfRound}
 use Rattle.pc_history.specs.declared.pair.Pair.{Pair}
@@ -116,7 +119,7 @@ module _ {C : Type 0} (old : DeskMeaning C) (pusher : Pusher) (reading : ℕ) (c
         part = [];
         goes = goes_none old start.back;
         aside = aside_none start.session k;
-        told = λ t anchor at anchored committed decides. inl decides;
+        told = λ t anchor at anchored committed decides. decided_still k t at decides;
         jobs = refl;
         knows = knows (actors.Session start.session) k (may_push start.session k old.log.pipelining start.number conflict reader met pusher reading start.pushes start.read m holder
             (ap (λ (m : Pushing). m.by) made) (ap (λ (m : Pushing). m.level) made) (ap (λ (m : Pushing). m.reading) made) (ap (λ (m : Pushing). m.goal) made));
@@ -134,11 +137,11 @@ recovers_round id request is = absurd is
 -- a round is made, however it ended
 pub round_made : {C : Type 0} (old : DeskMeaning C) (pusher : Pusher) (reading : ℕ) (conflict : Reply) (reader : Option ℕ) (start : MayMakeRound old pusher reading conflict reader) (new : DeskMeaning C) (part : List (Pair Event)) → HasGoneBeside old new part
     → (round : Round) (ts : ℕ) → EndsRound true conflict round (known_of old.log.part.own) (known_of new.log.part.own) → IsLaterAside start.session (known_of old.log.part.own) (known_of new.log.part.own) ts
-    → KeepsTold (known_of old.log.part.own) (known_of new.log.part.own) → IsRoundMade start.session (known_of old.log.part.own) (known_of new.log.part.own) conflict round ts
-round_made old pusher reading conflict reader start new part goes round ts ends aside told = record {
+    → ((job : Job) → IsFinishable (known_of old.log.part.own) job → IsSparedBy conflict round job → IsFinishable (known_of new.log.part.own) job) → IsRoundMade start.session (known_of old.log.part.own) (known_of new.log.part.own) conflict round ts
+round_made old pusher reading conflict reader start new part goes round ts ends aside left = record {
   ends = ends;
   aside = aside;
-  left = left_still start.session (known_of old.log.part.own) (known_of new.log.part.own) ts aside told (own_named new.log goes.back.track.log);
+  left = left;
   beside = λ c number reader same knows next.
       goes_on_beside start.session (known_of old.log.part.own) (known_of new.log.part.own) ts aside c same (counted_met true c (known_of old.log.part.own) number conflict reader knows next) true
       (λ is. absurd (let e : true ≡ false = is in cc e)) (λ is. went_on start.session (known_of old.log.part.own) new ts aside goes.back.track.log (knows.course.one_range refl));
@@ -306,7 +309,7 @@ module _ {C : Type 0} (old : DeskMeaning C) (pusher : Pusher) (reading : ℕ) (c
     whose = r.start.whose;
     part = r.part;
     goes = r.goes;
-    made = round_made old pusher reading conflict reader r.start d r.part r.goes round ts ends r.aside r.told;
+    made = round_made old pusher reading conflict reader r.start d r.part r.goes round ts ends r.aside (λ job left spared. left_still r.start.session start_known now_known ts r.aside r.told (own_named d.log r.goes.back.track.log) job left);
     quiet = λ quiet. record {
       ends = quiet_ends;
       begun = r.begun quiet ∙ ap (λ n. rounds_begun start_known + n) one;
@@ -348,7 +351,8 @@ module _ {C : Type 0} (old : DeskMeaning C) (pusher : Pusher) (reading : ℕ) (c
         part = r.part ++ lost.some.lost;
         goes = goes;
         made = round_made old pusher reading conflict reader r.start new (r.part ++ lost.some.lost) goes (rounds.Lost new.log.tries) ts
-            (ends_lost conflict m start_known (known_of new.log.part.own) new.log.tries (of_conflict conflict m r.start.met.holder r.start.met.ts r.start.met.key r.start.met.is r.holder r.key) was) aside told;
+            (ends_lost conflict m start_known (known_of new.log.part.own) new.log.tries (of_conflict conflict m r.start.met.holder r.start.met.ts r.start.met.key r.start.met.is r.holder r.key) was) aside
+            (λ job left spared. left_still r.start.session start_known (known_of new.log.part.own) ts aside told (own_named new.log goes.back.track.log) job left);
         quiet = λ quiet. absurd (never_quiet d new request lost (quiet_now quiet));
         jobs = lost_jobs d new request lost r.start.met.s (r.aside.statement ∙ r.start.met.opened) ∙ r.jobs;
       }

@@ -1,6 +1,6 @@
 -- A transaction that was told committed, and that its session may commit by what it knows itself, stays so over a message that neither asks for its
 -- writes nor commits it.
-use Rattle.std.proofs.Common.{◌≡◌, ◌≢◌, ℕ, true, false, IsTrue, List, [], ◌∷◌, ◌++◌, Some, inl, inr, refl, sym, ap, ◌∙◌}
+use Rattle.std.proofs.Common.{◌≡◌, ◌≢◌, ℕ, true, false, IsTrue, List, [], ◌∷◌, ◌++◌, Some, inl, inr, refl, sym, ap, ◌∙◌, subst}
 use Rattle.std.proofs.lemmas.Bool.{and_from, eq-eqb}
 use Rattle.std.proofs.lemmas.List.Elements.{All-push, All-weaker, Contains-append_left}
 use Rattle.std.specs.Option.{option_map_or}
@@ -11,7 +11,9 @@ use Rattle.pc_exchange.proofs.Learned.{with_exchange, with_sent}
 use Rattle.pc_exchange.specs.Aside.{IsOfRoundOrJob}
 use Rattle.pc_exchange.specs.Told.{StaysDecided, StillDecides}
 use Rattle.pc_lists.proofs.Anywhere.{any_kept, any_weaker}
+use Rattle.pc_lists.proofs.Lists.{contains_map}
 use Rattle.pc_proto.specs.declared.fate.Fate.TheVariants as fates
+use Rattle.pc_proto.specs.declared.meta.TxnMeta.{TxnMeta}
 use Rattle.pc_proto.specs.declared.reply.Reply.{Reply}
 use Rattle.pc_proto.specs.declared.request.Request.{Request}
 use Rattle.pc_proto.specs.declared.request.Request.TheVariants as requests
@@ -26,7 +28,7 @@ use Rattle.pc_txn.specs.Standing.{is_query_of}
 use Rattle.pc_world.specs.Known.{Known}
 use Rattle.pc_world.specs.Known.Reads.{AtOnce, Further, IsGoodAt, IsGoodTo, Read, WasRefreshed}
 use Rattle.pc_world.specs.Known.Traffic.{Heard, Sent}
-use Rattle.pc_world.specs.Known.Transactions.{Txn}
+use Rattle.pc_world.specs.Known.Transactions.{Txn, txn_sent}
 use Rattle.pc_world.specs.Send.Settling.{MaySendResolve, ShowsFate}
 use Rattle.pc_world.specs.StageFate.{IsLate, OnCommit, OnStage, Refuses, SentCommit, SentStage, WasCommitRefused}
 use Rattle.pc_world.specs.Views.{WasCommitted, shows_committed}
@@ -97,10 +99,25 @@ module _ (number range step : ℕ) (request : Request) (reply : Reply) (k : Know
         },
       )
 
-  -- or it was heard to be committed
-  pub stays_on : StaysDecided k t ts → StaysDecided later t ts
-  stays_on (inl d) = inl (decides_on d)
-  stays_on (inr shown) = inr (any_kept (ShowsFate t.id (fates.Committed t.epoch ts)) k.heard (it_heard ∷ []) shown)
+-- or it was heard to be committed
+pub stays_on : (number range step : ℕ) (request : Request) (reply : Reply) (k : Known) → IsOfRoundOrJob k request → (t : Txn) (ts : ℕ) → (is_commit request ≡ true → is_about t.id request ≡ false) → is_query_of t.id request ≡ false → t.committed ≡ Some ts
+    → StaysDecided k t ts → StaysDecided (with_exchange number range step request reply k) t ts
+stays_on number range step request reply k kind t ts other unqueried committed (inl d) =
+    let id : d.u.id ≡ t.id = ap (λ (x : Txn). x.id) d.same in
+    inl (record {
+      u = d.u;
+      same = d.same;
+      decides =
+          decides_on number range step request reply k kind d.u ts (λ is. subst (λ i. is_about i request ≡ false) (sym id) (other is)) (subst (λ i. is_query_of i request ≡ false) (sym id) unqueried)
+          (ap (λ (x : Txn). x.committed) d.same ∙ committed) d.decides;
+    })
+stays_on number range step request reply k kind t ts other unqueried committed (inr shown) =
+    let h : Heard = record { number = number; request = request; reply = reply; step = step } in
+    inr (any_kept (ShowsFate t.id (fates.Committed t.epoch ts)) k.heard (h ∷ []) shown)
+
+-- it is so where it may be committed as it is
+pub decided_still : (k : Known) (t : Txn) (ts : ℕ) → StillDecides k t ts → StaysDecided k t ts
+decided_still k t ts decides = inl (record { u = t; same = refl; decides = decides })
 
 -- also where the message was sent, and nothing was heard of it
 module _ (number range : ℕ) (request : Request) (k : Known) (kind : IsOfRoundOrJob k request) (t : Txn) (ts : ℕ) (other : is_commit request ≡ true → is_about t.id request ≡ false) (committed : t.committed ≡ Some ts) where
@@ -125,6 +142,40 @@ module _ (number range : ℕ) (request : Request) (k : Known) (kind : IsOfRoundO
         },
       )
 
-  pub stays_sent : StaysDecided k t ts → StaysDecided once_sent t ts
-  stays_sent (inl d) = inl (decides_sent d)
-  stays_sent (inr shown) = inr shown
+pub stays_sent : (number range : ℕ) (request : Request) (k : Known) → IsOfRoundOrJob k request → (t : Txn) (ts : ℕ) → (is_commit request ≡ true → is_about t.id request ≡ false) → t.committed ≡ Some ts
+    → StaysDecided k t ts → StaysDecided (with_sent number range request k) t ts
+stays_sent number range request k kind t ts other committed (inl d) =
+    let id : d.u.id ≡ t.id = ap (λ (x : Txn). x.id) d.same in
+    inl (record {
+      u = d.u;
+      same = d.same;
+      decides = decides_sent number range request k kind d.u ts (λ is. subst (λ i. is_about i request ≡ false) (sym id) (other is)) (ap (λ (x : Txn). x.committed) d.same ∙ committed) d.decides;
+    })
+stays_sent number range request k kind t ts other committed (inr shown) = inr shown
+
+-- or where it was its own commit, at this timestamp
+module _ (number range : ℕ) (meta : TxnMeta) (locks : List (List ℕ)) (k : Known) (t : Txn) (ts : ℕ) (committed : t.committed ≡ Some ts) where
+  abbrev its_commit : Request
+  its_commit = requests.Commit meta ts locks
+
+  abbrev commit_sent : Sent
+  commit_sent = record { number = number; range = range; request = its_commit }
+
+  decides_committing : (u : Txn) → u.committed ≡ Some ts → StillDecides k u ts → StillDecides (with_sent number range its_commit k) (txn_sent its_commit u) ts
+  decides_committing u told d =
+      let S : SentStage → Type 0 = λ s. s.ts ≢ ts → IsLate k.heard s in
+      let R : SentCommit → Type 0 = λ c. c.ts ≢ ts → WasCommitRefused k.heard c in (
+        contains_map (txn_sent its_commit) k.txns u d.0,
+        record {
+          may = inr told;
+          at_write_ts = d.1.at_write_ts;
+          good = record { begun = d.1.good.begun; reads = d.1.good.reads };
+          proved = d.1.proved;
+          stages = All-push (λ (m : Sent). OnStage u.id S m.request) k.sent commit_sent d.1.stages tt;
+          commits = All-push (λ (m : Sent). OnCommit u.id R m.request) k.sent commit_sent d.1.commits (λ same differs. absurd (differs refl));
+        },
+      )
+
+  pub stays_committing : StaysDecided k t ts → StaysDecided (with_sent number range its_commit k) t ts
+  stays_committing (inl d) = inl (record { u = txn_sent its_commit d.u; same = d.same; decides = decides_committing d.u (ap (λ (x : Txn). x.committed) d.same ∙ committed) d.decides })
+  stays_committing (inr shown) = inr shown

@@ -20,6 +20,7 @@ use Rattle.pc_follows.specs.Rounds.{rounds_begun}
 use Rattle.pc_history.specs.declared.pair.Pair.{Pair}
 use Rattle.pc_proto.specs.declared.event.Event.{Event}
 use Rattle.pc_proto.specs.declared.fate.Finding.{Finding}
+use Rattle.pc_proto.specs.declared.machine.MachineNext.TheVariants as machines
 use Rattle.pc_proto.specs.declared.meta.TxnMeta.{TxnMeta}
 use Rattle.pc_proto.specs.declared.reply.Reply.{Reply}
 use Rattle.pc_proto.specs.declared.reply.Reply.TheVariants as replies
@@ -32,7 +33,7 @@ use Rattle.pc_push.specs.declared.progress.Progress.TheVariants as pushes
 use Rattle.pc_push.specs.Pushing.{Pushing}
 use Rattle.pc_recover.specs.declared.progress.Progress.{Progress}
 use Rattle.pc_recover.specs.declared.progress.Progress.TheVariants as progresses
-use Rattle.pc_recover.specs.Recovering.{Recovering, query_of, recover_of}
+use Rattle.pc_recover.specs.Recovering.{Recovering, query_of, recover_of, recovering_next}
 use Rattle.pc_recover.specs.RecoverKnows.{RecoverKnows}
 use Rattle.pc_world.specs.Exchange.{IsLater, IsPossibleReply, WasAnswered}
 use Rattle.pc_world.specs.Known.{Known, known_of}
@@ -130,4 +131,5 @@ pub record HasLostInRound {C : Type 0} (d : DeskMeaning C) (own : TxnId) (holder
   pub before : DeskMeaning C
   pub recovers : RecoversForRound d own holder met start r before
   pub request : Request
+  pub due : recovering_next r ≡ machines.Send request
   pub lost : HasLostAll before new request

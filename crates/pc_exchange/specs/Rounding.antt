@@ -8,7 +8,6 @@ use Rattle.pc_desk.specs.Desk.{DeskMeaning}
 use Rattle.pc_desk.specs.Keeping.{LosesNothing}
 use Rattle.pc_desk.specs.OwnLog.{verdict_of}
 use Rattle.pc_exchange.specs.Aside.{IsLaterAside}
-use Rattle.pc_exchange.specs.Exchange.{HasLostAll}
 use Rattle.pc_exchange.specs.Growing.{HasGoneBeside}
 use Rattle.pc_exchange.specs.Rounds.{MayMakeRound}
 use Rattle.pc_exchange.specs.Told.{KeepsTold}
@@ -87,14 +86,3 @@ pub record IsRoundUnderWay {C : Type 0} (old : DeskMeaning C) (pusher : Pusher) 
   pub key : m.key ≡ start.met.key
   pub aims : m.goal ≡ goal_for start.met.h.request
   pub begun : LosesNothing (verdict_of old.log) → rounds_begun (known_of new.log.part.own) ≡ rounds_begun (known_of old.log.part.own) + pushes_sent m.progress
-
--- The round of this conflict is over: it was under way, and then one of its requests was lost as often as it may be sent.
-pub record HasLostRound {C : Type 0} (old : DeskMeaning C) (pusher : Pusher) (reading : ℕ) (conflict : Reply) (reader : Option ℕ) (new : DeskMeaning C) (ts : ℕ) : Type 0 where
-  pub before : DeskMeaning C
-  pub m : Pushing
-  pub under : IsRoundUnderWay old pusher reading conflict reader m before ts
-  pub request : Request
-  pub since : DeskMeaning C
-  pub part : List (Pair Event)
-  pub goes : HasGoneBeside before since part
-  pub lost : HasLostAll since new request

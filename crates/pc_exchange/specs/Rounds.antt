@@ -1,5 +1,5 @@
 -- The round of a conflict that the open call met: the holder of the intent is pushed, and the intent settled as the push came out.
-use Rattle.std.specs.Prelude.{◌≡◌, ℕ, ◌+◌, Bool, true, false, All, IsTrue, Option, Some, List}
+use Rattle.std.specs.Prelude.{◌≡◌, ℕ, ◌+◌, Bool, true, false, All, IsTrue, Option, Some, List, ⊤}
 use Rattle.pc_base.specs.declared.actor.ActorId.TheVariants as actors
 use Rattle.pc_call.specs.Sending.{IsConflictNow}
 use Rattle.pc_coord.specs.Coordination.{Coordination, next_of}
@@ -7,6 +7,7 @@ use Rattle.pc_coord.specs.declared.job.Job.{Job}
 use Rattle.pc_coord.specs.declared.next.Next.TheVariants as nexts
 use Rattle.pc_coord.specs.declared.pusher.Pusher.{Pusher}
 use Rattle.pc_coord.specs.declared.round.Round.{Round}
+use Rattle.pc_coord.specs.declared.round.Round.TheVariants as rounds
 use Rattle.pc_coord.specs.Knows.{Knows}
 use Rattle.pc_coord.specs.Pusher.{IsPusherOf}
 use Rattle.pc_coord.specs.Rounds.{EndsRound}
@@ -20,6 +21,7 @@ use Rattle.pc_exchange.specs.Jobs.{IsFinishable}
 use Rattle.pc_history.specs.declared.pair.Pair.{Pair}
 use Rattle.pc_proto.specs.declared.event.Event.{Event}
 use Rattle.pc_proto.specs.declared.reply.Reply.{Reply}
+use Rattle.pc_proto.specs.declared.reply.Reply.TheVariants as replies
 use Rattle.pc_follows.specs.EarlyTell.{IsCommitDecided}
 use Rattle.pc_follows.specs.FinishingJobs.{jobs_of}
 use Rattle.pc_follows.specs.Heartbeats.{HasBeaten}
@@ -59,12 +61,18 @@ pub record MayMakeRound {C : Type 0} (d : DeskMeaning C) (pusher : Pusher) (read
   pub goes : LosesNothing (verdict_of d.log) → MayGoInCall d.log.pipelining (known_of d.log.part.own)
   pub beaten : LosesNothing (verdict_of d.log) → HasBeaten (known_of d.log.part.own) met.t
 
+-- The job is of another transaction than the holder whose round was lost: of that one a listed write may have been found missing, since its record was
+-- committed by another, and nothing says so.
+abbrev pub IsSparedBy : Reply → Round → Job → Type 0
+IsSparedBy (replies.Conflict holder ts key) (rounds.Lost faults) job = job.meta.id ≡ holder.id → ⊥
+IsSparedBy conflict round job = ⊤
+
 -- Since then the session has made the round of this conflict, which ended so, and done nothing else. This is the greatest timestamp that it heard in it. What
--- its jobs may do they may do still.
+-- its jobs may do they may do still, but for that of a holder whose round was lost.
 pub record IsRoundMade (session : ℕ) (start k : Known) (conflict : Reply) (round : Round) (ts : ℕ) : Type 0 where
   pub ends : EndsRound true conflict round start k
   pub aside : IsLaterAside session start k ts
-  pub left : (job : Job) → IsFinishable start job → IsFinishable k job
+  pub left : (job : Job) → IsFinishable start job → IsSparedBy conflict round job → IsFinishable k job
   pub beside :
       (c : Coordination) (number : ℕ) (reader : Option ℕ) → c.session ≡ session → Knows true c start → next_of c ≡ nexts.Conflict number conflict reader
       → MayGoOnBeside true c start k ts

@@ -78,15 +78,13 @@ fn begin_job<N: Named<CommitWorld>, C: Clock, V: Wire, G: Gate, R: Wait>(
     ensures err { IfErr result (HasHalted desk.old desk.new) }
     ensures ended { IfErr result (BreaksOff (All IsInBetween) desk.old desk.new) }
 {
-    match job.staged {
-        None => Ok((Timestamp::ZERO, true)),
-        Some(ts) => {
-            let Some(reply) = commit_first(desk, rt, job, ts)? else {
-                return Ok((Timestamp::ZERO, false));
-            };
-            Ok((reply.last_stamp(), is_committed(&reply)))
-        }
-    }
+    let Some(ts) = job.staged else {
+        return Ok((Timestamp::ZERO, true));
+    };
+    let Some(reply) = commit_first(desk, rt, job, ts)? else {
+        return Ok((Timestamp::ZERO, false));
+    };
+    Ok((reply.last_stamp(), is_committed(&reply)))
 }
 
 /// Sends the commit of the job's transaction at this timestamp. Gives its reply; None once its tries are used up.

@@ -73,9 +73,12 @@ pub fn hear_one<N: Named<CommitWorld>, C: Clock, V: Wire, G: Gate>(
     ensures err { IfErr result (HasHalted desk.old desk.new) }
     ensures ended { IfErr result (EndsOnly (λ made. (number : ℕ) × (step : ℕ) × (made ≡ events.Hear number step)) desk.old desk.new) }
 {
-    if desk.take_lost().is_some() {
+    if let Some(_number) = desk.take_lost() {
         return Ok(None);
     }
     let heard = desk.hear()?;
-    Ok(heard.map(|answered| answered.reply))
+    match heard {
+        Some(answered) => Ok(Some(answered.reply)),
+        None => unreachable!(),
+    }
 }

@@ -5,7 +5,7 @@ ghost use Rattle.pc_desk.specs.Desk.{DeskMeaning, HasHalted};
 ghost use Rattle.pc_exchange.specs.Ending.{BreaksOff};
 ghost use Rattle.pc_exchange.specs.Exchange.{HasLostAll, MayExchangeNow};
 ghost use Rattle.pc_exchange.specs.Recovering.{MayDecideNow};
-ghost use Rattle.pc_exchange.specs.Rounding.{HasLostRound, IsRoundUnderWay};
+ghost use Rattle.pc_exchange.specs.Rounding.{IsRoundUnderWay};
 ghost use Rattle.pc_exchange.specs.Rounds.{HasMadeRoundOf, MayMakeRound};
 ghost use Rattle.pc_proto.specs.declared.reply.Reply.{Reply};
 ghost use Rattle.pc_push.specs.PushKnows.{Asks};
@@ -122,7 +122,7 @@ fn decide<N: Named<CommitWorld>, C: Clock, V: Wire, G: Gate, R: Wait>(
 ) -> Result<Option<Timestamp>, Halt>
     requires { MayDecideNow desk.old own machine.old met }
     ensures ok { (old : DeskMeaning C) (pusher : Pusher) (reading : ℕ) (conflict : Reply) (reader : Option ℕ) (ts : ℕ) → IsRoundUnderWay old pusher reading conflict reader machine.old desk.old ts → pusher.id ≡ own → IfOk result (λ last. IfSome last (λ stamp. IsRoundUnderWay old pusher reading conflict reader machine.new desk.new (max ts stamp))) }
-    ensures lost { (old : DeskMeaning C) (pusher : Pusher) (reading : ℕ) (conflict : Reply) (reader : Option ℕ) (ts : ℕ) → IsRoundUnderWay old pusher reading conflict reader machine.old desk.old ts → pusher.id ≡ own → IfOk result (λ last. IfNone last (HasLostRound old pusher reading conflict reader desk.new ts)) }
+    ensures lost { (old : DeskMeaning C) (pusher : Pusher) (reading : ℕ) (conflict : Reply) (reader : Option ℕ) (ts : ℕ) → IsRoundUnderWay old pusher reading conflict reader machine.old desk.old ts → pusher.id ≡ own → IfOk result (λ last. IfNone last (HasMadeRoundOf old desk.new conflict (rounds.Lost desk.new.log.tries) ts)) }
     ensures clock { desk.new.log.clock ≡ desk.old.log.clock }
     ensures err { IfErr result (HasHalted desk.old desk.new) }
     ensures ended { IfErr result (BreaksOff (All IsInBetween) desk.old desk.new) }

@@ -2,7 +2,7 @@ use Rattle.std.proofs.Common.{◌≡◌, ℕ, ◌∙◌}
 use Rattle.std.proofs.lemmas.Result.{err_from_is_err_and}
 use Rattle.pc_desk.proofs.InCall.{one_in_call}
 use Rattle.pc_exchange.proofs.Ending.{only_breaks, sends_within}
-use Rattle.pc_exchange.proofs.Exchanging.{back_then, ends_delivered, ends_due, ends_sent, heard_once, lost_once, may_hear_it, one_out}
+use Rattle.pc_exchange.proofs.Exchanging.{back_then, ends_delivered, ends_due, ends_sent, halted_since, heard_once, lost_once, may_hear_it, one_out, same_then}
 use Rattle.pc_proto.specs.declared.event.Event.TheVariants as events
 use Rattle.pc_exchange.proofs.message.exchange_once.Goals as goal
 
@@ -55,3 +55,11 @@ returns-in_err-deliver_due-clause-ended g c =
     let p = err_from_is_err_and c.from_residual-in_err-deliver_due.result c.from_residual-in_err-deliver_due.ensures.1 in
     rw (p.1, p.2)
     (ends_due c.args.desk.now c.send.new.self c.args.request _ c.in_ok-send.ensures.ok c.deliver.new.self c.hear_one.new.desk c.deliver_due.new.self c.in_ok-reply.reply c.in_err-deliver_due.field-0.0 c.in_ok-deliver.ensures.ok c.in_ok-reply.ensures.heard c.in_ok-reply.ensures.lost c.in_err-deliver_due.ensures.ended)
+
+pub returns-in_err-deliver_due-clause-err : goal.returns-in_err-deliver_due-clause-err
+returns-in_err-deliver_due-clause-err g c =
+    let p = err_from_is_err_and c.from_residual-in_err-deliver_due.result c.from_residual-in_err-deliver_due.ensures.1 in
+    rw (p.1, p.2)
+    (halted_since c.args.desk.now c.hear_one.new.desk c.deliver_due.new.self c.in_err-deliver_due.field-0.0
+    (same_then c.args.desk.now c.send.new.self c.deliver.new.self c.args.request _ c.requires c.in_ok-send.ensures.ok c.in_ok-deliver.ensures.ok c.in_ok-deliver.ensures.all c.hear_one.new.desk c.hear_one.new.desk c.in_ok-reply.reply c.in_ok-reply.ensures.heard c.in_ok-reply.ensures.lost)
+    c.in_err-deliver_due.ensures.err)

@@ -1,11 +1,14 @@
-use Rattle.std.proofs.Common.{rules, ◌≡◌, max, refl, sym, subst, ◌∙◌}
+use Rattle.std.proofs.Common.{rules, ◌≡◌, max, IfNone, IfSome, refl, sym, subst, ◌∙◌}
 use Rattle.std.proofs.lemmas.Result.{err_from_is_err_and}
 use Rattle.pc_exchange.proofs.Ending.{goes_breaks}
 use Rattle.pc_exchange.proofs.Rounding.{sends_asks}
-use Rattle.pc_exchange.proofs.Rounds.{reader_below, round_asks, round_begins, round_refused, round_settled, round_unsure}
+use Rattle.pc_coord.specs.declared.round.Round.TheVariants as rounds
+use Rattle.pc_exchange.proofs.Rounds.{reader_below, round_asks, round_begins, round_lost, round_refused, round_settled, round_unsure}
+use Rattle.pc_exchange.specs.Exchange.{HasLostAll}
 use Rattle.pc_exchange.specs.Rounding.{IsRoundUnderWay}
+use Rattle.pc_exchange.specs.Rounds.{HasMadeRoundOf}
 use Rattle.pc_exchange.proofs.round.make_round.Goals as goal
-use Rattle.pc_exchange.proofs.round.make_round.Goals.{in-Send+in_ok-last-in-Send, in-Settled+in_ok-last-in-Settled}
+use Rattle.pc_exchange.proofs.round.make_round.Goals.{in-Send+in_ok-last-in-Send+in-Some, in-Settled+in_ok-last-in-Settled+in-Some-in-Settled}
 
 pub new-machine-requires-clause-reader : goal.new-machine-requires-clause-reader
 new-machine-requires-clause-reader g c = reader_below c.args.desk.now c.args.pusher c.args.reading c.args.conflict c.args.reader c.requires
@@ -16,22 +19,37 @@ loop-init g c =
 
 pub loop-preserved : goal.loop-preserved
 loop-preserved g c = elim c.match-next-2.branch [
-  | in-Send+in_ok-last-in-Send w ↦
-      let last : w.max-heard.result ≡ max c.loop.heard w.in_ok-last-in-Send.last = search rules in
+  | in-Send+in_ok-last-in-Send+in-Some w ↦
+      let last : w.max-heard.result ≡ max c.loop.heard w.in-Some.last = search rules in
+      let on = subst (λ o. IfSome o (λ stamp. IsRoundUnderWay c.args.desk.now c.args.pusher c.args.reading c.args.conflict c.args.reader w.push_on.new.machine w.push_on.new.desk (max c.loop.heard stamp))) w.in-Some.is
+      (w.in_ok-last-in-Send.ensures.ok c.args.desk.now c.args.pusher c.args.reading c.args.conflict c.args.reader c.loop.heard c.loop.invariant.0
+      (sends_asks c.loop.machine.progress c.loop.machine w.in-Send.request (sym c.in-Ok.ensures.due ∙ w.in-Send.is))) in
       rw (w.desk-is, w.machine-is, w.heard-is) (
-        subst (λ n. IsRoundUnderWay c.args.desk.now c.args.pusher c.args.reading c.args.conflict c.args.reader w.push_on.new.machine w.push_on.new.desk n) (sym last)
-            (w.in_ok-last-in-Send.ensures.ok c.args.desk.now c.args.pusher c.args.reading c.args.conflict c.args.reader c.loop.heard c.loop.invariant.0
-            (sends_asks c.loop.machine.progress c.loop.machine w.in-Send.request (sym c.in-Ok.ensures.due ∙ w.in-Send.is))),
+        subst (λ n. IsRoundUnderWay c.args.desk.now c.args.pusher c.args.reading c.args.conflict c.args.reader w.push_on.new.machine w.push_on.new.desk n) (sym last) on,
         w.in_ok-last-in-Send.ensures.clock ∙ c.loop.invariant.1,
       )
-  | in-Settled+in_ok-last-in-Settled w ↦
-      let last : w.max-heard-in-Settled.result ≡ max c.loop.heard w.in_ok-last-in-Settled.last = search rules in
+  | in-Settled+in_ok-last-in-Settled+in-Some-in-Settled w ↦
+      let last : w.max-heard-in-Settled.result ≡ max c.loop.heard w.in-Some-in-Settled.last = search rules in
+      let on = subst (λ o. IfSome o (λ stamp. IsRoundUnderWay c.args.desk.now c.args.pusher c.args.reading c.args.conflict c.args.reader w.decide.new.machine w.decide.new.desk (max c.loop.heard stamp))) w.in-Some-in-Settled.is
+      (w.in_ok-last-in-Settled.ensures.ok c.args.desk.now c.args.pusher c.args.reading c.args.conflict c.args.reader c.loop.heard c.loop.invariant.0 refl) in
       rw (w.desk-is, w.machine-is, w.heard-is) (
-        subst (λ n. IsRoundUnderWay c.args.desk.now c.args.pusher c.args.reading c.args.conflict c.args.reader w.decide.new.machine w.decide.new.desk n) (sym last)
-            (w.in_ok-last-in-Settled.ensures.ok c.args.desk.now c.args.pusher c.args.reading c.args.conflict c.args.reader c.loop.heard c.loop.invariant.0 refl),
+        subst (λ n. IsRoundUnderWay c.args.desk.now c.args.pusher c.args.reading c.args.conflict c.args.reader w.decide.new.machine w.decide.new.desk n) (sym last) on,
         w.in_ok-last-in-Settled.ensures.clock ∙ c.loop.invariant.1,
       )
 ]
+
+pub returns-in_default-clause-ok : goal.returns-in_default-clause-ok
+returns-in_default-clause-ok g c =
+    subst (λ round. HasMadeRoundOf c.args.desk.now c.push_on.new.desk c.args.conflict round c.loop.heard) (sym c.lost_round.ensures)
+    (round_lost c.args.desk.now c.args.pusher c.args.reading c.args.conflict c.args.reader c.loop.machine c.loop.desk c.loop.heard c.loop.invariant.0 c.in-Send.request c.push_on.new.desk
+    (sends_asks c.loop.machine.progress c.loop.machine c.in-Send.request (sym c.in-Ok.ensures.due ∙ c.in-Send.is))
+    (subst (λ o. IfNone o (HasLostAll c.loop.desk c.push_on.new.desk c.in-Send.request)) c.in_default.is c.in_ok-last-in-Send.ensures.lost))
+
+pub returns-in_default-in-Settled-clause-ok : goal.returns-in_default-in-Settled-clause-ok
+returns-in_default-in-Settled-clause-ok g c =
+    subst (λ round. HasMadeRoundOf c.args.desk.now c.decide.new.desk c.args.conflict round c.loop.heard) (sym c.lost_round-in-Settled.ensures)
+    (subst (λ o. IfNone o (HasMadeRoundOf c.args.desk.now c.decide.new.desk c.args.conflict (rounds.Lost c.decide.new.desk.log.tries) c.loop.heard)) c.in_default-in-Settled.is
+    (c.in_ok-last-in-Settled.ensures.lost c.args.desk.now c.args.pusher c.args.reading c.args.conflict c.args.reader c.loop.heard c.loop.invariant.0 refl))
 
 pub push_on-requires : goal.push_on-requires
 push_on-requires g c =
