@@ -34,3 +34,5 @@ pub mod Delivering
 pub mod RefusedErrands
 pub mod AskedLost
 pub mod Copies
+pub mod Finishing
+pub mod SetOut
