@@ -36,3 +36,4 @@ pub mod AskedLost
 pub mod Copies
 pub mod Finishing
 pub mod SetOut
+pub mod Holding
