@@ -3,7 +3,7 @@ use Rattle.pc_desk.proofs.Holding.{bag_held, bag_same, desk_held}
 use Rattle.pc_desk.specs.Desk.{IsReadyLate, late_as, straying, with_late}
 use Rattle.pc_desk.specs.OwnLog.{verdict_of}
 use Rattle.pc_desk.specs.Wave.{posted_of}
-use Rattle.pc_desk.proofs.evaluating.Desk.hold.Goals as goal
+use Rattle.pc_desk.proofs.desk.Desk.hold.Goals as goal
 
 pub invariant_of-self : goal.invariant_of-self
 invariant_of-self g c =
