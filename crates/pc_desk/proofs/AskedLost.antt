@@ -78,7 +78,7 @@ behind_is number (a ∷ replies) is = grind (arith, nat_tests)
 
 pub not_behind : (number : ℕ) (replies : List Answered) → is_behind_first number replies ≡ false → BehindFirst number replies → ⊥
 not_behind number [] is behind = behind
-not_behind number (a ∷ replies) is behind = absurd (let low : a.number < number = behind in let yes : nat_lt a.number number ≡ true = grind (arith, nat_tests) in let no : true ≡ false = sym yes ∙ is in cc no)
+not_behind number (a ∷ replies) is behind = absurd (let low : a.number < number = behind in let yes : nat_lt a.number number ≡ true = grind (arith, nat_tests) in let clash : true ≡ false = sym yes ∙ is in cc clash)
 
 first-same : (a b : ℕ) (xs ys : List ℕ) → a ∷ xs ≡ b ∷ ys → a ≡ b
 first-same a b xs ys same = cc same

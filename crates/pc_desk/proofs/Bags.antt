@@ -68,7 +68,7 @@ insert_over {X} f k v P es all one = All-from_recursion P (map f (insert_entry n
     each (e ∷ xs) h = by (nat_cmp k e.0) refl (each xs h.1)
       where
         same : nat_cmp k e.0 ≡ Equal → k ≡ e.0
-        same is = by_ranked (k < e.0) (k ≡ e.0) (e.0 < k) (nat_cmp k e.0) (ranked k e.0 _ refl) (λ r l. absurd (let no : Less ≡ Equal = sym r ∙ is in cc no)) (λ r l. l) (λ r l. absurd (let no : Greater ≡ Equal = sym r ∙ is in cc no))
+        same is = by_ranked (k < e.0) (k ≡ e.0) (e.0 < k) (nat_cmp k e.0) (ranked k e.0 _ refl) (λ r l. absurd (let clash : Less ≡ Equal = sym r ∙ is in cc clash)) (λ r l. l) (λ r l. absurd (let clash : Greater ≡ Equal = sym r ∙ is in cc clash))
 
         by : (r : Ordering) → nat_cmp k e.0 ≡ r → Each P (map f (insert_entry nat_cmp xs k v)) → Each P (map f (match_ordering r ((k, v) ∷ e ∷ xs) ((e.0, v) ∷ xs) (e ∷ insert_entry nat_cmp xs k v)))
         by Less is on = (one, h)

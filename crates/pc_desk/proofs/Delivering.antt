@@ -231,7 +231,7 @@ may_then {C} {N} {G} old mid errand out =
 
 -- one fewer waits
 pub one_fewer : (m : Posted) (before rest after : List Posted) → before ≡ m ∷ rest → after ≡ rest → length before ≡ length after + 1
-one_fewer m before rest after first same = let f : length before ≡ length rest + 1 = ap length first in let a : length after ≡ length rest = ap length same in omega arith
+one_fewer m before rest after first same = omega (arith, ap length first, ap length same)
 
 -- the note that is given is the newest then
 pub newest_after : {M E C : Type 0} (r : Result M E) (known : M → List (KnownEntry Event)) (old mid new : DeskMeaning C) (last : List (KnownEntry Event)) → mid.replies ≡ old.replies → OnOk r (new.log.part.own ≡ old.log.part.own)

@@ -37,3 +37,6 @@ pub mod Delivering
 pub mod RefusedErrands
 pub mod AskedLost
 pub mod Copies
+pub mod Finishing
+pub mod SetOut
+pub mod Holding

@@ -1,7 +1,7 @@
 use Rattle.std.proofs.Common.{refl, sym, ap, subst, ◌∙◌}
 use Rattle.pc_desk.proofs.RefusedErrands.{halted_back}
 use Rattle.pc_desk.specs.Evaluating.{EndsAtFault, IsFullFault, told_copy}
-use Rattle.pc_desk.proofs.evaluating.Desk.refused.Goals as goal
+use Rattle.pc_desk.proofs.desk.Desk.refused.Goals as goal
 
 pub returns-in-Full-clause-halted : goal.returns-in-Full-clause-halted
 returns-in-Full-clause-halted g c =

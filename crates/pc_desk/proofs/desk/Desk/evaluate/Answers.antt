@@ -3,7 +3,7 @@ use Rattle.std.proofs.lemmas.Result.{on_ok_weaker}
 use Rattle.pc_desk.proofs.Copies.{after_reply, has_evaluated, may_be_kept, replies_later}
 use Rattle.pc_desk.proofs.RefusedErrands.{full_fault, refused_at, refused_memory}
 use Rattle.pc_desk.specs.Errand.{MayBeKept}
-use Rattle.pc_desk.proofs.evaluating.Desk.evaluate.Goals as goal
+use Rattle.pc_desk.proofs.desk.Desk.evaluate.Goals as goal
 
 pub serve-requires-clause-there : goal.serve-requires-clause-there
 serve-requires-clause-there g c = subst (λ s. c.args.errand.message.range ≤ length s) (sym (c.self.invariant.0.same ∙ ap (λ d. d.log.head.splits) c.self.view_is)) c.requires.may.there

@@ -7,7 +7,7 @@ use Rattle.pc_desk.proofs.RefusedErrands.{ends_refused}
 use Rattle.pc_desk.specs.Waiting.{IsNewest}
 use Rattle.pc_desk.specs.Wave.{posted_of}
 use Rattle.pc_proto.specs.declared.event.Event.{Event}
-use Rattle.pc_desk.proofs.evaluating.Desk.deliver_first.Goals as goal
+use Rattle.pc_desk.proofs.desk.Desk.deliver_first.Goals as goal
 
 pub evaluate-requires-clause-may : goal.evaluate-requires-clause-may
 evaluate-requires-clause-may g c = (may_then c.args.self.now c.set_out_first.new.self c.in-Some.errand c.in-Some.ensures.some).0

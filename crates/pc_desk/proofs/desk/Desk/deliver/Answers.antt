@@ -5,7 +5,7 @@ use Rattle.pc_desk.proofs.Ending.{ended_later}
 use Rattle.pc_desk.specs.Desk.{HasDelivered}
 use Rattle.pc_desk.specs.Ending.{PostsInCall}
 use Rattle.pc_desk.specs.Waiting.{IsNewest}
-use Rattle.pc_desk.proofs.evaluating.Desk.deliver.Goals as goal
+use Rattle.pc_desk.proofs.desk.Desk.deliver.Goals as goal
 
 pub loop-self-init : goal.loop-self-init
 loop-self-init g c =

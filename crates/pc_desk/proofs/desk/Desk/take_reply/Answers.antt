@@ -1,6 +1,6 @@
 use Rattle.std.proofs.Common.{ap, subst, sym, ◌∙◌}
 use Rattle.pc_desk.proofs.Copies.{may_be_kept_then, taken_reply}
-use Rattle.pc_desk.proofs.evaluating.Desk.take_reply.Goals as goal
+use Rattle.pc_desk.proofs.desk.Desk.take_reply.Goals as goal
 
 pub keep_copy-requires : goal.keep_copy-requires
 keep_copy-requires g c =

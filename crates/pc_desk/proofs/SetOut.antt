@@ -1,0 +1,74 @@
+-- The first of the messages that wait is set out as its verdict has it, or passed over.
+use Rattle.std.proofs.Common.{◌≡◌, ℕ, Bool, true, cond, List, [], ◌∷◌, ◌++◌, refl, sym, ap, subst, ◌∙◌}
+use Rattle.pc_desk.proofs.Errands.{errand_may}
+use Rattle.pc_desk.specs.declared.errand.Errand.{Errand}
+use Rattle.pc_desk.specs.Desk.{DeskMeaning, HasTakenFirst, IsReadyToGo, Posted, waiting_as}
+use Rattle.pc_desk.specs.Errand.{HasPassedFirst, HasSetOutFirst, IsErrandOf, held_by, is_not_now, lost_by}
+use Rattle.pc_desk.specs.OwnLog.{verdict_of}
+use Rattle.pc_desk.specs.Wave.{posted_of}
+use Rattle.pc_history.specs.declared.named.Named.{Ghosts}
+use Rattle.pc_range.specs.declared.commit_world.CommitWorld.{CommitWorld}
+use Rattle.pc_range.specs.declared.message.Message.{Message}
+use Rattle.pc_wire.specs.declared.outbox.Stray.{Stray}
+use Rattle.pc_wire.specs.declared.verdict.Verdict.{Verdict}
+use Rattle.pc_wire.specs.declared.verdict.Verdict.TheVariants as verdicts
+use Rattle.pc_wire.specs.Verdicts.{is_losing}
+
+-- what is evaluated now is not put into the bag
+errand-not-held : {N : Type 0} {G : Ghosts N CommitWorld} (v : Verdict) (message : Message N G) (errand : Errand N G) (m : Posted) (bag : List (ℕ × Stray Posted)) → IsErrandOf v message errand → held_by v m bag ≡ bag
+errand-not-held verdicts.Deliver message errand m bag is = refl
+errand-not-held verdicts.LoseRequest message errand m bag is = refl
+errand-not-held verdicts.LoseReply message errand m bag is = refl
+errand-not-held (verdicts.Repeat sends) message errand m bag is = refl
+errand-not-held (verdicts.Hold sends) message errand m bag is = absurd is
+
+-- what is not evaluated now is lost
+not-now-loses : (v : Verdict) → is_not_now v ≡ true → is_losing v ≡ true
+not-now-loses verdicts.Deliver now = absurd cc
+not-now-loses verdicts.LoseRequest now = refl
+not-now-loses verdicts.LoseReply now = absurd cc
+not-now-loses (verdicts.Repeat sends) now = absurd cc
+not-now-loses (verdicts.Hold sends) now = refl
+
+module _ {C N : Type 0} {G : Ghosts N CommitWorld} (old mid noted new : DeskMeaning C) (verdict : Verdict) (message : Message N G) (taken : HasTakenFirst old mid (posted_of message))
+    (ready : IsReadyToGo old.log.part.id old.log.head.splits (verdict_of old.log) (waiting_as message.number message.sender verdict (posted_of message)))
+    (lost : noted ≡ record mid { lost = lost_by verdict message.number mid.lost }) (held : new ≡ record noted { bag = held_by verdict (posted_of message) noted.bag }) where
+  new-is : new ≡ record old { posted = mid.posted; lost = lost_by verdict message.number old.lost; bag = held_by verdict (posted_of message) old.bag }
+  new-is =
+      held
+      ∙ (ap (λ (d : DeskMeaning C). record d { bag = held_by verdict (posted_of message) d.bag }) lost
+      ∙ ap (λ (d : DeskMeaning C). record d { lost = lost_by verdict message.number d.lost; bag = held_by verdict (posted_of message) d.bag }) taken.rest)
+
+  posted-is : new.posted ≡ mid.posted
+  posted-is = ap (λ (d : DeskMeaning C). d.posted) new-is
+
+  taken-now : HasTakenFirst old (record old { posted = new.posted }) (posted_of message)
+  taken-now = subst (λ (ps : List Posted). HasTakenFirst old (record old { posted = ps }) (posted_of message)) (sym posted-is) (subst (λ (d : DeskMeaning C). HasTakenFirst old d (posted_of message)) taken.rest taken)
+
+  pub has_set_out : (errand : Errand N G) → IsErrandOf verdict message errand → HasSetOutFirst old new errand
+  has_set_out errand is =
+      let may = errand_may old verdict message errand ready is in
+      record {
+        message = message;
+        taken = taken-now;
+        errand_of = subst (λ (v : Verdict). IsErrandOf v message errand) ready.ruled is;
+        may = may.0;
+        copy = may.1;
+        rest =
+            new-is
+            ∙ (ap (λ (b : List (ℕ × Stray Posted)). record old { posted = mid.posted; lost = lost_by verdict message.number old.lost; bag = b }) (errand-not-held verdict message errand (posted_of message) old.bag is)
+            ∙ (ap (λ (ps : List Posted). record old { posted = ps; lost = lost_by verdict message.number old.lost }) (sym posted-is)
+            ∙ ap (λ (v : Verdict). record old { posted = new.posted; lost = lost_by v message.number old.lost }) ready.ruled));
+      }
+
+  pub has_passed : is_not_now verdict ≡ true → HasPassedFirst old new
+  has_passed now = record {
+    first = posted_of message;
+    taken = taken-now;
+    now = ap is_not_now (sym ready.ruled) ∙ now;
+    rest =
+        new-is
+        ∙ (ap (λ (b : Bool). record old { posted = mid.posted; lost = cond b (old.lost ++ message.number ∷ []) old.lost; bag = held_by verdict (posted_of message) old.bag }) (not-now-loses verdict now)
+        ∙ (ap (λ (ps : List Posted). record old { posted = ps; lost = old.lost ++ message.number ∷ []; bag = held_by verdict (posted_of message) old.bag }) (sym posted-is)
+        ∙ ap (λ (v : Verdict). record old { posted = new.posted; lost = old.lost ++ message.number ∷ []; bag = held_by v (posted_of message) old.bag }) ready.ruled));
+  }
