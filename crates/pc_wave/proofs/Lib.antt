@@ -1,6 +1,8 @@
 -- Why a wave goes on standing.
 pub mod Awaiting
+pub mod Behind
 pub mod Changed
+pub mod Cursors
 pub mod Dues
 pub mod ForCall
 pub mod Hearing

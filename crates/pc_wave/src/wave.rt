@@ -2,6 +2,7 @@ ghost use Rattle.std.specs.Prelude.{◌≡◌, ℕ, ◌≤◌, ◌<◌, true, fa
 ghost use Rattle.std.specs.Option.{option_copied};
 ghost use Rattle.std.specs.List.{list_all, list_any, remove};
 ghost use Rattle.pc_wave.specs.Messages.{awaits_at, back_with, conflicts_at, first_changed, first_in_conflict, goes_again, has_answer, is_in_conflict, is_pending, is_to_send, lost_of, message_again, message_on_way, message_to_send, no_try_left, step_of, step_without, wave_awaits, sent_under};
+ghost use Rattle.pc_wave.specs.Cursors.{HasNoneBefore, cursor_without, lacks_answer};
 ghost use Rattle.pc_wave.specs.declared.step.Step.TheVariants as steps;
 ghost use Rattle.pc_wave.specs.Due.{MadeRound, MayBeDue};
 ghost use Rattle.pc_wave.specs.Course.{Course};
@@ -25,6 +26,10 @@ use std::marker::Model;
 #[derive(Drop)]
 pub struct Wave {
     messages: Vec<Message>,
+    /// No message before this place is to be sent.
+    out: usize,
+    /// Each message before this place has its answer.
+    answered: usize,
 }
 
 impl Model for Wave {
@@ -33,7 +38,11 @@ impl Model for Wave {
 
     ghost Value = { List Message };
 
+    ghost use Rattle.pc_wave.specs.Cursors.{AreCursors};
+
     ghost view = { λ wave. wave.messages.items };
+
+    ghost invariant = { λ wave. AreCursors wave.messages.items wave.out wave.answered };
 }
 
 impl Wave {
@@ -44,6 +53,8 @@ impl Wave {
     {
         Wave {
             messages: Vec::new(alloc),
+            out: 0,
+            answered: 0,
         }
     }
 
@@ -85,6 +96,8 @@ impl Wave {
         ensures stands { (c : Course) (k : Known) → WaveStands c k self.old → WaveStands c k self.new }
     {
         self.messages.remove(place);
+        self.out = cursor_without(place, self.out);
+        self.answered = cursor_without(place, self.answered);
     }
 
     /// The messages, in order.
@@ -109,9 +122,9 @@ impl Wave {
     fn step_without(&self) -> Result<Step, NoMemory>
         ensures { IfOk result (λ step. step ≡ step_without (find is_to_send self.now) (list_all has_answer self.now)) }
     {
-        match self.to_send() {
+        match find_to_send(self.unsent()) {
             Some(message) => Ok(Step::Send(message.request.copy()?)),
-            None if self.has_answer() => Ok(Step::Answered),
+            None if have_answers(self.unanswered()) => Ok(Step::Answered),
             None => Ok(Step::Deliver),
         }
     }
@@ -129,9 +142,9 @@ impl Wave {
     fn state_without(&self) -> WaveState
         ensures { result ≡ state_by (step_without (find is_to_send self.now) (list_all has_answer self.now)) }
     {
-        match self.to_send() {
+        match find_to_send(self.unsent()) {
             Some(_) => WaveState::UnderWay,
-            None if self.has_answer() => WaveState::Answered,
+            None if have_answers(self.unanswered()) => WaveState::Answered,
             None => WaveState::UnderWay,
         }
     }
@@ -139,45 +152,35 @@ impl Wave {
     fn first_in_conflict(&self) -> Option<&Message>
         ensures { option_copied result ≡ first_in_conflict self.now }
     {
-        if self.is_pending() {
+        let messages = self.unanswered();
+        if is_any_pending(messages) {
             return None;
         }
-        self.in_conflict()
+        find_in_conflict(messages)
     }
 
-    fn is_pending(&self) -> bool
-        ensures { result ≡ list_any is_pending self.now }
+    /// The messages from the one on before which none is to be sent.
+    fn unsent(&self) -> &[Message]
+        ensures { find is_to_send result.now ≡ find is_to_send self.now }
     {
-        self.messages.iter().any(|message| message.is_pending())
+        &self.messages[self.out..]
     }
 
-    fn has_answer(&self) -> bool
-        ensures { result ≡ list_all has_answer self.now }
+    /// The messages from the one on before which each has its answer.
+    fn unanswered(&self) -> &[Message]
+        ensures pending { list_any is_pending result.now ≡ list_any is_pending self.now }
+        ensures conflict { find is_in_conflict result.now ≡ find is_in_conflict self.now }
+        ensures answer { list_all has_answer result.now ≡ list_all has_answer self.now }
+        ensures awaits { (number : ℕ) → list_any (awaits_at number) result.now ≡ wave_awaits number self.now }
     {
-        self.messages.iter().all(|message| message.has_answer())
-    }
-
-    fn in_conflict(&self) -> Option<&Message>
-        ensures { option_copied result ≡ find is_in_conflict self.now }
-    {
-        self.messages
-            .iter()
-            .find(|message| message.is_in_conflict())
-    }
-
-    fn to_send(&self) -> Option<&Message>
-        ensures { option_copied result ≡ find is_to_send self.now }
-    {
-        self.messages.iter().find(|message| message.is_to_send())
+        &self.messages[self.answered..]
     }
 
     /// Whether the reply to the message of this number is waited for.
     pub fn waits_for(&self, number: u64) -> bool
         ensures { result ≡ wave_awaits number self.now }
     {
-        self.messages
-            .iter()
-            .any(|message| message.awaits_at(number))
+        is_any_awaited(self.unanswered(), number)
     }
 
     /// The first message that is to be sent went out under this number.
@@ -188,15 +191,15 @@ impl Wave {
     {
         if let Some(place) = self.place_to_send() {
             self.messages[place].go_out(number);
+            self.out = place + 1;
         }
     }
 
     fn place_to_send(&self) -> Option<usize>
         ensures { result ≡ position is_to_send self.now }
     {
-        self.messages
-            .iter()
-            .position(|message| message.is_to_send())
+        let place = first_to_send(&self.messages[self.out..])?;
+        Some(self.out + place)
     }
 
     /// This was replied to the message of this number.
@@ -207,15 +210,25 @@ impl Wave {
     {
         if let Some(place) = self.place_awaited(number) {
             self.messages[place].hear(number, reply);
+            self.answered = self.first_unanswered();
         }
     }
 
     fn place_awaited(&self, number: u64) -> Option<usize>
         ensures { result ≡ position (awaits_at number) self.now }
     {
-        self.messages
-            .iter()
-            .position(|message| message.awaits_at(number))
+        let place = first_awaited(&self.messages[self.answered..], number)?;
+        Some(self.answered + place)
+    }
+
+    /// The place of the first message that has no answer, or behind the last one.
+    fn first_unanswered(&self) -> usize
+        ensures { HasNoneBefore lacks_answer result self.now }
+    {
+        match first_without_answer(&self.messages[self.answered..]) {
+            Some(place) => self.answered + place,
+            None => self.messages.len(),
+        }
     }
 
     /// Nothing is heard of the message of this number: it is to be sent again, until its tries are used up.
@@ -226,6 +239,7 @@ impl Wave {
     {
         if let Some(place) = self.place_awaited(number) {
             self.messages[place].lose(tries);
+            self.out = self.out.min(place);
         }
     }
 
@@ -253,14 +267,79 @@ impl Wave {
     {
         if let Some(place) = self.place_in_conflict(number) {
             self.messages[place].go_again();
+            self.out = self.out.min(place);
         }
     }
 
     fn place_in_conflict(&self, number: u64) -> Option<usize>
         ensures { result ≡ position (conflicts_at number) self.now }
     {
-        self.messages
-            .iter()
-            .position(|message| message.conflicts_at(number))
+        let place = first_conflict_at(&self.messages[self.answered..], number)?;
+        Some(self.answered + place)
     }
+}
+
+fn is_any_pending(messages: &[Message]) -> bool
+    ensures { result ≡ list_any is_pending messages.now }
+{
+    messages.iter().any(|message| message.is_pending())
+}
+
+fn is_any_awaited(messages: &[Message], number: u64) -> bool
+    ensures { result ≡ wave_awaits number messages.now }
+{
+    messages.iter().any(|message| message.awaits_at(number))
+}
+
+fn have_answers(messages: &[Message]) -> bool
+    ensures { result ≡ list_all has_answer messages.now }
+{
+    messages.iter().all(|message| message.has_answer())
+}
+
+fn find_in_conflict(messages: &[Message]) -> Option<&Message>
+    ensures { option_copied result ≡ find is_in_conflict messages.now }
+{
+    messages.iter().find(|message| message.is_in_conflict())
+}
+
+fn find_to_send(messages: &[Message]) -> Option<&Message>
+    ensures { option_copied result ≡ find is_to_send messages.now }
+{
+    messages.iter().find(|message| message.is_to_send())
+}
+
+fn first_to_send(messages: &[Message]) -> Option<usize>
+    ensures { result ≡ position is_to_send messages.now }
+{
+    messages.iter().position(|message| message.is_to_send())
+}
+
+fn first_without_answer(messages: &[Message]) -> Option<usize>
+    ensures { result ≡ position lacks_answer messages.now }
+{
+    messages.iter().position(|message| !message.has_answer())
+}
+
+fn first_awaited(messages: &[Message], number: u64) -> Option<usize>
+    ensures { result ≡ position (awaits_at number) messages.now }
+{
+    messages
+        .iter()
+        .position(|message| message.awaits_at(number))
+}
+
+fn first_conflict_at(messages: &[Message], number: u64) -> Option<usize>
+    ensures { result ≡ position (conflicts_at number) messages.now }
+{
+    messages
+        .iter()
+        .position(|message| message.conflicts_at(number))
+}
+
+/// Where a cursor stands, once the message at this place left.
+fn cursor_without(place: usize, cursor: usize) -> usize
+    ensures { result ≡ cursor_without place cursor }
+{
+    if place < cursor { cursor - 1 } else { cursor }
 }

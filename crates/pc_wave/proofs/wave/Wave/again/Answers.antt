@@ -1,9 +1,10 @@
-use Rattle.std.proofs.Common.{sym, subst, ap, ◌∙◌}
+use Rattle.std.proofs.Common.{position, rules, sym, subst, ap, ◌∙◌}
 use Rattle.pc_wave.proofs.Awaiting.{again_awaits}
 use Rattle.pc_wave.proofs.Places.{set_found, set_none}
 use Rattle.pc_wave.proofs.Rounds.{wave_again}
 use Rattle.pc_wave.specs.Messages.{conflicts_at, goes_again, wave_awaits}
 use Rattle.pc_wave.specs.Standing.{WaveStands}
+use Rattle.pc_wave.proofs.Cursors.{cursors_again}
 use Rattle.pc_wave.proofs.wave.Wave.again.Goals as goal
 
 pub returns-in-Some-clause-made : goal.returns-in-Some-clause-made
@@ -27,3 +28,8 @@ returns-in-Some-clause-awaited c conflict other due = ap (wave_awaits other) (re
 
 pub returns-in_default-clause-awaited : goal.returns-in_default-clause-awaited
 returns-in_default-clause-awaited c conflict other due = ap (wave_awaits other) (returns-in_default-clause-made c) ∙ again_awaits c.args.number other conflict c.args.self.now due
+
+pub invariant_of-self : goal.invariant_of-self
+invariant_of-self c =
+    cursors_again c.self.inside.messages.items c.self.inside.out c.self.inside.answered c.self.invariant c.in-Some.place c.go_again.new.self c.index_mut.result.now c.args.number c.min-self-inside.result
+    (ap (position (conflicts_at c.args.number)) c.self.view_is ∙ sym c.place_in_conflict.ensures ∙ c.in-Some.is) (search rules) (search rules)

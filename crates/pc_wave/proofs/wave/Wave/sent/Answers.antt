@@ -1,9 +1,10 @@
-use Rattle.std.proofs.Common.{sym, subst, ap, ◌∙◌}
+use Rattle.std.proofs.Common.{position, sym, subst, ap, ◌∙◌}
 use Rattle.pc_wave.proofs.Awaiting.{sent_awaits}
 use Rattle.pc_wave.proofs.Places.{set_found, set_none}
 use Rattle.pc_wave.proofs.Sending.{wave_sent}
 use Rattle.pc_wave.specs.Messages.{is_to_send, wave_awaits, sent_under}
 use Rattle.pc_wave.specs.Standing.{WaveStands}
+use Rattle.pc_wave.proofs.Cursors.{cursors_sent}
 use Rattle.pc_wave.proofs.wave.Wave.sent.Goals as goal
 
 pub returns-in-Some-clause-made : goal.returns-in-Some-clause-made
@@ -27,3 +28,8 @@ returns-in-Some-clause-awaited c request other due = ap (wave_awaits other) (ret
 
 pub returns-in_default-clause-awaited : goal.returns-in_default-clause-awaited
 returns-in_default-clause-awaited c request other due = ap (wave_awaits other) (returns-in_default-clause-made c) ∙ sent_awaits c.args.number other c.args.self.now request due
+
+pub invariant_of-self : goal.invariant_of-self
+invariant_of-self c =
+    cursors_sent c.self.inside.messages.items c.self.inside.out c.self.inside.answered c.self.invariant c.in-Some.place c.go_out.new.self c.index_mut.result.now c.args.number
+    (ap (position (is_to_send)) c.self.view_is ∙ sym c.place_to_send.ensures ∙ c.in-Some.is) c.go_out.ensures
