@@ -1,4 +1,3 @@
-ghost use Rattle.std.specs.List.{list_any};
 ghost use Rattle.pc_call.specs.Setting.{Setting};
 ghost use Rattle.pc_call.specs.Finished.{MayTellOver};
 ghost use Rattle.pc_call.specs.Rounding.{GoesOnBeside};
@@ -9,7 +8,7 @@ ghost use Rattle.pc_staging.specs.Kept.{is_over};
 ghost use Rattle.pc_world.specs.Known.{Known};
 ghost use Rattle.pc_world.specs.Tell.Refusal.{WasLost};
 ghost use Rattle.std.specs.Prelude.{◌≡◌, ◌≤◌, ℕ, ◌&&◌, true, false, IfOk, IfSome, None, position};
-ghost use Rattle.pc_wave.specs.Messages.{awaits_at, is_out, wave_awaits};
+ghost use Rattle.pc_wave.specs.Messages.{awaits_at, wave_awaits};
 ghost use Rattle.pc_call.specs.Unanswered.{MayGiveUpLost};
 
 use crate::call::OpenCall;
@@ -36,7 +35,7 @@ impl OpenCall {
     pub fn is_lost(&self, tries: u32) -> bool
         ensures { result ≡ is_lost_after tries self.now.wave }
     {
-        !are_any_out(self.wave.messages()) && self.wave.used_up(tries)
+        !self.wave.is_any_out() && self.wave.used_up(tries)
     }
 
     /// The tries of one of its messages are used up, and it is not known what became of its commit: its transaction is over.
@@ -66,12 +65,6 @@ impl OpenCall {
             _ => Ok(None),
         }
     }
-}
-
-fn are_any_out(messages: &[Message]) -> bool
-    ensures { result ≡ list_any is_out messages.now }
-{
-    messages.iter().any(|message| message.is_out())
 }
 
 /// The place of the message of this number, if it is a stage that is late.

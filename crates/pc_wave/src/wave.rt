@@ -1,7 +1,7 @@
 ghost use Rattle.std.specs.Prelude.{◌≡◌, ℕ, ◌≤◌, ◌<◌, true, false, ◌==◌, ◌||◌, ◌&&◌, not, ◌++◌, [], ◌∷◌, find, length, IfOk, IsTrue, OnErr, OnOk, position};
 ghost use Rattle.std.specs.Option.{option_copied};
 ghost use Rattle.std.specs.List.{list_all, list_any, remove};
-ghost use Rattle.pc_wave.specs.Messages.{awaits_at, back_with, conflicts_at, first_changed, first_in_conflict, goes_again, has_answer, is_in_conflict, is_pending, is_to_send, lost_of, message_again, message_on_way, message_to_send, no_try_left, step_of, step_without, wave_awaits, sent_under};
+ghost use Rattle.pc_wave.specs.Messages.{awaits_at, back_with, conflicts_at, first_changed, first_in_conflict, goes_again, has_answer, is_in_conflict, is_out, is_pending, is_to_send, lost_of, message_again, message_on_way, message_to_send, no_try_left, step_of, step_without, wave_awaits, sent_under};
 ghost use Rattle.pc_wave.specs.Cursors.{HasNoneBefore, cursor_without, lacks_answer};
 ghost use Rattle.pc_wave.specs.declared.step.Step.TheVariants as steps;
 ghost use Rattle.pc_wave.specs.Due.{MadeRound, MayBeDue};
@@ -172,6 +172,7 @@ impl Wave {
         ensures conflict { find is_in_conflict result.now ≡ find is_in_conflict self.now }
         ensures answer { list_all has_answer result.now ≡ list_all has_answer self.now }
         ensures awaits { (number : ℕ) → list_any (awaits_at number) result.now ≡ wave_awaits number self.now }
+        ensures out { list_any is_out result.now ≡ list_any is_out self.now }
     {
         &self.messages[self.answered..]
     }
@@ -181,6 +182,13 @@ impl Wave {
         ensures { result ≡ wave_awaits number self.now }
     {
         is_any_awaited(self.unanswered(), number)
+    }
+
+    /// Whether a reply is waited for, to whichever message.
+    pub fn is_any_out(&self) -> bool
+        ensures { result ≡ list_any is_out self.now }
+    {
+        are_any_out(self.unanswered())
     }
 
     /// The first message that is to be sent went out under this number.
@@ -283,6 +291,12 @@ fn is_any_pending(messages: &[Message]) -> bool
     ensures { result ≡ list_any is_pending messages.now }
 {
     messages.iter().any(|message| message.is_pending())
+}
+
+fn are_any_out(messages: &[Message]) -> bool
+    ensures { result ≡ list_any is_out messages.now }
+{
+    messages.iter().any(|message| message.is_out())
 }
 
 fn is_any_awaited(messages: &[Message], number: u64) -> bool
