@@ -1,5 +1,5 @@
 -- The writes of an epoch by their places.
-use Rattle.std.proofs.Common.{◌≡◌, ℕ, suc, ◌<◌, ◌==◌, ◌||◌, Bool, true, false, max, cond, fold, List, [], ◌∷◌, ◌++◌, Option, None, Some, length, map, slice_index_or, slice_set, refl, sym, ap, ◌∙◌, arith}
+use Rattle.std.proofs.Common.{◌≡◌, ℕ, suc, ◌<◌, ◌==◌, ◌||◌, Bool, true, false, max, cond, fold, List, [], ◌∷◌, ◌++◌, Option, None, Some, find, length, map, slice_get, slice_index_or, slice_set, refl, sym, ap, ◌∙◌, arith}
 use Rattle.std.proofs.lemmas.Grind.{common_steps}
 use Rattle.std.specs.List.{list_any}
 use Rattle.std.specs.Option.{option_map}
@@ -59,6 +59,24 @@ is_there seq (w ∷ ws) i h = some-by (w.seq == seq) (list_any (λ w. w.seq == s
 pub within : (seq : ℕ) (ws : List Write) (i : ℕ) → place_by_sequence seq ws ≡ Some i → i < length ws
 within seq [] i h = absurd cc
 within seq (w ∷ ws) i h = within-by (w.seq == seq) (place_by_sequence seq ws) i (length ws) h (within seq ws)
+
+found-by : (b : Bool) (w : Write) (ws : List Write) (later : Option ℕ) (found : Option Write) (i : ℕ) → first_by b later ≡ Some i → ((j : ℕ) → later ≡ Some j → slice_get ws j ≡ found) → slice_get (w ∷ ws) i ≡ cond b (Some w) found
+found-by true w ws later found i h rest = let e : 0 ≡ i = cc in ap (slice_get (w ∷ ws)) (sym e)
+found-by false w ws later found i h rest = let m = moved-some later i h in ap (slice_get (w ∷ ws)) m.2 ∙ rest m.0 m.1
+
+lost-by : (b : Bool) (w : Write) (later : Option ℕ) (found : Option Write) → first_by b later ≡ None → (later ≡ None → None ≡ found) → None ≡ cond b (Some w) found
+lost-by true w later found h rest = absurd cc
+lost-by false w later found h rest = rest (moved-none later h)
+
+-- the search by sequence finds what stands at that place
+pub found_at : (seq : ℕ) (ws : List Write) (i : ℕ) → place_by_sequence seq ws ≡ Some i → slice_get ws i ≡ find (λ w. w.seq == seq) ws
+found_at seq [] i h = absurd cc
+found_at seq (w ∷ ws) i h = found-by (w.seq == seq) w ws (place_by_sequence seq ws) (find (λ w. w.seq == seq) ws) i h (found_at seq ws)
+
+-- and nothing where there is none
+pub found_none : (seq : ℕ) (ws : List Write) → place_by_sequence seq ws ≡ None → None ≡ find (λ w. w.seq == seq) ws
+found_none seq [] h = refl
+found_none seq (w ∷ ws) h = lost-by (w.seq == seq) w (place_by_sequence seq ws) (find (λ w. w.seq == seq) ws) h (found_none seq ws)
 
 or-false : (b c : Bool) → (b || c) ≡ false → (b ≡ false) × (c ≡ false)
 or-false true c h = absurd cc

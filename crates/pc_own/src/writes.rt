@@ -1,4 +1,4 @@
-ghost use Rattle.std.specs.Prelude.{◌≡◌, ◌↔◌, ◌<◌, ◌∷◌, ◌++◌, [], All, Contains, IsTrue, None, OnErr, OnOk, Some, false, length, map, slice_index_or, slice_set};
+ghost use Rattle.std.specs.Prelude.{◌≡◌, ◌↔◌, ◌<◌, ◌==◌, ◌∷◌, ◌++◌, [], All, IsTrue, None, OnErr, OnOk, false, find, length, map, slice_get, slice_index_or, slice_set};
 ghost use Rattle.std.specs.Option.{option_copied};
 ghost use Rattle.pc_base.specs.Span.{same_key};
 ghost use Rattle.pc_known.specs.Parts.{part_span};
@@ -63,10 +63,10 @@ impl<'a> Writes<'a> {
 
     /// The write of this sequence, if there is one.
     pub fn of(&self, seq: u32) -> Option<&OwnWrite<'a>>
-        ensures { (w : Write) → option_copied result ≡ Some w → Contains self.now w }
+        ensures { option_copied result ≡ find (λ w. w.seq == seq) self.now }
     {
         match self.places.place(seq) {
-            Some(place) => self.writes.get(place),
+            Some(place) => at(self.writes.as_slice(), place),
             None => None,
         }
     }
@@ -137,6 +137,13 @@ impl<'a> Writes<'a> {
             None => Ok(()),
         }
     }
+}
+
+/// The write at a place.
+fn at<'b, 'a>(writes: &'b [OwnWrite<'a>], place: usize) -> Option<&'b OwnWrite<'a>>
+    ensures { option_copied result ≡ slice_get writes.now place }
+{
+    writes.get(place)
 }
 
 fn add<'a>(
