@@ -1,8 +1,8 @@
-ghost use Rattle.std.specs.Prelude.{◌≡◌, ◌++◌, ◌∷◌, [], Any, IsTrue, OnOk};
+ghost use Rattle.std.specs.Prelude.{◌≡◌, ◌↔◌, ◌++◌, ◌∷◌, [], Any, IsTrue, OnErr, OnOk};
 ghost use Rattle.pc_known.specs.Sends.{KeepsSends};
 ghost use Rattle.pc_own.specs.ReadSpans.{AreReadSpans};
 ghost use Rattle.pc_world.specs.Known.{Known};
-ghost use Rattle.pc_world.specs.Known.Reads.{holds_span, reads_heard};
+ghost use Rattle.pc_world.specs.Known.Reads.{reads_heard};
 ghost use Rattle.pc_world.specs.Known.Traffic.{replies_to};
 
 use crate::read::{OwnRead, part_of, read_in};
@@ -57,9 +57,9 @@ impl<'a> Reads<'a> {
         self.spans.clear();
     }
 
-    /// Whether the span is that of a read, and so holds it.
+    /// Whether the span is that of a read.
     pub fn has(&self, span: &'a Span) -> bool
-        ensures { IsTrue result → Any (λ r. IsTrue (holds_span span.now r.span)) self.now }
+        ensures { IsTrue result ↔ Any (λ r. r.span ≡ span.now) self.now }
     {
         self.spans.contains(&OrderedPart {
             part: part_of(span),
@@ -120,16 +120,18 @@ fn add_heard<'a>(
     }
 }
 
+/// Adds a read and its span. After a refusal neither is there.
 fn add_read<'a>(
     reads: &mut Vec<OwnRead<'a>>,
     spans: &mut BTreeSet<OrderedPart<'a>>,
     read: OwnRead<'a>,
 ) -> Result<(), NoMemory>
     ensures told { OnOk result (reads.new.items ≡ reads.old.items ++ read.entry ∷ []) }
+    ensures err { OnErr result (reads.new.items ≡ reads.old.items) }
     ensures spans { AreReadSpans reads.old.items spans.old → AreReadSpans reads.new.items spans.new }
 {
-    let part = read.span;
+    reads.reserve(1)?;
+    spans.insert(OrderedPart { part: read.span })?;
     reads.push(read)?;
-    spans.insert(OrderedPart { part })?;
     Ok(())
 }

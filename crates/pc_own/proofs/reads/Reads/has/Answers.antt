@@ -1,12 +1,12 @@
-use Rattle.std.proofs.Common.{◌≡◌, true, Any, IsTrue, List, sym, subst, ◌∙◌}
+use Rattle.std.proofs.Common.{◌≡◌, ◌↔◌, Any, IsTrue, List, ap, sym, subst, ◌∙◌}
 use Rattle.std.specs.BTreeSet.{contains}
 use Rattle.pc_base.specs.SpanOrder.{span_cmp}
-use Rattle.pc_own.proofs.SpansRead.{read_held}
 use Rattle.pc_own.proofs.reads.Reads.has.Goals as goal
-use Rattle.pc_world.specs.Known.Reads.{Read, holds_span}
+use Rattle.pc_world.specs.Known.Reads.{Read}
 
 pub returns : goal.returns
-returns c had =
+returns c =
     let span = c.args.span.now in
-    let at : contains span_cmp c.self.inside.spans span ≡ true = subst (λ s. contains span_cmp c.self.inside.spans s ≡ true) c.part_of.ensures (sym c.contains.ensures ∙ had) in
-    subst (λ (rs : List Read). Any (λ r. IsTrue (holds_span span r.span)) rs) c.self.view_is (read_held c.self.inside.reads.items span (c.self.invariant span at))
+    let same : c.contains.result ≡ contains span_cmp c.self.inside.spans span = c.contains.ensures ∙ ap (contains span_cmp c.self.inside.spans) c.part_of.ensures in
+    subst (λ (rs : List Read). IsTrue c.contains.result ↔ Any (λ r. r.span ≡ span) rs) c.self.view_is
+    (subst (λ b. IsTrue b ↔ Any (λ r. r.span ≡ span) c.self.inside.reads.items) (sym same) (c.self.invariant span))
