@@ -9,13 +9,13 @@ use std::collections::BTreeMap;
 
 /// The number of the first put of each write, by transaction, epoch and sequence.
 #[derive(Drop)]
-pub struct Firsts {
+pub(crate) struct Firsts {
     numbers: BTreeMap<(TxnId, u32, u32), u64>,
 }
 
 impl Firsts {
     /// No put was sent.
-    pub fn new(alloc: Global) -> Firsts
+    pub(crate) fn new(alloc: Global) -> Firsts
         ensures { AreFirstPuts [] result }
     {
         Firsts {
@@ -24,14 +24,14 @@ impl Firsts {
     }
 
     /// The number of the first put of this write.
-    pub fn of(&self, id: TxnId, epoch: u32, seq: u32) -> Option<u64>
+    pub(crate) fn of(&self, id: TxnId, epoch: u32, seq: u32) -> Option<u64>
         ensures { (sent : List Sent) → AreFirstPuts sent self.now → result ≡ first_put_of id epoch seq sent }
     {
         self.numbers.get(&(id, epoch, seq)).copied()
     }
 
     /// Takes one more entry. After a refusal nothing is known.
-    pub fn learn(&mut self, event: &Event) -> Result<(), NoMemory>
+    pub(crate) fn learn(&mut self, event: &Event) -> Result<(), NoMemory>
         ensures { (sent : List Sent) → AreFirstPuts sent self.old → OnOk result (AreFirstPuts (sent_after event.now sent) self.new) }
     {
         match event {

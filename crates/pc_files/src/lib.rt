@@ -11,8 +11,4 @@ mod uncommitted;
 
 pub use filed::Filed;
 pub use files::Files;
-pub use firsts::Firsts;
 pub use named::put_by;
-pub use refreshed::RefreshedSpans;
-pub use settled_keys::SettledKeys;
-pub use uncommitted::Uncommitted;

@@ -14,13 +14,13 @@ use std::collections::BTreeMap;
 
 /// From where to where refreshes of one span lead, each beginning where those before it have come, by transaction and span.
 #[derive(Drop)]
-pub struct RefreshedSpans<'a> {
+pub(crate) struct RefreshedSpans<'a> {
     ways: BTreeMap<(TxnId, OrderedPart<'a>), (Timestamp, Timestamp)>,
 }
 
 impl<'a> RefreshedSpans<'a> {
     /// None was refreshed.
-    pub fn new(alloc: Global) -> RefreshedSpans<'a>
+    pub(crate) fn new(alloc: Global) -> RefreshedSpans<'a>
         ensures { AreRefreshedSpans [] result }
     {
         RefreshedSpans {
@@ -29,7 +29,7 @@ impl<'a> RefreshedSpans<'a> {
     }
 
     /// Whether a read of the span that was made at `ts` is good up to `to`, by refreshes of that very span.
-    pub fn lead(&self, id: TxnId, span: Part<'a>, ts: Timestamp, to: Timestamp) -> bool
+    pub(crate) fn lead(&self, id: TxnId, span: Part<'a>, ts: Timestamp, to: Timestamp) -> bool
         ensures { (heard : List Heard) → AreRefreshedSpans heard self.now → IsTrue result → (good : ℕ) × IsGoodTo id heard (part_span span.entry) ts good × (to ≤ good) }
     {
         match self.ways.get(&(id, OrderedPart { part: span })).copied() {
@@ -39,7 +39,7 @@ impl<'a> RefreshedSpans<'a> {
     }
 
     /// Takes one more reply, if one was heard. After a refusal nothing is known.
-    pub fn learn(&mut self, heard: Option<&Hearing<'a>>) -> Result<(), NoMemory>
+    pub(crate) fn learn(&mut self, heard: Option<&Hearing<'a>>) -> Result<(), NoMemory>
         ensures { (all : List Heard) → AreRefreshedSpans all self.old → OnOk result (AreRefreshedSpans (heard_after (option_copied heard.entry) all) self.new) }
     {
         match heard {

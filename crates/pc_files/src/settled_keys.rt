@@ -13,13 +13,13 @@ use std::collections::BTreeSet;
 
 /// The keys at which intents were settled, by transaction.
 #[derive(Drop)]
-pub struct SettledKeys<'a> {
+pub(crate) struct SettledKeys<'a> {
     places: BTreeSet<(TxnId, Lock<'a>)>,
 }
 
 impl<'a> SettledKeys<'a> {
     /// None was settled.
-    pub fn new(alloc: Global) -> SettledKeys<'a>
+    pub(crate) fn new(alloc: Global) -> SettledKeys<'a>
         ensures { AreSettledKeys [] result }
     {
         SettledKeys {
@@ -28,14 +28,14 @@ impl<'a> SettledKeys<'a> {
     }
 
     /// Whether the intent at the key was settled for the transaction.
-    pub fn has(&self, id: TxnId, key: &'a Key) -> bool
+    pub(crate) fn has(&self, id: TxnId, key: &'a Key) -> bool
         ensures { (heard : List Heard) → AreSettledKeys heard self.now → result ≡ list_any (settles_key id key.now) heard }
     {
         self.places.contains(&(id, Lock { key }))
     }
 
     /// Takes one more reply, if one was heard. After a refusal nothing is known.
-    pub fn learn(&mut self, heard: Option<&Hearing<'a>>) -> Result<(), NoMemory>
+    pub(crate) fn learn(&mut self, heard: Option<&Hearing<'a>>) -> Result<(), NoMemory>
         ensures { (all : List Heard) → AreSettledKeys all self.old → OnOk result (AreSettledKeys (heard_after (option_copied heard.entry) all) self.new) }
     {
         match heard {

@@ -16,13 +16,13 @@ use std::collections::BTreeSet;
 
 /// Transactions that have put a write since every stage of theirs was dead and every commit refused, and have sent none since.
 #[derive(Drop)]
-pub struct Uncommitted {
+pub(crate) struct Uncommitted {
     ids: BTreeSet<TxnId>,
 }
 
 impl Uncommitted {
     /// None is known.
-    pub fn new(alloc: Global) -> Uncommitted
+    pub(crate) fn new(alloc: Global) -> Uncommitted
         ensures { AreUncommitted [] [] result }
     {
         Uncommitted {
@@ -31,14 +31,14 @@ impl Uncommitted {
     }
 
     /// Whether the transaction is one of them.
-    pub fn has(&self, id: TxnId) -> bool
+    pub(crate) fn has(&self, id: TxnId) -> bool
         ensures { (sent : List Sent) (heard : List Heard) → AreUncommitted sent heard self.now → IsTrue result → IsUncommitted id sent heard }
     {
         self.ids.contains(&id)
     }
 
     /// Takes one more entry, after what was filed before it. After a refusal nothing is known.
-    pub fn learn(
+    pub(crate) fn learn(
         &mut self,
         deciding: &Filed<Message<'_>>,
         replies: &Filed<Hearing<'_>>,
