@@ -1,12 +1,12 @@
-ghost use Rattle.std.specs.Prelude.{◌≡◌, ◌↔◌, ◌≤◌, ℕ, IsTrue, List, OnOk};
+ghost use Rattle.std.specs.Prelude.{◌≡◌, ◌↔◌, ℕ, IsTrue, List, OnOk};
 ghost use Rattle.std.specs.List.{list_any};
 ghost use Rattle.std.specs.Option.{option_copied};
 ghost use Rattle.pc_files.specs.Filing.{AreFiledReplies, AreFiledSends, AreFiledViews, KeepsFiles, deciding_of, replies_of, views_of};
 ghost use Rattle.pc_files.specs.FirstPuts.{first_put_of};
+ghost use Rattle.pc_files.specs.RefreshedSpans.{is_refreshed};
 ghost use Rattle.pc_files.specs.SettledKeys.{settles_key};
 ghost use Rattle.pc_world.specs.Known.{Known, known_after, nothing_known};
 ghost use Rattle.pc_known.specs.Parts.{part_span};
-ghost use Rattle.pc_world.specs.Known.Reads.{IsGoodTo};
 ghost use Rattle.pc_world.specs.Known.Traffic.{Heard, Sent, heard_after, sent_after};
 ghost use Rattle.pc_world.specs.StageFate.{IsUncommitted};
 
@@ -101,7 +101,7 @@ impl<'a> Files<'a> {
 
     /// Whether a read of the span that was made at `ts` is good up to `to`, by refreshes of that very span.
     pub fn is_refreshed(&self, id: TxnId, span: Part<'a>, ts: Timestamp, to: Timestamp) -> bool
-        ensures { (k : Known) → KeepsFiles k self.now → IsTrue result → (good : ℕ) × IsGoodTo id k.heard (part_span span.entry) ts good × (to ≤ good) }
+        ensures { (k : Known) → KeepsFiles k self.now → result ≡ is_refreshed id (part_span span.entry) ts to k.heard }
     {
         self.refreshed.lead(id, span, ts, to)
     }

@@ -1,8 +1,7 @@
-ghost use Rattle.std.specs.Prelude.{◌≡◌, ◌≤◌, [], ℕ, IsTrue, List, OnOk};
+ghost use Rattle.std.specs.Prelude.{◌≡◌, [], List, OnOk, Some};
 ghost use Rattle.std.specs.Option.{option_copied};
 ghost use Rattle.pc_known.specs.Parts.{part_span};
-ghost use Rattle.pc_files.specs.RefreshedSpans.{AreRefreshedSpans, LeadsFurther, TakesFurther, way_further};
-ghost use Rattle.pc_world.specs.Known.Reads.{IsGoodTo};
+ghost use Rattle.pc_files.specs.RefreshedSpans.{AreRefreshedSpans, LeadsFurther, TakesFurther, is_refreshed, leads_from, way_further};
 ghost use Rattle.pc_world.specs.Known.Traffic.{Heard, heard_after};
 
 use pc_base::{NoMemory, Span, Timestamp, TxnId};
@@ -30,7 +29,7 @@ impl<'a> RefreshedSpans<'a> {
 
     /// Whether a read of the span that was made at `ts` is good up to `to`, by refreshes of that very span.
     pub(crate) fn lead(&self, id: TxnId, span: Part<'a>, ts: Timestamp, to: Timestamp) -> bool
-        ensures { (heard : List Heard) → AreRefreshedSpans heard self.now → IsTrue result → (good : ℕ) × IsGoodTo id heard (part_span span.entry) ts good × (to ≤ good) }
+        ensures { (heard : List Heard) → AreRefreshedSpans heard self.now → result ≡ is_refreshed id (part_span span.entry) ts to heard }
     {
         match self.ways.get(&(id, OrderedPart { part: span })).copied() {
             Some(way) => leads(way, ts, to),
@@ -83,7 +82,7 @@ impl<'a> RefreshedSpans<'a> {
 
 /// Whether the way begins where a read was made or before, and leads as far as this.
 fn leads(way: (Timestamp, Timestamp), ts: Timestamp, to: Timestamp) -> bool
-    ensures { IsTrue result → (way.0 ≤ ts) × (to ≤ way.1) }
+    ensures { result ≡ leads_from ts to (Some way) }
 {
     way.0 <= ts && to <= way.1
 }
