@@ -1,6 +1,6 @@
 use Rattle.std.proofs.Common.{◌≡◌}
 use Rattle.pc_desk.proofs.WaveSteps.{KeptSoFar}
-use Rattle.pc_desk.proofs.beside.Desk.keep_all.Given as goal
+use Rattle.pc_desk.proofs.desk.Desk.keep_all.Given as goal
 
 abbrev pub invariant-loop-outcome : goal.invariant-loop-outcome
 invariant-loop-outcome g l = KeptSoFar l.fn.self l.self l.fn.outcomes.items l.outcome-iterator.rest.items l.fn.sequels.items l.sequels.rest.items × (l.self.log.clock ≡ l.fn.self.log.clock)

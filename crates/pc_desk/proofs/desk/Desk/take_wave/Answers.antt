@@ -2,7 +2,7 @@ use Rattle.std.proofs.Common.{[], length, sym, ap, subst, ◌∙◌}
 use Rattle.pc_desk.proofs.WaveSteps.{plain_rest, plain_still, taken_none, taken_one, taken_passed}
 use Rattle.pc_desk.specs.TakenWave.{HasTakenWave}
 use Rattle.pc_desk.specs.Waiting.{IsBehindAll}
-use Rattle.pc_desk.proofs.beside.Desk.take_wave.Goals as goal
+use Rattle.pc_desk.proofs.desk.Desk.take_wave.Goals as goal
 
 pub loop-self-init : goal.loop-self-init
 loop-self-init g c =

@@ -2,7 +2,7 @@ use Rattle.std.proofs.Common.{◌≡◌, length}
 use Rattle.pc_desk.specs.TakenWave.{HasTakenWave}
 use Rattle.pc_desk.specs.Waiting.{IsBehindAll}
 use Rattle.pc_history.specs.Parts.{with_uses}
-use Rattle.pc_desk.proofs.beside.Desk.take_wave.Given as goal
+use Rattle.pc_desk.proofs.desk.Desk.take_wave.Given as goal
 
 abbrev pub invariant-loop-self : goal.invariant-loop-self
 invariant-loop-self g l =

@@ -5,7 +5,7 @@ use Rattle.pc_desk.proofs.StraysLeft.{drops_more, drops_none, fewer_aside}
 use Rattle.pc_desk.specs.Aside.{HasDropped}
 use Rattle.pc_desk.specs.Desk.{Posted}
 use Rattle.pc_world.specs.Known.{known_of}
-use Rattle.pc_desk.proofs.strays.Desk.deliver_strays.Goals as goal
+use Rattle.pc_desk.proofs.desk.Desk.deliver_strays.Goals as goal
 
 pub loop-self-init : goal.loop-self-init
 loop-self-init g c =

@@ -9,7 +9,7 @@ use Rattle.pc_desk.specs.OwnLog.{IsOwnLog}
 use Rattle.pc_desk.specs.Wave.{IsRefusalIn, IsReply}
 use Rattle.pc_proto.specs.declared.event.Event.{Event}
 use Rattle.pc_serving.specs.Delivery.{Became}
-use Rattle.pc_desk.proofs.beside.Desk.deliver_beside.Goals as goal
+use Rattle.pc_desk.proofs.desk.Desk.deliver_beside.Goals as goal
 
 pub serve_beside-requires-clause-may : goal.serve_beside-requires-clause-may
 serve_beside-requires-clause-may g c κs within = wave_may_be_served c.args.self.now c.take_wave.new.self _ c.self.inside.ranges.now.splits c.in_ok-wave.wave.items c.in_ok-wave.sequels.items c.in_ok-wave.ensures.taken c.self.view_is c.self.invariant.0.same
