@@ -13,11 +13,6 @@ impl Text for u64 {
     ghost spelled = { Fits64 };
 
     fn print(&self, out: &mut Vec<u8>) -> Result<(), NoMemory> {
-        // Most numbers of a journal have one digit.
-        if *self < 10 {
-            out.push(b'0' + *self as u8)?;
-            return Ok(());
-        }
         let mut digits = Buffer::new();
         out.extend_from_slice(digits.format(*self).as_bytes())?;
         Ok(())

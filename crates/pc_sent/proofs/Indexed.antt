@@ -1,6 +1,6 @@
 -- An index of sends, one entry further.
 use Rattle.std.proofs.Common.{◌≡◌, ℕ, ◌<◌, Bool, true, false, ◌&&◌, ◌==◌, cond, List, [], ◌∷◌, ◌++◌, find, length, slice_get, Option, None, Some, IfSome, refl, sym, ap, subst, ◌∙◌, arith, get_or, length-append}
-use Rattle.std.proofs.lemmas.Bool.{and_parts, eqb-true}
+use Rattle.std.proofs.lemmas.Bool.{and_parts}
 use Rattle.std.proofs.lemmas.Grind.{common_steps}
 use Rattle.std.proofs.lemmas.List.Folds.{find-append}
 use Rattle.std.proofs.lemmas.Option.{slice_get-get_or}
@@ -14,9 +14,10 @@ use Rattle.pc_lists.proofs.Lists.{get_append, get_push}
 use Rattle.pc_proto.specs.declared.event.Event.{Event}
 use Rattle.pc_proto.specs.declared.event.Event.TheVariants as events
 use Rattle.pc_proto.specs.declared.request.Request.{Request}
+use Rattle.pc_sent.specs.declared.sent.MessageName.{MessageName}
 use Rattle.pc_sent.specs.declared.sent.Sent.{Sent}
 use Rattle.pc_sent.specs.Naming.{message_name}
-use Rattle.pc_sent.specs.Sending.{AreSendsOf, KeepsFirstPlace, same_name, sends_message, sent_place}
+use Rattle.pc_sent.specs.Sending.{AreSendsOf, same_name, sends_message, sent_place}
 use Rattle.pc_world.specs.Named.{is_send_of}
 
 module _ (p : Entry Event → Bool) (history : List (Entry Event)) (e : Entry Event) where
@@ -80,21 +81,29 @@ same-names (actors.Recoverer a) (actors.Range b) m n = refl
 same-names (actors.Recoverer a) (actors.Session b) m n = refl
 same-names (actors.Recoverer a) (actors.Recoverer b) m n = grind (arith, common_steps)
 
+number-same : (m n : ℕ) → (m == n) ≡ true → m ≡ n
+number-same m n h = grind arith
+
 -- The place of a message once an entry after so many others has sent it.
 abbrev kept_place : Sent → ActorId → ℕ → ℕ → ℕ
 kept_place s actor number far = unwrap_or (sent_place s actor number) far
 
 -- an entry that sends a message has its place, unless the message has one
-pub added : (history : List (Entry Event)) (e : Entry Event) (old new : Sent) (number range : ℕ) (request : Request) → e.event ≡ events.Send number range request
-    → KeepsFirstPlace (message_name e.actor number) (length history) old new → AreSendsOf history old → AreSendsOf (history ++ e ∷ []) new
-added history e old new number range request is keeps all = record {
+pub added : (history : List (Entry Event)) (e : Entry Event) (old new : Sent) (number range : ℕ) (request : Request) (name : MessageName) (place : ℕ) → e.event ≡ events.Send number range request
+    → name ≡ message_name e.actor number → place ≡ kept_place old e.actor number (length history)
+    → ((actor : ActorId) (n : ℕ) → sent_place new actor n ≡ cond (same_name name (message_name actor n)) (Some place) (sent_place old actor n))
+    → AreSendsOf history old → AreSendsOf (history ++ e ∷ []) new
+added history e old new number range request name place is named placed places all = record {
   there = λ actor n. ap (option_and_then (slice_get (history ++ e ∷ []))) (at actor n) ∙ there-by actor n (same_id actor e.actor && (number == n)) (sends-is actor n) refl;
   within = λ actor n. subst (λ o. IfSome o (λ place. place < length (history ++ e ∷ []))) (sym (at actor n)) (within-by actor n (same_id actor e.actor && (number == n)) (sends-is actor n) refl);
 }
   where
     at : (actor : ActorId) (n : ℕ) → sent_place new actor n ≡ cond (same_id actor e.actor && (number == n)) (Some (kept_place old e.actor number (length history))) (sent_place old actor n)
     at actor n =
-        keeps.at (message_name actor n) ∙ ap (λ b. cond b (Some (kept_place old e.actor number (length history))) (sent_place old actor n)) (same-names e.actor actor number n)
+        places actor n
+        ∙ (ap (λ k. cond (same_name k (message_name actor n)) (Some place) (sent_place old actor n)) named
+        ∙ (ap (λ p. cond (same_name (message_name e.actor number) (message_name actor n)) (Some p) (sent_place old actor n)) placed
+        ∙ ap (λ b. cond b (Some (kept_place old e.actor number (length history))) (sent_place old actor n)) (same-names e.actor actor number n)))
 
     sends-is : (actor : ActorId) (n : ℕ) → sends_message actor n e ≡ (same_id actor e.actor && (number == n))
     sends-is actor n = ap (λ event. same_id actor e.actor && is_send_of n event) is
@@ -102,7 +111,7 @@ added history e old new number range request is keeps all = record {
     own : (actor : ActorId) (n : ℕ) → (same_id actor e.actor && (number == n)) ≡ true → sent_place old e.actor number ≡ sent_place old actor n
     own actor n same =
         let parts = and_parts (same_id actor e.actor) (number == n) same in
-        ap (λ a. sent_place old a number) (sym (same_id-true actor e.actor parts.0)) ∙ ap (sent_place old actor) (eqb-true number n parts.1)
+        ap (λ a. sent_place old a number) (sym (same_id-true actor e.actor parts.0)) ∙ ap (sent_place old actor) (number-same number n parts.1)
 
     taken : (actor : ActorId) (n : ℕ) → (same_id actor e.actor && (number == n)) ≡ true → sends_message actor n e ≡ true
         → (slice_get (history ++ e ∷ []) (kept_place old e.actor number (length history)) ≡ find (sends_message actor n) (history ++ e ∷ [])) × (kept_place old e.actor number (length history) < length (history ++ e ∷ []))

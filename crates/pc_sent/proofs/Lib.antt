@@ -1,2 +1,1 @@
 mod Indexed
-mod Kept
