@@ -45,20 +45,21 @@ module _ {X : Type 0} (test : X → Bool) where
   none_behind n xs none found =
       grind (arith, common_steps, none_position_or_len n xs none, length_behind n xs (none_within n xs none))
 
-  -- the place behind them is the place in the list
-  pub place_behind : (n : ℕ) (xs ys : List X) (o : Option ℕ) → HasNoneBefore test n xs → xs ≡ ys → o ≡ position test (drop n xs)
+  -- where a search in the slice behind them finds one, it stands there in the list; and where it finds none, none is there
+  pub place_behind : (n : ℕ) (xs ys all : List X) (o : Option ℕ) → HasNoneBefore test n xs → xs ≡ ys → all ≡ xs → o ≡ position test (take (length all - n) (drop n all))
       → (o ≡ None → None ≡ position test ys) × ((place : ℕ) → o ≡ Some place → Some (n + place) ≡ position test ys)
-  place_behind n xs ys o none e is = (
-    λ nowhere. sym (none_behind n xs none (sym is ∙ nowhere)) ∙ ap (position test) e,
-    λ place found. sym (some_behind n place xs none (sym is ∙ found)) ∙ ap (position test) e,
-  )
+  place_behind n xs ys all o none e whole is =
+      let found : o ≡ position test (drop n xs) = is ∙ ap (position test) (from_place n all xs whole) in (
+        λ nowhere. sym (none_behind n xs none (sym found ∙ nowhere)) ∙ ap (position test) e,
+        λ place at. sym (some_behind n place xs none (sym found ∙ at)) ∙ ap (position test) e,
+      )
 
   -- the first that passes is not among them
   pub behind_first : (n place : ℕ) (xs : List X) → HasNoneBefore test n xs → position test xs ≡ Some place → n ≤ place
   behind_first n place xs none found = grind (arith, common_steps, none_position_or_len n xs none)
 
   -- none passes before the first that does
-  none_before_first : (xs : List X) → HasNoneBefore test (position_or_len test xs) xs
+  pub none_before_first : (xs : List X) → HasNoneBefore test (position_or_len test xs) xs
   none_before_first [] = tt
   none_before_first (x ∷ xs) = by (none_before_first xs) (test x) refl
     where
@@ -68,15 +69,16 @@ module _ {X : Type 0} (test : X → Bool) where
           let e : suc (position_or_len test xs) ≡ 1 + position_or_len test xs = omega arith in
           subst (λ n. HasNoneBefore test n (x ∷ xs)) e (is, later)
 
-  pub none_before : (place : ℕ) (xs : List X) → position test xs ≡ Some place → HasNoneBefore test place xs
-  none_before place xs found =
-      let at : position_or_len test xs ≡ place = grind (arith, common_steps) in
-      subst (λ n. HasNoneBefore test n xs) at (none_before_first xs)
+  -- the first that passes stands at its place
+  pub position_or_len_some : (place : ℕ) (xs : List X) → position test xs ≡ Some place → position_or_len test xs ≡ place
+  position_or_len_some place xs found = grind (arith, common_steps)
 
-  pub none_at_all : (xs : List X) → position test xs ≡ None → HasNoneBefore test (length xs) xs
-  none_at_all xs found =
-      let at : position_or_len test xs ≡ length xs = grind (arith, common_steps, none_within (position_or_len test xs) xs (none_before_first xs)) in
-      subst (λ n. HasNoneBefore test n xs) at (none_before_first xs)
+  -- or behind the last one, where none passes
+  pub position_or_len_none : (xs : List X) → position test xs ≡ None → position_or_len test xs ≡ length xs
+  position_or_len_none xs found = grind (arith, common_steps, none_within (position_or_len test xs) xs (none_before_first xs))
+
+  none_before : (place : ℕ) (xs : List X) → position test xs ≡ Some place → HasNoneBefore test place xs
+  none_before place xs found = subst (λ n. HasNoneBefore test n xs) (position_or_len_some place xs found) (none_before_first xs)
 
   -- nor before an earlier place
   none_fewer : (m n : ℕ) (xs : List X) → m ≤ n → HasNoneBefore test n xs → HasNoneBefore test m xs

@@ -1,9 +1,9 @@
--- The cursors of a wave after each change of its messages.
-use Rattle.std.proofs.Common.{◌≡◌, ℕ, ◌+◌, ◌≤◌, Bool, true, false, not, ◌||◌, ◌&&◌, nat_lt, List, [], ◌∷◌, ◌++◌, Some, position, slice_set, refl, sym, ap, ◌∙◌, subst}
-use Rattle.std.specs.List.{remove}
+-- What a search from a wave's cursor finds, and where the cursors stand after each change of the messages.
+use Rattle.std.proofs.Common.{◌≡◌, ℕ, ◌+◌, ◌-◌, ◌≤◌, Bool, true, false, not, ◌||◌, ◌&&◌, nat_lt, List, [], ◌∷◌, ◌++◌, drop, length, take, None, Option, Some, position, slice_set, refl, sym, ap, ◌∙◌, subst}
+use Rattle.std.specs.List.{position_or_len, remove}
 use Rattle.pc_proto.specs.declared.reply.Reply.{Reply}
 use Rattle.pc_proto.specs.Replies.{is_conflict}
-use Rattle.pc_wave.proofs.Behind.{behind_first, none_back, none_kept, none_next, none_other, none_push, none_removed, none_set, none_within}
+use Rattle.pc_wave.proofs.Behind.{behind_first, none_back, none_before_first, none_kept, none_next, none_other, none_push, none_removed, none_set, none_within, place_behind}
 use Rattle.pc_wave.specs.Cursors.{AreCursors, HasNoneBefore, cursor_without, lacks_answer}
 use Rattle.pc_wave.specs.declared.message.Message.{Message}
 use Rattle.pc_wave.specs.declared.message.Progress.{Progress}
@@ -86,6 +86,15 @@ module _ (messages : List Message) (out answered : ℕ) where
   }
 
 module _ (ms : List Message) (out answered : ℕ) (c : AreCursors ms out answered) where
+  -- a search from the first message on that may lack its answer finds what a search from the front would, where it looks for none that has its answer
+  pub place_unanswered : (test : Message → Bool) → ((m : Message) → lacks_answer m ≡ false → test m ≡ false) → (ys all : List Message) (o : Option ℕ) → ms ≡ ys → all ≡ ms
+      → o ≡ position test (take (length all - answered) (drop answered all)) → (o ≡ None → None ≡ position test ys) × ((place : ℕ) → o ≡ Some place → Some (answered + place) ≡ position test ys)
+  place_unanswered test fails ys all o e whole is = place_behind test answered ms ys all o (none_other lacks_answer test fails answered ms c.heard) e whole is
+
+  -- the cursor may go on to the first message that lacks its answer
+  pub cursors_answered : (next : ℕ) → next ≡ position_or_len lacks_answer ms → AreCursors ms out next
+  cursors_answered next is = cursors ms out next c.gone (subst (λ n. HasNoneBefore lacks_answer n ms) (sym is) (none_before_first lacks_answer ms))
+
   pub cursors_push : (new : List Message) (m : Message) → new ≡ ms ++ m ∷ [] → AreCursors new out answered
   cursors_push new m is =
       subst (λ ms. AreCursors ms out answered) (sym is)

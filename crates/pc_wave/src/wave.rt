@@ -1,8 +1,8 @@
 ghost use Rattle.std.specs.Prelude.{◌≡◌, ℕ, ◌≤◌, ◌<◌, true, false, ◌==◌, ◌||◌, ◌&&◌, not, ◌++◌, [], ◌∷◌, find, length, IfOk, IsTrue, OnErr, OnOk, position};
 ghost use Rattle.std.specs.Option.{option_copied};
-ghost use Rattle.std.specs.List.{list_all, list_any, remove};
+ghost use Rattle.std.specs.List.{list_all, list_any, position_or_len, remove};
 ghost use Rattle.pc_wave.specs.Messages.{awaits_at, back_with, conflicts_at, first_changed, first_in_conflict, goes_again, has_answer, is_in_conflict, is_out, is_pending, is_to_send, lost_of, message_again, message_on_way, message_to_send, no_try_left, step_of, step_without, wave_awaits, sent_under};
-ghost use Rattle.pc_wave.specs.Cursors.{HasNoneBefore, cursor_without, lacks_answer};
+ghost use Rattle.pc_wave.specs.Cursors.{cursor_without, lacks_answer};
 ghost use Rattle.pc_wave.specs.declared.step.Step.TheVariants as steps;
 ghost use Rattle.pc_wave.specs.Due.{MadeRound, MayBeDue};
 ghost use Rattle.pc_wave.specs.Course.{Course};
@@ -231,7 +231,7 @@ impl Wave {
 
     /// The place of the first message that has no answer, or behind the last one.
     fn first_unanswered(&self) -> usize
-        ensures { HasNoneBefore lacks_answer result self.now }
+        ensures { result ≡ position_or_len lacks_answer self.now }
     {
         match first_without_answer(&self.messages[self.answered..]) {
             Some(place) => self.answered + place,

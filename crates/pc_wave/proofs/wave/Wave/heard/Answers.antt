@@ -4,7 +4,7 @@ use Rattle.pc_wave.proofs.Hearing.{wave_heard}
 use Rattle.pc_wave.proofs.Places.{set_found, set_none}
 use Rattle.pc_wave.specs.Messages.{awaits_at, back_with, wave_awaits}
 use Rattle.pc_wave.specs.Standing.{WaveStands}
-use Rattle.pc_wave.proofs.Cursors.{cursors, cursors_heard}
+use Rattle.pc_wave.proofs.Cursors.{cursors_answered, cursors_heard}
 use Rattle.pc_wave.proofs.wave.Wave.heard.Goals as goal
 
 pub returns-in-Some-clause-made : goal.returns-in-Some-clause-made
@@ -40,4 +40,4 @@ invariant_of-self-in-Some c =
     let kept =
     cursors_heard c.self.inside.messages.items c.self.inside.out c.self.inside.answered c.self.invariant c.in-Some.place c.hear.new.self c.index_mut.result.now c.args.number c.args.reply
     (ap (position (awaits_at c.args.number)) c.self.view_is ∙ sym c.place_awaited.ensures ∙ c.in-Some.is) c.hear.ensures in
-    cursors _ _ _ kept.gone c.first_unanswered-self-inside.ensures
+    cursors_answered _ _ _ kept _ c.first_unanswered-self-inside.ensures

@@ -1,19 +1,13 @@
-use Rattle.std.proofs.Common.{◌≡◌, ap, drop, position, ◌∙◌}
-use Rattle.pc_wave.proofs.Behind.{from_place, none_other, place_behind}
-use Rattle.pc_wave.proofs.Cursors.{none_conflicts}
-use Rattle.pc_wave.specs.Cursors.{lacks_answer}
+use Rattle.std.proofs.Common.{◌∙◌}
+use Rattle.pc_wave.proofs.Cursors.{none_conflicts, place_unanswered}
 use Rattle.pc_wave.specs.Messages.{conflicts_at}
 use Rattle.pc_wave.proofs.wave.Wave.place_in_conflict.Goals as goal
 
 pub returns-in_err-place : goal.returns-in_err-place
 returns-in_err-place c =
-    let found : c.first_conflict_at.result ≡ position (conflicts_at c.args.number) (drop c.self.inside.answered c.self.inside.messages.items) =
-    c.first_conflict_at.ensures ∙ ap (position (conflicts_at c.args.number)) (from_place c.self.inside.answered c.deref.result.now c.self.inside.messages.items c.deref.ensures.value) in
     c.from_residual.ensures
-    ∙ (place_behind (conflicts_at c.args.number) c.self.inside.answered c.self.inside.messages.items c.args.self.now c.first_conflict_at.result (none_other lacks_answer (conflicts_at c.args.number) (none_conflicts c.args.number) c.self.inside.answered c.self.inside.messages.items c.self.invariant.heard) c.self.view_is found).0 c.in_err-place.was
+    ∙ (place_unanswered _ _ _ c.self.invariant (conflicts_at c.args.number) (none_conflicts c.args.number) _ _ _ c.self.view_is c.deref.ensures.value c.first_conflict_at.ensures).0 c.in_err-place.was
 
 pub returns : goal.returns
 returns c =
-    let found : c.first_conflict_at.result ≡ position (conflicts_at c.args.number) (drop c.self.inside.answered c.self.inside.messages.items) =
-    c.first_conflict_at.ensures ∙ ap (position (conflicts_at c.args.number)) (from_place c.self.inside.answered c.deref.result.now c.self.inside.messages.items c.deref.ensures.value) in
-    (place_behind (conflicts_at c.args.number) c.self.inside.answered c.self.inside.messages.items c.args.self.now c.first_conflict_at.result (none_other lacks_answer (conflicts_at c.args.number) (none_conflicts c.args.number) c.self.inside.answered c.self.inside.messages.items c.self.invariant.heard) c.self.view_is found).1 c.in_ok-place.place c.in_ok-place.was
+    (place_unanswered _ _ _ c.self.invariant (conflicts_at c.args.number) (none_conflicts c.args.number) _ _ _ c.self.view_is c.deref.ensures.value c.first_conflict_at.ensures).1 c.in_ok-place.place c.in_ok-place.was
