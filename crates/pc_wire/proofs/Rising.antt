@@ -1,5 +1,5 @@
 -- The numbers behind the least one are greater.
-use Rattle.std.proofs.Common.{ℕ, ◌<◌, List, [], ◌∷◌, All, sym}
+use Rattle.std.proofs.Common.{◌≡◌, ℕ, ◌<◌, List, [], ◌∷◌, All, sym}
 use Rattle.std.proofs.lemmas.List.Elements.{All-cons, All-head, All-nil, All-tail}
 use Rattle.std.specs.BTreeMap.Range.{IsLtBy}
 use Rattle.std.specs.Cmp.{ranked}
