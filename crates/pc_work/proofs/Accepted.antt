@@ -1,5 +1,5 @@
 -- A workload that is read is of the form that is accepted.
-use Rattle.std.proofs.Common.{◌≡◌, ℕ, ◌≤◌, ◌&&◌, is_none, is_some, nat_le, IfSome, Bool, true, cond, All, List, [], ◌∷◌, length, sum_by, Option, Some, None, codes, refl, subst, arith}
+use Rattle.std.proofs.Common.{◌≡◌, ℕ, ◌≤◌, ◌&&◌, is_none, is_some, nat_le, IfSome, Bool, true, false, cond, All, List, [], ◌∷◌, length, sum_by, Option, Some, None, codes, refl, subst, arith}
 use Rattle.std.specs.List.{list_all, AllByRecursion}
 use Rattle.std.proofs.lemmas.Bool.{and_parts, leb-true, false≢true}
 use Rattle.std.proofs.lemmas.List.Elements.{All-from_recursion, All-nil, All-weaker}
