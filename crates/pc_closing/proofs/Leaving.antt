@@ -1,12 +1,12 @@
 -- An actor's messages are settled once what it left was evaluated, up to one whose range is full.
-use Rattle.std.proofs.Common.{◌≡◌, ℕ, zero, suc, ◌≤◌, ◌⊎◌, inl, inr, true, All, Contains, IsTrue, List, [], ◌∷◌, ◌++◌, map, refl, sym, ap, subst, ◌∙◌, arith}
+use Rattle.std.proofs.Common.{◌≡◌, ℕ, zero, suc, ◌≤◌, ◌⊎◌, inl, inr, All, Contains, IsTrue, List, ◌∷◌, ◌++◌, refl, sym, ap, subst, ◌∙◌, arith}
 use Rattle.std.proofs.lemmas.List.{append_assoc}
 use Rattle.std.proofs.lemmas.List.Elements.{All-contains, All-weaker, Contains-append_cases, Contains-append_left}
 use Rattle.pc_closing.specs.Leaving.{HasSettledAll, IsLeftOrSettled, IsSettled, KnowsHeldUp, KnowsServed, MayLeave}
 use Rattle.pc_desk.proofs.Ending.{not_lost}
 use Rattle.pc_desk.proofs.Refusing.{refused_still, was_given_back}
 use Rattle.pc_desk.specs.Desk.{DeskMeaning, GivesByVerdicts, KeepsTrack, Posted, as_sent, is_repeating, posting, uses_by}
-use Rattle.pc_desk.specs.Ending.{IsAtFullRange, IsAtOwnEnd, IsAtStop, IsNotLost, IsSomewhere, IsSpent, KnowsEvaluation, KnowsTwo, WaitsStill, all_waiting}
+use Rattle.pc_desk.specs.Ending.{IsAtFullRange, IsAtOwnEnd, IsAtStop, IsNotLost, IsSomewhere, IsSpent, WaitsStill, all_waiting}
 use Rattle.pc_desk.specs.OwnLog.{verdict_of}
 use Rattle.pc_desk.specs.Refused.{WasGivenBack}
 use Rattle.pc_desk.specs.Rest.{AreServedLeft, HasOnlyLearnt, IsReadyLeft, IsRestOf, KnowsAt, KnowsTimes, LeftMessage, times_known}
@@ -15,7 +15,7 @@ use Rattle.pc_history.specs.declared.view.Known.{Known as KnownEntry}
 use Rattle.pc_history.specs.declared.view.Part.{Part}
 use Rattle.pc_history.specs.Meanings.{ActorMeaning}
 use Rattle.pc_history.specs.Parts.{known_entry, told, uses_left}
-use Rattle.pc_lists.proofs.Lists.{all_from_contains, contains_cons, contains_in_map}
+use Rattle.pc_lists.proofs.Lists.{contains_cons, contains_in_map}
 use Rattle.pc_proto.specs.declared.event.Event.{Event}
 use Rattle.pc_range.specs.declared.commit_world.CommitWorld.{CommitWorld}
 use Rattle.pc_range.specs.declared.message.Message.{Message}

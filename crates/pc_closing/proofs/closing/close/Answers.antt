@@ -1,9 +1,6 @@
-use Rattle.std.proofs.Common.{ℕ, All, sym, ap, subst}
-use Rattle.pc_base.specs.declared.actor.ActorId.{ActorId}
+use Rattle.std.proofs.Common.{All, sym, ap, subst}
 use Rattle.pc_closing.proofs.HandingIn.{AreHandedBut, all_handed, closed_if, empty_list, handed_all, next_leaver, none_handed, one_handed, ranges_handed}
-use Rattle.pc_closing.specs.Leaving.{AreLeavers}
 use Rattle.pc_desk.specs.Rest.{IsReadyLeft}
-use Rattle.pc_wire.specs.declared.verdict.Verdict.{Verdict}
 use Rattle.pc_closing.proofs.closing.close.Goals as goal
 
 pub loop-leaver-init : goal.loop-leaver-init
