@@ -1,5 +1,5 @@
 -- A write in flight may be put again, where the stage of its wave was refused.
-use Rattle.std.proofs.Common.{◌≡◌, ℕ, zero, suc, ◌+◌, ◌≤◌, Bool, true, false, ◌&&◌, cond, inr, List, [], ◌∷◌, ◌++◌, find, reverse, Some, refl, sym, ap, ◌∙◌, subst, arith, All, Any, Contains, IsTrue, append_assoc, min, ◌-◌, ◌^◌}
+use Rattle.std.proofs.Common.{◌≡◌, ℕ, zero, suc, ◌+◌, ◌≤◌, Bool, true, false, ◌&&◌, cond, inr, List, [], ◌∷◌, ◌++◌, find, reverse, Some, refl, sym, ap, ◌∙◌, subst, arith, All, Any, Contains, IsTrue, append_assoc}
 use Rattle.std.proofs.lemmas.Bool.{eq-eqb, eqb-true}
 use Rattle.std.proofs.lemmas.List.Elements.{All-contains, All-head, All-push, All-tail, All-weaker}
 use Rattle.pc_call.proofs.Beating.{heard_longer}
