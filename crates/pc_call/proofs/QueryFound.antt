@@ -75,7 +75,7 @@ use Rattle.pc_wave.specs.Course.{Course}
 use Rattle.pc_wave.specs.declared.message.Message.{Message}
 use Rattle.pc_wave.specs.declared.message.Progress.{Progress}
 use Rattle.pc_wave.specs.declared.message.Progress.TheVariants as progresses
-use Rattle.pc_wave.specs.Messages.{is_in_conflict, wave_awaits, losses_of}
+use Rattle.pc_wave.specs.Messages.{is_in_conflict, losses_of, wave_awaits}
 use Rattle.pc_wave.specs.Standing.{AreOfTwo, CountsTries, IsAsFar, IsHeardTo, MessageStands, Pairwise, WaveStands}
 use Rattle.pc_wave.specs.Tries.{IsUnheardOf, sends_waited}
 use Rattle.pc_world.specs.Answering.{MayAnswer}

@@ -36,7 +36,7 @@ use Rattle.pc_wave.proofs.Tries.{row-other}
 use Rattle.pc_wave.specs.Course.{Course}
 use Rattle.pc_wave.specs.declared.message.Message.{Message}
 use Rattle.pc_wave.specs.declared.step.Step.TheVariants as steps
-use Rattle.pc_wave.specs.Messages.{first_changed, is_to_send, sent_under, step_of, losses_of}
+use Rattle.pc_wave.specs.Messages.{first_changed, is_to_send, losses_of, sent_under, step_of}
 use Rattle.pc_wave.specs.Standing.{CountsTries, HasMore, MessageStands}
 use Rattle.pc_world.specs.Known.{Known, next_number}
 use Rattle.pc_wave.specs.Tries.{IsUnheardOf, sends_waited}

@@ -75,7 +75,7 @@ use Rattle.pc_wave.specs.declared.message.Message.{Message}
 use Rattle.pc_wave.specs.declared.message.Progress.{Progress}
 use Rattle.pc_wave.specs.declared.message.Progress.TheVariants as progresses
 use Rattle.pc_wave.specs.Course.{Course}
-use Rattle.pc_wave.specs.Messages.{awaits_at, back_with, first_changed, has_answer, is_to_send, progress_awaits, progress_has_answer, progress_in_conflict, progress_to_send, wave_awaits, counted_losses}
+use Rattle.pc_wave.specs.Messages.{awaits_at, back_with, counted_losses, first_changed, has_answer, is_to_send, progress_awaits, progress_has_answer, progress_in_conflict, progress_to_send, wave_awaits}
 use Rattle.pc_wave.specs.Standing.{AreAnsweredIn, AreOfTwo, IsAsFar, IsHeardTo, MessageStands, MetConflict, Pairwise, sends_counted}
 use Rattle.pc_world.specs.Counting.{AtLeast}
 use Rattle.pc_world.specs.Known.{Known}

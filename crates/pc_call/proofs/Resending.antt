@@ -1,5 +1,5 @@
 -- What goes out again has a reason: a put goes at the write timestamp, or just as it was; another request once the round of its conflict was made.
-use Rattle.std.proofs.Common.{◌≡◌, ℕ, Bool, true, false, ◌⊎◌, inl, inr, List, [], ◌∷◌, map, find, Option, Some, None, refl, sym, ap, ◌∙◌, subst, All, Any, IsTrue, ◌&&◌, not, arith}
+use Rattle.std.proofs.Common.{◌≡◌, ℕ, Bool, true, false, ◌⊎◌, inl, inr, List, [], ◌∷◌, map, find, Option, Some, None, refl, sym, ap, ◌∙◌, subst, arith, All, Any, IsTrue, ◌&&◌, not}
 use Rattle.std.specs.List.{list_any}
 use Rattle.std.proofs.lemmas.List.Elements.{All-append, All-cons, All-contains, All-head, All-nil, All-weaker}
 use Rattle.std.proofs.lemmas.List.Folds.{Any-from_list_any}

@@ -70,7 +70,7 @@ use Rattle.pc_wave.proofs.Changed.{found_all, found_passes}
 use Rattle.pc_wave.proofs.Sending.{sends_first, wave_sent}
 use Rattle.pc_wave.specs.declared.message.Message.{Message}
 use Rattle.pc_wave.specs.declared.step.Step.TheVariants as steps
-use Rattle.pc_wave.specs.Messages.{first_changed, first_in_conflict, has_answer, is_to_send, progress_has_answer, sent_under, step_of, losses_of}
+use Rattle.pc_wave.specs.Messages.{first_changed, first_in_conflict, has_answer, is_to_send, losses_of, progress_has_answer, sent_under, step_of}
 use Rattle.pc_wave.specs.Standing.{AreOfTwo, HasMore, Pairwise, WaveStands, goes_beside, CountsTries, MessageStands}
 use Rattle.pc_world.specs.Known.{Known, next_number}
 use Rattle.pc_world.specs.Known.Traffic.{Heard, Sent}

@@ -35,7 +35,7 @@ use Rattle.pc_txn.specs.Opened.{own_get, own_scan}
 use Rattle.pc_txn.specs.Silence.{own_beat}
 use Rattle.pc_wave.proofs.Changed.{found_all, found_passes}
 use Rattle.pc_wave.specs.declared.message.Message.{Message}
-use Rattle.pc_wave.specs.Messages.{is_to_send, wave_awaits, losses_of}
+use Rattle.pc_wave.specs.Messages.{is_to_send, losses_of, wave_awaits}
 use Rattle.pc_wave.specs.Standing.{CountsTries, MessageStands, Pairwise}
 use Rattle.pc_follows.specs.Refreshes.{IsItsRefresh, IsRefreshBefore, MetWrite}
 use Rattle.pc_world.specs.Known.{Known, reading_in}

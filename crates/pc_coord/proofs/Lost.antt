@@ -34,7 +34,7 @@ use Rattle.pc_wave.specs.Course.{Course}
 use Rattle.pc_wave.specs.declared.message.Message.{Message}
 use Rattle.pc_wave.specs.declared.message.Progress.{Progress}
 use Rattle.pc_wave.specs.declared.message.Progress.TheVariants as progresses
-use Rattle.pc_wave.specs.Messages.{has_answer, is_out, no_try_left, progress_has_answer, progress_out, progress_to_send, is_in_conflict, step_of, losses_of}
+use Rattle.pc_wave.specs.Messages.{has_answer, is_out, losses_of, no_try_left, progress_has_answer, progress_out, progress_to_send, is_in_conflict, step_of}
 use Rattle.pc_wave.specs.Standing.{CountsTries, MessageStands, StandsByTries, WaveStands, goes_beside, messages_for, IsAsFar, MetConflict}
 use Rattle.pc_wave.specs.Tries.{AreLastUnheard, IsUnheardOf, WasLostInARow, sends_waited}
 use Rattle.pc_world.specs.Known.{Known}

@@ -41,7 +41,7 @@ use Rattle.pc_txn.specs.Opened.{meta_now}
 use Rattle.pc_wave.proofs.Awaiting.{heard_awaits}
 use Rattle.pc_wave.proofs.Changed.{found_passes}
 use Rattle.pc_wave.specs.declared.message.Message.{Message}
-use Rattle.pc_wave.specs.Messages.{awaits_at, back_with, back_with_by, first_changed, is_out, no_try_left, wave_awaits, losses_of}
+use Rattle.pc_wave.specs.Messages.{awaits_at, back_with, back_with_by, first_changed, is_out, losses_of, no_try_left, wave_awaits}
 use Rattle.pc_wave.specs.Standing.{CountsTries, MessageStands, HasMore, WaveStands}
 use Rattle.pc_world.specs.Answering.{IsPutReply, IsRecordReply, MayAnswer}
 use Rattle.pc_world.specs.Known.{Known}
