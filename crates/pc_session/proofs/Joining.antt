@@ -188,7 +188,7 @@ below_number : (n number : ℕ) → n < number + 1 → (n == number) ≡ false �
 below_number n number low other = grind (arith, nat_tests, low, other)
 
 -- in a sorted list the first is below the others
-sorted_above : (x : ℕ) (ns : List ℕ) → IsStrictlySortedBy nat_cmp (x ∷ ns) → (n : ℕ) → Contains ns n → x < n
+pub sorted_above : (x : ℕ) (ns : List ℕ) → IsStrictlySortedBy nat_cmp (x ∷ ns) → (n : ℕ) → Contains ns n → x < n
 unfolding IsStrictlySortedBy
 sorted_above x ns sorted n there = All-contains (λ (n : ℕ). x < n) ns n (by ns sorted.0) there
   where

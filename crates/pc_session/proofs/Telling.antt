@@ -248,6 +248,14 @@ module _ {C : Type 0} {loses : Bool} (old : SessionMeaning C) (reading : ℕ) (a
           each = now.left;
         }
 
+    -- where a put waits in the outbox, a transaction is open
+    open_then : (number : ℕ) → has_waited number old.coordinator.later ≡ true → (t : Txn) × (open_txn k ≡ Some t)
+    open_then number waits = by (open_txn k) refl
+      where
+        by : (o : Option Txn) → open_txn k ≡ o → (t : Txn) × (open_txn k ≡ Some t)
+        by (Some t) is = (t, is)
+        by None is = absurd (no_txn number waits is)
+
     -- a transaction that is open then was open
     told_open : (w : Txn) → open_txn k ≡ Some w → (t : Txn) → open_txn (known_of (old.desk.log.part.own ++ p ∷ [])) ≡ Some t → (u : Txn) × (open_txn k ≡ Some u) × (t.id ≡ u.id)
     told_open w open_w t opened =
@@ -274,7 +282,7 @@ module _ {C : Type 0} {loses : Bool} (old : SessionMeaning C) (reading : ℕ) (a
       waiting = left_on;
       behind = subst (WaitsBehindHeard (λ number. has_waited number e.later ≡ true)) (sym grown_told.own)
           (λ number request waits. let of = open_then number (ap (has_waited number) (sym e-later) ∙ waits) in behind_still old.desk.log.part.own (p ∷ []) (IsWaitedFor old.coordinator) (λ number. has_waited number e.later ≡ true) calls.behind (λ number waits. inr (ap (has_waited number) (sym e-later) ∙ waits))
-          (ap (λ own. (known_of own).sent) (sym grown_told.own) ∙ ap (λ (k : Known). k.sent) known_is) (ap (λ own. (known_of own).heard) (sym grown_told.own) ∙ ap (λ (k : Known). k.heard) known_is) (told_open of.t of.opened) number request waits);
+          (ap (λ own. (known_of own).sent) (sym grown_told.own) ∙ ap (λ (k : Known). k.sent) known_is) (ap (λ own. (known_of own).heard) (sym grown_told.own) ∙ ap (λ (k : Known). k.heard) known_is) (told_open of.0 of.1) number request waits);
     }
 
     -- the call was told
