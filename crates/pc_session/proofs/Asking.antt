@@ -257,3 +257,15 @@ module _ {C : Type 0} {loses : Bool} (old : SessionMeaning C) (d : DeskMeaning C
           };
           just = whole;
         }
+
+-- the session is in its call, over its own wire
+pub asks_open : {C : Type 0} (old : SessionMeaning C) (d : DeskMeaning C) (c : Coordination) (call : Call) (reading : ℕ) (rest : IsAtRest old) (may : MayBeCalled old call) (done : HasDone old.desk d (events.Ask call reading))
+    → ((loses : Bool) (k : Known) (p : Pair Event) → Knows loses old.coordinator k → IsAsked old.coordinator call reading k p → Knows loses c (learn p k))
+    → ((loses : Bool) (k : Known) (p : Pair Event) → Knows loses old.coordinator k → IsAsked old.coordinator call reading k p → AwaitsOutbox old.coordinator.later c.due)
+    → ((number : ℕ) → has_waited number c.later ≡ true → has_waited number old.coordinator.later ≡ true) → c.session ≡ old.coordinator.session → c.splits ≡ old.coordinator.splits → c.pipelining ≡ old.coordinator.pipelining → HasOpenCall (asked_then old d c call reading rest.any may done) reading
+asks_open old d c call reading rest may done learns waits left session splits pipelines = record {
+  any = asked_open old d c call reading rest.any may done learns waits left session splits pipelines;
+  quiet = λ quiet.
+      let over = rest.quiet (subst LosesNothing (verdicts_same old.desk.log d.log (p old d c call reading rest.any may done ∷ []) (grown_asked old d c call reading rest.any may done)) quiet) in
+      asked_open old d c call reading over may done learns waits left session splits pipelines;
+}

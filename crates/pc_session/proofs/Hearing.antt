@@ -88,13 +88,14 @@ use Rattle.pc_session.specs.Behind.{WaitsBehindHeard}
 use Rattle.pc_coord.proofs.Dues.{gone_out}
 use Rattle.std.specs.List.Sorted.{IsStrictlySortedBy}
 use Rattle.std.specs.Ordering.{nat_cmp}
-use Rattle.pc_desk.specs.Late.{BehindFirst, HasNoneLostFirst}
+use Rattle.pc_desk.specs.Late.{BehindFirst, HasNoneLostFirst, HasDeliveredDue}
 use Rattle.pc_wire.specs.Verdicts.{is_losing}
 use Rattle.pc_session.proofs.Joining.{sorted_above}
 use Rattle.pc_coord.proofs.Aside.{all_changed}
 use Rattle.pc_call.specs.Serving.{IsOutOrLost}
 use Rattle.pc_wave.specs.declared.message.Message.{Message}
 use Rattle.pc_coord.specs.declared.due.Due.{Due}
+use Rattle.pc_follows.specs.WaveOrder.{EndsWaves, EndsPutWaves}
 
 -- ---- messages are evaluated
 
@@ -203,6 +204,54 @@ module _ {C : Type 0} {loses : Bool} (old : SessionMeaning C) (reading : ℕ) (c
     session = refl;
     statement = ap (λ (k : Known). k.statement) known_same;
   }
+
+-- over its own wire
+pub delivers_open : {C : Type 0} (old : SessionMeaning C) (reading : ℕ) → HasOpenCall old reading → (d : DeskMeaning C) → HasDelivered old.desk d → HasOpenCall (record old { desk = d }) reading
+delivers_open old reading calls d made = record {
+  any = delivered_open old reading calls.any d made;
+  quiet = λ quiet. delivered_open old reading (calls.quiet (subst LosesNothing (verdicts old reading calls.any d made) quiet)) d made;
+}
+
+-- ---- what is due in the bag is evaluated
+
+due_delivered : {C : Type 0} (old d : DeskMeaning C) → HasDeliveredDue old d → HasDelivered old d
+due_delivered {C} old d due = record {
+  own = due.own;
+  sends = ap (λ (x : DeskMeaning C). x.sends) due.rest;
+  track = due.track;
+  way = λ n. ap (λ (x : DeskMeaning C). is_on_way n x || has_lost n x) due.rest;
+  kept = λ n lost. ap (λ (x : DeskMeaning C). has_lost n x) due.rest ∙ lost;
+  later = ap (λ (x : DeskMeaning C). x.later) due.rest;
+  more = due.more;
+  limit = ap (λ (x : DeskMeaning C). x.range_limit) due.rest;
+}
+
+pub due_open : {C : Type 0} (old : SessionMeaning C) (reading : ℕ) → HasOpenCall old reading → (d : DeskMeaning C) → HasDeliveredDue old.desk d → HasOpenCall (record old { desk = d }) reading
+due_open old reading calls d due = delivers_open old reading calls d (due_delivered old.desk d due)
+
+pub due_between : {C : Type 0} (old d : DeskMeaning C) → HasDeliveredDue old d → IsBetweenWaves old → IsBetweenWaves d
+due_between {C} old d due between = record {
+  none_waits = ap (λ (x : DeskMeaning C). x.replies) due.rest ∙ between.none_waits;
+  none_lost = ap (λ (x : DeskMeaning C). x.lost) due.rest ∙ between.none_lost;
+  quiet = λ quiet.
+      let was = between.quiet (subst LosesNothing (ap (λ (l : LogMeaning C). verdict_of l) due.own) quiet) in
+      let own : d.log.part.own ≡ old.log.part.own = ap (λ (l : LogMeaning C). l.part.own) due.own in
+      record {
+        ends = subst EndsWaves (sym own) was.ends;
+        puts = subst EndsPutWaves (sym own) was.puts;
+        none_waits = ap (λ (x : DeskMeaning C). x.replies) due.rest ∙ was.none_waits;
+      };
+}
+
+pub due_inside : {C : Type 0} (old new : SessionMeaning C) → HasDeliveredDue old.desk new.desk × (new.coordinator ≡ old.coordinator) → HasGoneInside old new
+due_inside {C} old new due = record {
+  part = [];
+  grown = grows_else old.desk.log new.desk.log old.desk.log.part.given new.desk.log.part.known due.0.own due.0.more;
+  within = All-nil IsInBetween;
+  limit = ap (λ (x : DeskMeaning C). x.range_limit) due.0.rest;
+  session = ap (λ (c : Coordination). c.session) due.1;
+  statement = ap (λ (l : LogMeaning C). (known_of l.part.own).statement) due.0.own;
+}
 
 -- the wave is as whole as it was
 pub delivered_whole : {C : Type 0} (old : SessionMeaning C) (reading : ℕ) → HasOpenCall old reading → (d : DeskMeaning C) → HasDelivered old.desk d → IsWholeOut old → IsWholeOut (record old { desk = d })

@@ -384,3 +384,28 @@ module _ {C : Type 0} {loses : Bool} (old : SessionMeaning C) (reading : ℕ) (r
           session = session;
           statement = ap (λ (k : Known). k.statement) now_same ∙ g.statement;
         }
+
+-- the session goes on in its call, over its own wire
+module _ {C : Type 0} (old : SessionMeaning C) (reading : ℕ) (request : Request) (calls : HasOpenCall old reading) (at_once : next_of old.coordinator ≡ nexts.Later request) (may : IsSendable (setting_of true old.coordinator) old.coordinator.session (session_knows old) request)
+    (one-range : IsForOne old.coordinator.splits request) (quiet_may : LosesNothing (verdict_of old.desk.log) → IsSendable (setting_of false old.coordinator) old.coordinator.session (session_knows old) request) (between : IsBetweenWaves old.desk)
+    (d : DeskMeaning C) (number : ℕ) (sent : HasSentNext old.desk d number request) (e : DeskMeaning C) (c : Coordination) (put : HasSetAside d e number) where
+  quiet_before : LosesNothing (verdict_of e.log) → LosesNothing (verdict_of old.desk.log)
+  quiet_before quiet =
+      subst LosesNothing (verdicts_same old.desk.log d.log (p old reading request calls.any at_once may one-range between d number sent ∷ []) (grown_sent old reading request calls.any (ap request_next at_once) may one-range d c number sent))
+      (subst LosesNothing (ap (λ (x : DeskMeaning C). verdict_of x.log) put.rest) quiet)
+
+  module _ (learns : (loses : Bool) (k : Known) (p : Pair Event) (range : ℕ) (request : Request) → Knows loses old.coordinator k → SendsDue old.coordinator number range request k p → (loses ≡ true → GoesWhereItWent range request k.sent) → Knows loses c (learn p k))
+      (told : c.due ≡ dues.Tell answers.Written) (waiting : c.later ≡ old.coordinator.later ++ record { number = number; request = request } ∷ []) (session : c.session ≡ old.coordinator.session) (splits : c.splits ≡ old.coordinator.splits)
+      (pipelines : c.pipelining ≡ old.coordinator.pipelining) where
+    pub laters_open : HasOpenCall (record old { desk = e; coordinator = c }) reading
+    laters_open = record {
+      any = later_open old reading request calls.any at_once may one-range between d number sent e c put learns told waiting session splits pipelines;
+      quiet = λ quiet. later_open old reading request (calls.quiet (quiet_before quiet)) at_once (quiet_may (quiet_before quiet)) one-range between d number sent e c put learns told waiting session splits pipelines;
+    }
+
+  pub laters_between : IsBetweenWaves e
+  laters_between = record {
+    none_waits = later_replies old reading request calls.any at_once may one-range between d number sent e c put;
+    none_lost = later_lost old reading request calls.any at_once may one-range between d number sent e c put;
+    quiet = λ quiet. later_ends_quietly old reading request (calls.quiet (quiet_before quiet)) at_once (quiet_may (quiet_before quiet)) one-range between d number sent e c put refl (between.quiet (quiet_before quiet));
+  }

@@ -150,7 +150,7 @@ module _ {C : Type 0} {loses : Bool} (old : SessionMeaning C) (reading : ℕ) (r
     pub sends_due : SendsDue old.coordinator number sent.range request k p
     sends_due = record { due = due; is = of_send old.desk.log sent.sent number sent.range request sent.entered; next = sent.next ∙ next-is }
 
-      pub left_of : HasLeft loses d.log.part.own old.jobs
+    pub left_of : HasLeft loses d.log.part.own old.jobs
     left_of =
         let puts = puts_open k request may.own in
         let alone : (job : Job) → IsFinishable k job → LeavesAlone job.meta.id request =
@@ -323,3 +323,28 @@ module _ {C : Type 0} {loses : Bool} (old : SessionMeaning C) (reading : ℕ) (r
       -- and no wave is half heard
       pub sent_ends_quietly : loses ≡ false → EndsQuietWaves old.desk → EndsQuietWaves d
       sent_ends_quietly is ends = record { ends = sent_ends ends.ends; puts = sent_puts is ends.puts; none_waits = sent.replies ∙ ends.none_waits }
+
+-- the session goes on in its call, over its own wire
+module _ {C : Type 0} (old : SessionMeaning C) (reading : ℕ) (request : Request) (calls : HasOpenCall old reading) (due : request_next (next_of old.coordinator) ≡ Some request) (may : IsSendable (setting_of true old.coordinator) old.coordinator.session (session_knows old) request)
+    (one-range : IsForOne old.coordinator.splits request) (quiet_may : LosesNothing (verdict_of old.desk.log) → IsSendable (setting_of false old.coordinator) old.coordinator.session (session_knows old) request) (between : IsBetweenWaves old.desk)
+    (d : DeskMeaning C) (c : Coordination) (number : ℕ) (sent : HasSentNext old.desk d number request) where
+  quiet_before : LosesNothing (verdict_of d.log) → LosesNothing (verdict_of old.desk.log)
+  quiet_before quiet = subst LosesNothing (verdicts_same old.desk.log d.log (p old reading request calls.any due may one-range d c number sent ∷ []) (grown_sent old reading request calls.any due may one-range d c number sent)) quiet
+
+  module _ (at_once : next_of old.coordinator ≡ nexts.Send request)
+      (learns : (loses : Bool) (k : Known) (p : Pair Event) (range : ℕ) (request : Request) → Knows loses old.coordinator k → SendsDue old.coordinator number range request k p → (loses ≡ true → GoesWhereItWent range request k.sent) → Knows loses c (learn p k))
+      (waits : (other : ℕ) → awaits_number other c.due ≡ (number == other || awaits_number other old.coordinator.due)) (kept : c.later ≡ old.coordinator.later) (session : c.session ≡ old.coordinator.session) (splits : c.splits ≡ old.coordinator.splits)
+      (pipelines : c.pipelining ≡ old.coordinator.pipelining)
+      (comes : (o : Opened) → opened_by old.coordinator.txn old.coordinator.due ≡ Some o → c.due ≡ dues.Call (record o.call { wave = first_changed is_to_send (sent_under number) o.call.wave })) where
+    pub sends_open : HasOpenCall (record old { desk = d; coordinator = c }) reading
+    sends_open = record {
+      any = sent_open old reading request calls.any due may one-range d c number sent at_once learns waits kept session splits pipelines comes;
+      quiet = λ quiet. sent_open old reading request (calls.quiet (quiet_before quiet)) due (quiet_may (quiet_before quiet)) one-range d c number sent at_once learns waits kept session splits pipelines comes;
+    }
+
+    pub sends_between : IsBetweenWaves d
+    sends_between = record {
+      none_waits = sent.replies ∙ between.none_waits;
+      none_lost = sent.lost ∙ between.none_lost;
+      quiet = λ quiet. sent_ends_quietly old reading request (calls.quiet (quiet_before quiet)) due (quiet_may (quiet_before quiet)) one-range d c number sent at_once learns waits kept session splits pipelines comes refl (between.quiet (quiet_before quiet));
+    }

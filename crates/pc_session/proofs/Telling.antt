@@ -13,7 +13,7 @@ use Rattle.pc_coord.specs.Suiting.{SuitsNext}
 use Rattle.pc_desk.proofs.Entering.{local_does}
 use Rattle.pc_desk.proofs.Making.{added, known_after_it}
 use Rattle.pc_desk.specs.Desk.{DeskMeaning, HasDone, is_on_way, has_lost}
-use Rattle.pc_desk.specs.OwnLog.{MayEnter, verdict_of, terms_of}
+use Rattle.pc_desk.specs.OwnLog.{MayEnter, verdict_of, terms_of, LogMeaning}
 use Rattle.pc_exchange.proofs.Growing.{grows_entered}
 use Rattle.pc_exchange.specs.Growing.{HasGrownBy, HasAllBack}
 use Rattle.pc_history.specs.declared.pair.Pair.{Pair}
@@ -30,7 +30,7 @@ use Rattle.pc_session.proofs.JobsTold.{BeginsNext, jobs_after_told, jobs_told}
 use Rattle.pc_session.proofs.Keeping.{keeps_as, keeps_told}
 use Rattle.pc_session.proofs.Knowing.{jobs_then, known_told, of_tell, with_told}
 use Rattle.pc_session.proofs.Lost.{row_by}
-use Rattle.pc_session.specs.InCall.{HasOpenCall, HasTold, IsHeardOrAway, IsWaitedFor, HasCallOver, EndsPutsQuietly, MayComeNow}
+use Rattle.pc_session.specs.InCall.{HasOpenCall, HasTold, IsHeardOrAway, IsWaitedFor, HasCallOver, EndsPutsQuietly, MayComeNow, HasPutsAside}
 use Rattle.pc_session.specs.InTurn.{KeepsTurn}
 use Rattle.pc_session.specs.Session.{HasLeft, IsAtRest, SessionMeaning, session_knows, waits_aside, RestsOver}
 use Rattle.pc_follows.specs.FinishingJobs.{left_by, with_job}
@@ -248,7 +248,11 @@ module _ {C : Type 0} {loses : Bool} (old : SessionMeaning C) (reading : ℕ) (a
           each = now.left;
         }
 
-    -- where a put waits in the outbox, a transaction is open
+    -- where no transaction is open, no put waits in the outbox
+    no_txn : (number : ℕ) → has_waited number old.coordinator.later ≡ true → open_txn k ≡ None → ⊥
+    no_txn number waits none = ?
+
+    -- so where one waits, one is open
     open_then : (number : ℕ) → has_waited number old.coordinator.later ≡ true → (t : Txn) × (open_txn k ≡ Some t)
     open_then number waits = by (open_txn k) refl
       where
@@ -296,3 +300,16 @@ module _ {C : Type 0} {loses : Bool} (old : SessionMeaning C) (reading : ℕ) (a
       suits = λ s opened. subst (λ b. SuitsNext b answer s.call e.txn) (sym e-pipelining) (subst (SuitsNext old.coordinator.pipelining answer s.call) (sym e-txn) (may.suits s opened));
       rest = rest;
     }
+
+-- the call was told, and the session rests over its own wire
+pub tells_goes : {C : Type 0} (old : SessionMeaning C) (reading : ℕ) (answer : Answer) (calls : HasOpenCall old reading) (due : next_of old.coordinator ≡ nexts.Tell answer) (may : MayComeNow old (nexts.Tell answer)) → HasPutsAside old
+    → (d : DeskMeaning C) (c e : Coordination) (jobs : List Job) (done : HasDone old.desk d (events.Tell answer)) → c ≡ with_nothing_due old.coordinator → e ≡ without_job c → jobs ≡ old.jobs ++ option_to_list c.job
+    → ((loses : Bool) (k : Known) (p : Pair Event) (answer : Answer) → Knows loses old.coordinator k → IsTold old.coordinator answer p → Knows loses c (learn p k))
+    → ((loses : Bool) (k : Known) → Knows loses c k → c.due ≡ dues.Nothing → Knows loses e k) → ((loses : Bool) (k : Known) → Knows loses c k → c.due ≡ dues.Nothing → IfSome c.job (MayFinishJob k)) → HasTold old (record { desk = d; coordinator = e; jobs = jobs }) answer
+tells_goes {C} old reading answer calls due may aside d c e jobs done told handed kept learns knowing finish =
+    told_goes old reading answer calls.any due may.0 aside.waits (λ is. let f : true ≡ false = is in absurd cc) d c e jobs done told handed kept learns knowing finish (record {
+      any = told_rests old reading answer calls.any due may.0 aside.waits (λ is. let f : true ≡ false = is in absurd cc) d c e jobs done told handed kept learns knowing finish;
+      quiet = λ quiet.
+          let before : LosesNothing (verdict_of old.desk.log) = subst LosesNothing (ap (λ (l : LogMeaning C). verdict_of l) done.entered.stored) quiet in
+          told_rests old reading answer (calls.quiet before) due (may.1 before) aside.waits (λ is. aside.quiet before) d c e jobs done told handed kept learns knowing finish;
+    })

@@ -283,6 +283,7 @@ impl<'a, N: Named<CommitWorld>, C: Clock, V: Wire, G: Gate> Office<'a, N, C, V, 
         requires calls { HasOpenCall self.old reading }
         requires due { next_of self.old.coordinator ≡ nexts.Wave }
         requires none_waits { self.old.desk.replies ≡ [] }
+        requires none_lost { self.old.desk.lost ≡ [] }
         requires aside { waits_aside number self.old.desk ≡ true }
         ensures calls { OnOk result (HasOpenCall self.new reading) }
         ensures joined { OnOk result (HasJoinedIfAwaited self.old self.new number) }
@@ -586,6 +587,7 @@ impl<'a, N: Named<CommitWorld> + Send + Sync, C: Clock, V: Wire, G: Gate + Sync>
         requires none_waits { self.old.desk.posted ≡ [] }
         ensures calls { OnOk result (HasOpenCall self.new reading) }
         ensures between { OnOk result (IsBetweenWaves self.new.desk) }
+        ensures alone { OnOk result (self.new.desk.posted ≡ []) }
         ensures goes { OnOk result (HasGoneInside self.old self.new) }
         ensures err { IfErr result (HasHalted self.old.desk self.new.desk) }
         ensures ended { IfErr result (BreaksOff (All IsInBetween) self.old.desk self.new.desk) }
@@ -599,6 +601,7 @@ impl<'a, N: Named<CommitWorld> + Send + Sync, C: Clock, V: Wire, G: Gate + Sync>
     fn deliver_due<R: Wait>(&mut self, rt: &R, reading: u64) -> Result<(), Halt>
         requires calls { HasOpenCall self.old reading }
         requires between { IsBetweenWaves self.old.desk }
+        requires alone { self.old.desk.posted ≡ [] }
         ensures calls { OnOk result (HasOpenCall self.new reading) }
         ensures between { OnOk result (IsBetweenWaves self.new.desk) }
         ensures due { OnOk result (HasDeliveredDue self.old.desk self.new.desk × (self.new.coordinator ≡ self.old.coordinator)) }
