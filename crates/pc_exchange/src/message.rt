@@ -29,6 +29,22 @@ pub fn exchange<N: Named<CommitWorld>, C: Clock, V: Wire, G: Gate, R: Wait>(
     ensures err { IfErr result (HasHalted desk.old desk.new) }
     ensures ended { IfErr result (BreaksOff (All IsInBetween) desk.old desk.new) }
 {
+    exchange_lent(desk, rt, &request)
+}
+
+/// The same with a message that is only lent.
+fn exchange_lent<N: Named<CommitWorld>, C: Clock, V: Wire, G: Gate, R: Wait>(
+    desk: &mut Desk<'_, N, C, V, G>,
+    rt: &R,
+    request: &Request,
+) -> Result<Option<Reply>, Halt>
+    requires { MayExchangeNow desk.old request.now }
+    ensures heard { IfOk result (λ reply. IfSome reply (WasExchanged desk.old desk.new request.now)) }
+    ensures lost { IfOk result (λ reply. IfNone reply (HasLostAll desk.old desk.new request.now)) }
+    ensures clock { desk.new.log.clock ≡ desk.old.log.clock }
+    ensures err { IfErr result (HasHalted desk.old desk.new) }
+    ensures ended { IfErr result (BreaksOff (All IsInBetween) desk.old desk.new) }
+{
     for _sending in 0..desk.tries() {
         let copy = match request.copy() {
             Ok(copy) => copy,

@@ -1,5 +1,5 @@
 -- A session once it asked a call.
-use Rattle.std.proofs.Common.{◌≡◌, ℕ, Bool, true, false, not, ◌&&◌, inl, inr, All, Contains, is_some, List, [], ◌∷◌, ◌++◌, Option, None, Some, refl, sym, ap, subst, ◌∙◌}
+use Rattle.std.proofs.Common.{◌≡◌, ℕ, Bool, true, false, not, ◌&&◌, inl, inr, All, Contains, is_some, List, [], ◌∷◌, ◌++◌, Option, None, Some, refl, sym, ap, subst, ◌∙◌, ◌==◌, ◌||◌}
 use Rattle.std.proofs.lemmas.List.{append_assoc, same_from_push}
 use Rattle.std.proofs.lemmas.List.Elements.{All-contains, All-nil, Contains-push}
 use Rattle.pc_base.specs.declared.actor.ActorId.{ActorId}
@@ -12,7 +12,7 @@ use Rattle.pc_coord.specs.Events.{IsAsked}
 use Rattle.pc_coord.specs.Knows.{Knows}
 use Rattle.pc_desk.proofs.Making.{added, known_after_it}
 use Rattle.pc_desk.proofs.Waves.{ending_of, unheard_push}
-use Rattle.pc_desk.specs.Desk.{DeskMeaning, HasDone, is_on_way}
+use Rattle.pc_desk.specs.Desk.{DeskMeaning, HasDone, is_on_way, has_lost}
 use Rattle.pc_desk.specs.Waiting.{EndsUnheard}
 use Rattle.pc_exchange.proofs.Growing.{grows_entered}
 use Rattle.pc_exchange.proofs.Waves.{ends_where_heard}
@@ -27,23 +27,26 @@ use Rattle.pc_follows.specs.WaveOrder.{EndsPutWaves, IsNoAsk, hears_put}
 use Rattle.pc_session.proofs.Again.{ends_otherwise}
 use Rattle.pc_session.proofs.AsideInCall.{aside_why, rest_epoch}
 use Rattle.pc_session.proofs.Away.{all_heard, apart_asked, none_away}
-use Rattle.pc_session.proofs.Inside.{one_on}
+use Rattle.pc_session.proofs.Inside.{one_on, verdicts_same}
 use Rattle.pc_session.proofs.Jobs.{HasJobs, jobs_asked}
 use Rattle.pc_session.proofs.Knowing.{jobs_then, known_asked, of_ask, with_asked}
 use Rattle.pc_session.proofs.BothTurns.{asked_turn}
 use Rattle.pc_session.specs.Calls.{MayBeCalled}
-use Rattle.pc_session.specs.InCall.{HasAsideInCall, HasAsked, HasOpenCall, IsApartNow, IsBetweenWaves, IsHeardOrAway, IsOfOpenEpoch, IsWaitedFor}
+use Rattle.pc_session.specs.InCall.{HasAsideInCall, HasAsked, HasOpenCall, IsApartNow, IsBetweenWaves, IsHeardOrAway, IsOfOpenEpoch, IsWaitedFor, HasCallOver}
 use Rattle.pc_session.specs.Learning.{HasAskedToLearn}
-use Rattle.pc_session.specs.Session.{HasLeft, IsAtRest, SessionMeaning, waits_aside, session_knows}
+use Rattle.pc_session.specs.Session.{HasLeft, IsAtRest, SessionMeaning, waits_aside, session_knows, RestsOver}
 use Rattle.pc_turns.specs.Order.{IsInBetween, events_of}
 use Rattle.pc_txn.specs.declared.txn.OpenTxn.{OpenTxn}
 use Rattle.pc_world.specs.Known.{Known, call_of, known_of, learn, open_txn}
 use Rattle.pc_world.specs.Local.{IsCallOf, MayAsk, is_outside}
 use Rattle.pc_session.proofs.Behind.{behind_still}
 use Rattle.pc_session.specs.Behind.{WaitsBehindHeard}
+use Rattle.std.specs.List.{list_any}
+use Rattle.pc_desk.specs.Keeping.{LosesNothing}
+use Rattle.pc_desk.specs.OwnLog.{verdict_of}
 
 -- the call may be asked
-pub may_ask : {C : Type 0} (s : SessionMeaning C) (call : Call) → IsAtRest s → MayBeCalled s call → MayAsk s.desk.log.part.id (session_knows s) call
+pub may_ask : {C : Type 0} (s : SessionMeaning C) (call : Call) → RestsOver true s → MayBeCalled s call → MayAsk s.desk.log.part.id (session_knows s) call
 may_ask s call rest may = record {
   none_open = rest.closed;
   whose = subst (λ (id : ActorId). IsCallOf id call) (sym rest.one.whose) may.no_round;
@@ -64,7 +67,7 @@ puts_asked own q call reading asks front back p whole hears none = elim (ending_
       absurd (subst IsNoAsk is (All-contains (λ (x : Pair Event). IsNoAsk x.entry.event) back some.last none (subst (λ l. Contains l some.last) (sym some.whole) (Contains-push some.front some.last))))
 ]
 
-module _ {C : Type 0} (old : SessionMeaning C) (d : DeskMeaning C) (c : Coordination) (call : Call) (reading : ℕ) (rest : IsAtRest old) (may : MayBeCalled old call) (done : HasDone old.desk d (events.Ask call reading)) where
+module _ {C : Type 0} {loses : Bool} (old : SessionMeaning C) (d : DeskMeaning C) (c : Coordination) (call : Call) (reading : ℕ) (rest : RestsOver loses old) (may : MayBeCalled old call) (done : HasDone old.desk d (events.Ask call reading)) where
   abbrev event : Event
   event = events.Ask call reading
 
@@ -97,13 +100,19 @@ module _ {C : Type 0} (old : SessionMeaning C) (d : DeskMeaning C) (c : Coordina
   away : (number : ℕ) → is_on_way number d ≡ false
   away = none_away d (ap (λ (x : DeskMeaning C). x.posted) done.rest ∙ rest.posted) (ap (λ (x : DeskMeaning C). x.replies) done.rest ∙ rest.replies)
 
-  left_on : HasLeft d.log.part.own old.jobs
+  left_on : HasLeft loses d.log.part.own old.jobs
   left_on =
       let has : HasJobs old.jobs (known_of d.log.part.own) = subst (HasJobs old.jobs) (sym known_is) (jobs_asked old.jobs k call reading (record { numbers = rest.waiting.numbers; left = rest.waiting.each })) in
-      record { left = jobs_then old.desk.log d.log event done.entered ∙ rest.waiting.left; numbers = has.numbers; each = has.left }
+      record { left = λ is. jobs_then old.desk.log d.log event done.entered ∙ rest.waiting.left is; numbers = has.numbers; each = has.left }
 
-  later_same : (number : ℕ) → waits_aside number d ≡ has_waited number old.coordinator.later
-  later_same number = ap (λ (x : DeskMeaning C). waits_aside number x) done.rest ∙ rest.aside number
+  later_aside : (number : ℕ) → has_waited number old.coordinator.later ≡ true → waits_aside number d ≡ true
+  later_aside number waits = ap (λ (x : DeskMeaning C). waits_aside number x) done.rest ∙ rest.aside number waits
+
+  later_same : loses ≡ false → (number : ℕ) → waits_aside number d ≡ has_waited number old.coordinator.later
+  later_same is number = ap (λ (x : DeskMeaning C). waits_aside number x) done.rest ∙ rest.just is number
+
+  none_lost_then : (number : ℕ) → has_lost number d ≡ false
+  none_lost_then number = ap (has_lost number) done.rest ∙ ap (list_any (λ n. n == number)) rest.lost
 
   own_is : d.log.part.own ≡ old.desk.log.part.own ++ p ∷ []
   own_is = grown_asked.own
@@ -114,15 +123,15 @@ module _ {C : Type 0} (old : SessionMeaning C) (d : DeskMeaning C) (c : Coordina
   module _ (learns : (loses : Bool) (k : Known) (p : Pair Event) → Knows loses old.coordinator k → IsAsked old.coordinator call reading k p → Knows loses c (learn p k))
       (waits : (loses : Bool) (k : Known) (p : Pair Event) → Knows loses old.coordinator k → IsAsked old.coordinator call reading k p → AwaitsOutbox old.coordinator.later c.due)
       (left : (number : ℕ) → has_waited number c.later ≡ true → has_waited number old.coordinator.later ≡ true) where
-    knows_then : Knows false c (known_of d.log.part.own)
-    knows_then = subst (Knows false c) (sym (known_after_it old.desk.log d.log event done.entered)) (learns false k p rest.one.knows is_asked)
+    knows_then : Knows loses c (known_of d.log.part.own)
+    knows_then = subst (Knows loses c) (sym (known_after_it old.desk.log d.log event done.entered)) (learns loses k p rest.one.knows is_asked)
 
     -- only what was set aside is waited for
     awaits_aside : (number : ℕ) → awaits_number number c.due ≡ true → waits_aside number d ≡ true
-    awaits_aside number on = later_same number ∙ waits false k p rest.one.knows is_asked number on
+    awaits_aside number on = later_aside number (waits loses k p rest.one.knows is_asked number on)
 
-    way_is : (number : ℕ) → is_on_way number d ≡ (awaits_number number c.due && not (waits_aside number d))
-    way_is number = away number ∙ by (awaits_number number c.due) (waits_aside number d) (awaits_aside number)
+    way_is : (number : ℕ) → (is_on_way number d || has_lost number d) ≡ (awaits_number number c.due && not (waits_aside number d))
+    way_is number = ap (λ b. b || has_lost number d) (away number) ∙ (none_lost_then number ∙ by (awaits_number number c.due) (waits_aside number d) (awaits_aside number))
       where
         by : (w a : Bool) → (w ≡ true → a ≡ true) → false ≡ (w && not a)
         by true true on = refl
@@ -141,23 +150,29 @@ module _ {C : Type 0} (old : SessionMeaning C) (d : DeskMeaning C) (c : Coordina
     opened_then : (known_of d.log.part.own).statement ≡ Some (record { call = call; reading = reading })
     opened_then = ap (λ (k : Known). k.statement) known_is
 
-    epoch_then : (number : ℕ) → waits_aside number d ≡ true → IsOfOpenEpoch (known_of d.log.part.own) number
-    epoch_then number aside =
-        let of = rest_epoch old rest.track rest.one.knows rest.closed number (sym (later_same number) ∙ aside) in
-        subst (λ k. IsOfOpenEpoch k number) (sym known_is) (record { t = of.t; opened = of.opened; puts = of.puts })
+    -- over a wire that loses nothing
+    module _ (is : loses ≡ false) where
+      knows_quietly : Knows false c (known_of d.log.part.own)
+      knows_quietly = subst (λ b. Knows b c (known_of d.log.part.own)) is knows_then
 
-    aside_then : HasAsideInCall asked_then
-    aside_then = record {
-      waits = λ number waits. inl (later_same number ∙ left number waits);
-      why = λ number aside. aside_why asked_then done.track knows_then (record { call = call; reading = reading }) opened_then outside_then apart_then sent_then number aside (epoch_then number aside);
-      epoch = epoch_then;
-    }
+      epoch_then : (number : ℕ) → waits_aside number d ≡ true → IsOfOpenEpoch (known_of d.log.part.own) number
+      epoch_then number aside =
+          let of = rest_epoch old rest.track (subst (λ b. Knows b old.coordinator k) is rest.one.knows) rest.closed number (sym (later_same is number) ∙ aside) in
+          subst (λ k. IsOfOpenEpoch k number) (sym known_is) (record { t = of.t; opened = of.opened; puts = of.puts })
+
+      aside_then : HasAsideInCall asked_then
+      aside_then = record {
+        waits = λ number waits. inl (later_aside number (left number waits));
+        why = λ number aside. aside_why asked_then done.track (subst LosesNothing (sym (verdicts_same old.desk.log d.log (p ∷ []) grown_asked)) (rest.one.quiet is)) knows_quietly (record { call = call; reading = reading }) opened_then outside_then apart_then sent_then number aside (epoch_then number aside);
+        epoch = epoch_then;
+      }
 
     -- the call is open
-    pub asked_open : c.session ≡ old.coordinator.session → c.splits ≡ old.coordinator.splits → c.pipelining ≡ old.coordinator.pipelining → HasOpenCall asked_then reading
+    pub asked_open : c.session ≡ old.coordinator.session → c.splits ≡ old.coordinator.splits → c.pipelining ≡ old.coordinator.pipelining → HasCallOver loses asked_then reading
     asked_open session splits pipelines = record {
       track = done.track;
       one = one_on old.desk d old.coordinator c (p ∷ []) grown_asked rest.one session splits pipelines knows_then;
+      waits = λ number waits. inl (later_aside number (left number waits));
       way = way_is;
       aside = aside_then;
       sent = sent_then;
@@ -165,25 +180,29 @@ module _ {C : Type 0} (old : SessionMeaning C) (d : DeskMeaning C) (c : Coordina
       opened = opened_then;
       outside = outside_then;
       apart = apart_then;
-      kinds = λ number request on. absurd (let e : true ≡ false = sym on ∙ away number in cc e);
+      kinds = λ is number request on. absurd (let e : true ≡ false = sym on ∙ away number in cc e);
       waiting = left_on;
-      goes_out = λ ends. absurd (ends_otherwise old.desk.log.part.own d.log.part.own p own_is (λ sends. sends) ends);
+      goes_out = λ is ends. absurd (ends_otherwise old.desk.log.part.own d.log.part.own p own_is (λ sends. sends) ends);
       joins = λ silent number waits aside. subst EndsUnheard (sym own_is) (unheard_push old.desk.log.part.own p (λ hears. hears));
       behind = subst (WaitsBehindHeard (IsWaitedFor c)) (sym own_is)
           (behind_still old.desk.log.part.own (p ∷ []) (λ number. has_waited number old.coordinator.later ≡ true) (IsWaitedFor c) rest.behind (λ number waited. elim waited [
-            | inl on ↦ waits false k p rest.one.knows is_asked number on
+            | inl on ↦ waits loses k p rest.one.knows is_asked number on
             | inr later ↦ left number later
           ]) (ap (λ own. (known_of own).sent) (sym own_is) ∙ ap (λ (k : Known). k.sent) known_is) (ap (λ own. (known_of own).heard) (sym own_is) ∙ ap (λ (k : Known). k.heard) known_is)
           (λ t opened. (t, sym (ap open_txn (ap known_of (sym own_is) ∙ known_is)) ∙ opened, refl)));
-      turn = asked_turn c (known_of d.log.part.own) knows_then none_sent (ap (λ (k : Known). k.heard_now) known_is);
+      turn = λ is. asked_turn c (known_of d.log.part.own) (knows_quietly is) none_sent (ap (λ (k : Known). k.heard_now) known_is);
     }
 
   -- no wave is half heard, nor one of puts
   pub asked_between : IsBetweenWaves d
   asked_between = record {
-    ends = ends_where_heard d.log.part.own (all_heard d done.track away);
-    puts = subst EndsPutWaves (sym own_is) (puts_asked old.desk.log.part.own p call reading refl);
     none_waits = ap (λ (x : DeskMeaning C). x.replies) done.rest ∙ rest.replies;
+    none_lost = ap (λ (x : DeskMeaning C). x.lost) done.rest ∙ rest.lost;
+    quiet = λ quiet. record {
+      ends = ends_where_heard d.log.part.own (all_heard d done.track quiet away);
+      puts = subst EndsPutWaves (sym own_is) (puts_asked old.desk.log.part.own p call reading refl);
+      none_waits = ap (λ (x : DeskMeaning C). x.replies) done.rest ∙ rest.replies;
+    };
   }
 
   -- nothing waits to be evaluated
@@ -238,3 +257,15 @@ module _ {C : Type 0} (old : SessionMeaning C) (d : DeskMeaning C) (c : Coordina
           };
           just = whole;
         }
+
+-- the session is in its call, over its own wire
+pub asks_open : {C : Type 0} (old : SessionMeaning C) (d : DeskMeaning C) (c : Coordination) (call : Call) (reading : ℕ) (rest : IsAtRest old) (may : MayBeCalled old call) (done : HasDone old.desk d (events.Ask call reading))
+    → ((loses : Bool) (k : Known) (p : Pair Event) → Knows loses old.coordinator k → IsAsked old.coordinator call reading k p → Knows loses c (learn p k))
+    → ((loses : Bool) (k : Known) (p : Pair Event) → Knows loses old.coordinator k → IsAsked old.coordinator call reading k p → AwaitsOutbox old.coordinator.later c.due)
+    → ((number : ℕ) → has_waited number c.later ≡ true → has_waited number old.coordinator.later ≡ true) → c.session ≡ old.coordinator.session → c.splits ≡ old.coordinator.splits → c.pipelining ≡ old.coordinator.pipelining → HasOpenCall (asked_then old d c call reading rest.any may done) reading
+asks_open old d c call reading rest may done learns waits left session splits pipelines = record {
+  any = asked_open old d c call reading rest.any may done learns waits left session splits pipelines;
+  quiet = λ quiet.
+      let over = rest.quiet (subst LosesNothing (verdicts_same old.desk.log d.log (p old d c call reading rest.any may done ∷ []) (grown_asked old d c call reading rest.any may done)) quiet) in
+      asked_open old d c call reading over may done learns waits left session splits pipelines;
+}

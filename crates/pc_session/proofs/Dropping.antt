@@ -1,5 +1,5 @@
 -- A session in its call once what was set aside was evaluated, and its replies dropped.
-use Rattle.std.proofs.Common.{◌≡◌, ℕ, Bool, true, false, ◌&&◌, not, inl, inr, All, List, [], ◌==◌, Option, None, Some, refl, sym, ap, subst, ◌∙◌, ◌∷◌, cond, Contains, ◌<◌, Result, Ok, Err, IfOk, IfErr, ◌++◌}
+use Rattle.std.proofs.Common.{◌≡◌, ℕ, Bool, true, false, ◌&&◌, not, inl, inr, All, List, [], ◌==◌, Option, None, Some, refl, sym, ap, subst, ◌∙◌, ◌∷◌, cond, Contains, ◌<◌, Result, Ok, Err, IfOk, IfErr, ◌++◌, ◌||◌}
 use Rattle.std.proofs.lemmas.List.Elements.{All-nil, All-weaker, All-contains}
 use Rattle.std.specs.List.{list_any}
 use Rattle.pc_call.specs.declared.later.LaterPut.{LaterPut}
@@ -8,8 +8,8 @@ use Rattle.pc_coord.specs.Coordination.{Coordination, awaits_number, next_of}
 use Rattle.pc_coord.specs.declared.due.Due.TheVariants as dues
 use Rattle.pc_coord.specs.Knows.{IsHeld, IsOutboxOf, Knows, KnowsAt, learned, TellsNow, MayCome}
 use Rattle.pc_desk.specs.Aside.{HasDropped}
-use Rattle.pc_desk.specs.Desk.{DeskMeaning, Posted, is_on_way, HasHalted}
-use Rattle.pc_desk.specs.OwnLog.{LogMeaning}
+use Rattle.pc_desk.specs.Desk.{DeskMeaning, Posted, is_on_way, HasHalted, has_lost}
+use Rattle.pc_desk.specs.OwnLog.{LogMeaning, verdict_of}
 use Rattle.pc_exchange.proofs.Growing.{grows_else, grows_both, knows_more}
 use Rattle.pc_exchange.specs.Growing.{HasGrownBy}
 use Rattle.pc_follows.specs.AgainInOneWave.{EndsWithSending}
@@ -21,7 +21,7 @@ use Rattle.pc_proto.specs.declared.event.Event.{Event}
 use Rattle.pc_proto.specs.declared.event.Event.TheVariants as events
 use Rattle.pc_session.proofs.Away.{none_posted, aside_sent, none_away}
 use Rattle.pc_session.proofs.Inside.{one_on, halted_on, asked_on}
-use Rattle.pc_session.specs.InCall.{HasGoneInside, HasOpenCall, IsApartNow, IsBetweenWaves, IsHeardOrAway, ends_epoch, IsWaitedFor, LeavesStrays, IsOfOpenEpoch, HasAsked, HasDroppedAtMost, HasTold, GoesOnOrTold}
+use Rattle.pc_session.specs.InCall.{HasGoneInside, HasOpenCall, IsApartNow, IsBetweenWaves, IsHeardOrAway, ends_epoch, IsWaitedFor, LeavesStrays, IsOfOpenEpoch, HasAsked, HasDroppedAtMost, HasTold, GoesOnOrTold, HasCallOver, EndsPutsQuietly, HasPutsAside, MayComeNow}
 use Rattle.pc_session.specs.InTurn.{KeepsTurn}
 use Rattle.pc_session.specs.Session.{HasLeft, SessionMeaning, waits_aside, session_knows}
 use Rattle.pc_turns.specs.Order.{IsInBetween}
@@ -53,6 +53,8 @@ use Rattle.pc_coord.specs.declared.next.Next.TheVariants as nexts
 use Rattle.pc_desk.specs.Ending.{EndsOnly, HasEnded, HasMadeLast}
 use Rattle.pc_history.specs.Parts.{knowledge}
 use Rattle.pc_session.proofs.Due.{tell_due}
+use Rattle.pc_desk.specs.Keeping.{LosesNothing}
+use Rattle.pc_wire.specs.Verdicts.{is_losing}
 
 -- a restart leaves no writes
 restart_writes : (key : List ℕ) (ts : ℕ) (replied : List Heard) (b : Bool) (txns : List Txn) (t : Txn) → first_if b (cond b (told_first (answers.Restart key ts) replied txns) txns) ≡ Some t → t.writes ≡ []
@@ -65,29 +67,29 @@ none_stands : (k : Known) (t : Txn) (x : OpenTxn) (number : ℕ) (later : List L
 none_stands k t x number [] stands none = refl
 none_stands k t x number (put ∷ later) stands none = absurd (none stands.0.w stands.0.there)
 
-closed_some : (k : Known) (number : ℕ) (later : List LaterPut) (answer : Answer) → ends_epoch answer ≡ true → (x : OpenTxn) → IsHeld (Some x) (learned (events.Tell answer) k) → HasOutboxBetween false (learned (events.Tell answer) k) x later → has_waited number later ≡ false
-closed_some k number later (answers.Restart key ts) ends x held outbox =
+closed_some : (loses : Bool) (k : Known) (number : ℕ) (later : List LaterPut) (answer : Answer) → ends_epoch answer ≡ true → (x : OpenTxn) → IsHeld (Some x) (learned (events.Tell answer) k) → HasOutboxBetween loses (learned (events.Tell answer) k) x later → has_waited number later ≡ false
+closed_some loses k number later (answers.Restart key ts) ends x held outbox =
     let told : Known = learned (events.Tell (answers.Restart key ts)) k in
     let none : held.t.writes ≡ [] = restart_writes key ts (replies_to k.sent_now k.heard_now) k.is_open k.txns held.t (open_is told held.t held.open_in) in
     none_stands told outbox.t x number later outbox.stands (λ w there.
     let one = known_one told [] None held.t x held.stands w there in
     contains_nil one.w (subst (λ ws. Contains ws one.w) none one.written))
-closed_some k number later (answers.Committed id ts) ends x held outbox = absurd (let e : false ≡ true = held.open_in.is_open in cc e)
-closed_some k number later (answers.RolledBack id why) ends x held outbox = absurd (let e : false ≡ true = held.open_in.is_open in cc e)
-closed_some k number later (answers.Aborted why) ends x held outbox = absurd (let e : false ≡ true = held.open_in.is_open in cc e)
-closed_some k number later (answers.Unknown id) ends x held outbox = absurd (let e : false ≡ true = held.open_in.is_open in cc e)
-closed_some k number later answer ends x held outbox = absurd cc
+closed_some loses k number later (answers.Committed id ts) ends x held outbox = absurd (let e : false ≡ true = held.open_in.is_open in cc e)
+closed_some loses k number later (answers.RolledBack id why) ends x held outbox = absurd (let e : false ≡ true = held.open_in.is_open in cc e)
+closed_some loses k number later (answers.Aborted why) ends x held outbox = absurd (let e : false ≡ true = held.open_in.is_open in cc e)
+closed_some loses k number later (answers.Unknown id) ends x held outbox = absurd (let e : false ≡ true = held.open_in.is_open in cc e)
+closed_some loses k number later answer ends x held outbox = absurd cc
 
 -- once an answer is due that ends its transaction, or an epoch of it, no put waits in the outbox
-pub cleared : (c : Coordination) (k : Known) (answer : Answer) → Knows false c k → c.due ≡ dues.Tell answer → ends_epoch answer ≡ true → (number : ℕ) → has_waited number c.later ≡ false
-cleared c k answer knows due ends number = by c.txn at.after.held at.after.outbox
+pub cleared : {loses : Bool} (c : Coordination) (k : Known) (answer : Answer) → Knows loses c k → c.due ≡ dues.Tell answer → ends_epoch answer ≡ true → (number : ℕ) → has_waited number c.later ≡ false
+cleared {loses} c k answer knows due ends number = by c.txn at.after.held at.after.outbox
   where
-    at : KnowsAt false c k (dues.Tell answer)
-    at = subst (KnowsAt false c k) due knows.stands
+    at : KnowsAt loses c k (dues.Tell answer)
+    at = subst (KnowsAt loses c k) due knows.stands
 
-    by : (txn : Option OpenTxn) → IsHeld txn (learned (events.Tell answer) k) → IsOutboxOf false txn c.later (learned (events.Tell answer) k) → has_waited number c.later ≡ false
+    by : (txn : Option OpenTxn) → IsHeld txn (learned (events.Tell answer) k) → IsOutboxOf loses txn c.later (learned (events.Tell answer) k) → has_waited number c.later ≡ false
     by None held outbox = ap (has_waited number) outbox.0
-    by (Some x) held outbox = closed_some k number c.later answer ends x held outbox
+    by (Some x) held outbox = closed_some loses k number c.later answer ends x held outbox
 
 -- ---- the desk once they were dropped
 
@@ -160,7 +162,11 @@ none_ends old new Is halts.Stopped ends = λ going. absurd (let m : HasMadeLast 
 none_ends old new Is (halts.Full actor) ends = ends
 none_ends old new Is halts.NoMemory ends = λ going. tt
 
-module _ {C : Type 0} (old : SessionMeaning C) (reading : ℕ) (calls_are : HasOpenCall old reading) (quiet : (number : ℕ) → awaits_number number old.coordinator.due ≡ false) (e : DeskMeaning C) (dropped : HasDropped old.desk e) (all : e.later ≡ [])
+first_none : (a b : Bool) → (a || b) ≡ false → a ≡ false
+first_none true b f = absurd cc
+first_none false b f = refl
+
+module _ {C : Type 0} {loses : Bool} (old : SessionMeaning C) (reading : ℕ) (calls_are : HasCallOver loses old reading) (quiet : (number : ℕ) → awaits_number number old.coordinator.due ≡ false) (e : DeskMeaning C) (dropped : HasDropped old.desk e) (all : e.later ≡ [])
     (waits : (number : ℕ) → has_waited number old.coordinator.later ≡ true → call_of (session_knows old) ≡ Some calls.Rollback) (no_written : old.coordinator.due ≡ dues.Tell answers.Written → ⊥) where
   -- The session after it.
   abbrev pub dropped_then : SessionMeaning C
@@ -181,34 +187,45 @@ module _ {C : Type 0} (old : SessionMeaning C) (reading : ℕ) (calls_are : HasO
   way_same : (n : ℕ) → is_on_way n e ≡ is_on_way n old.desk
   way_same n = ap (λ (x : DeskMeaning C). is_on_way n x) dropped.rest
 
+  lost_same : (n : ℕ) → has_lost n e ≡ has_lost n old.desk
+  lost_same n = ap (λ (x : DeskMeaning C). has_lost n x) dropped.rest
+
+  none_out : (n : ℕ) → (is_on_way n old.desk || has_lost n old.desk) ≡ false
+  none_out n = calls_are.way n ∙ ap (λ b. b && not (waits_aside n old.desk)) (quiet n)
+
   away : (n : ℕ) → is_on_way n old.desk ≡ false
-  away n = calls_are.way n ∙ ap (λ b. b && not (waits_aside n old.desk)) (quiet n)
+  away n = first_none (is_on_way n old.desk) (has_lost n old.desk) (none_out n)
+
+  verdicts : verdict_of e.log ≡ verdict_of old.desk.log
+  verdicts = ap (λ (l : LogMeaning C). verdict_of l) dropped.own
 
   sent_still : (m : Sent) → IsHeardOrAway old m → IsHeardOrAway dropped_then m
   sent_still m (inl heard) = inl (ap (λ (k : Known). is_heard k.heard_now m) known_same ∙ heard)
   sent_still m (inr (inl on)) = inr (inl (way_same m.number ∙ on))
-  sent_still m (inr (inr told)) = absurd (no_written told.1)
+  sent_still m (inr (inr (inl lost))) = inr (inr (inl (subst (λ verdict. is_losing (verdict m.number) ≡ true) (sym verdicts) lost)))
+  sent_still m (inr (inr (inr told))) = absurd (no_written told.1)
 
   -- the call goes on
-  pub dropped_open : HasOpenCall dropped_then reading
+  pub dropped_open : HasCallOver loses dropped_then reading
   dropped_open = record {
     track = dropped.track;
-    one = one_on old.desk e old.coordinator old.coordinator [] grown calls_are.one refl refl refl (subst (Knows false old.coordinator) (sym known_same) calls_are.one.knows);
-    way = λ n. way_same n ∙ (away n ∙ sym (ap (λ b. b && not (waits_aside n e)) (quiet n)));
-    aside = record {
+    one = one_on old.desk e old.coordinator old.coordinator [] grown calls_are.one refl refl refl (subst (Knows loses old.coordinator) (sym known_same) calls_are.one.knows);
+    way = λ n. ap (λ b. b || has_lost n e) (way_same n) ∙ (ap (λ b. is_on_way n old.desk || b) (lost_same n) ∙ (none_out n ∙ sym (ap (λ b. b && not (waits_aside n e)) (quiet n))));
+    waits = λ n has. inr (ap call_of known_same ∙ waits n has);
+    aside = λ is. record {
       waits = λ n has. inr (ap call_of known_same ∙ waits n has);
-      why = λ n is. absurd (let f : true ≡ false = sym is ∙ none_aside n in cc f);
-      epoch = λ n is. absurd (let f : true ≡ false = sym is ∙ none_aside n in cc f);
+      why = λ n there. absurd (let f : true ≡ false = sym there ∙ none_aside n in cc f);
+      epoch = λ n there. absurd (let f : true ≡ false = sym there ∙ none_aside n in cc f);
     };
     sent = subst (λ k. All (IsHeardOrAway dropped_then) k.sent_now) (sym known_same) (All-weaker (IsHeardOrAway old) (IsHeardOrAway dropped_then) sent_still (session_knows old).sent_now calls_are.sent);
     call = calls_are.call;
     opened = ap (λ (k : Known). k.statement) known_same ∙ calls_are.opened;
     outside = λ outside. ap (λ (k : Known). k.is_open) known_same ∙ calls_are.outside outside;
     apart = subst IsApartNow (sym known_same) calls_are.apart;
-    kinds = λ n q on said. absurd (let f : true ≡ false = sym on ∙ (way_same n ∙ away n) in cc f);
-    waiting = subst (λ own. HasLeft own old.jobs) (sym own_same) calls_are.waiting;
-    turn = subst (λ k. KeepsTurn old.coordinator.pipelining k old.coordinator.due) (sym known_same) calls_are.turn;
-    goes_out = λ ends. calls_are.goes_out (subst EndsWithSending own_same ends);
+    kinds = λ is n q on said. absurd (let f : true ≡ false = sym on ∙ (way_same n ∙ away n) in cc f);
+    waiting = subst (λ own. HasLeft loses own old.jobs) (sym own_same) calls_are.waiting;
+    turn = λ is. subst (λ k. KeepsTurn old.coordinator.pipelining k old.coordinator.due) (sym known_same) (calls_are.turn is);
+    goes_out = λ is ends. calls_are.goes_out is (subst EndsWithSending own_same ends);
     behind = subst (WaitsBehindHeard (IsWaitedFor old.coordinator)) (sym own_same) calls_are.behind;
     joins = λ silent n on is. absurd (let f : true ≡ false = sym is ∙ none_aside n in cc f);
   }
@@ -225,14 +242,20 @@ module _ {C : Type 0} (old : SessionMeaning C) (reading : ℕ) (calls_are : HasO
 
   pub dropped_between : IsBetweenWaves old.desk → IsBetweenWaves e
   dropped_between between = record {
-    ends = subst EndsWaves (sym own_same) between.ends;
-    puts = subst EndsPutWaves (sym own_same) between.puts;
     none_waits = ap (λ (x : DeskMeaning C). x.replies) dropped.rest ∙ between.none_waits;
+    none_lost = ap (λ (x : DeskMeaning C). x.lost) dropped.rest ∙ between.none_lost;
+    quiet = λ still.
+        let was = between.quiet (subst LosesNothing verdicts still) in
+        record {
+          ends = subst EndsWaves (sym own_same) was.ends;
+          puts = subst EndsPutWaves (sym own_same) was.puts;
+          none_waits = ap (λ (x : DeskMeaning C). x.replies) dropped.rest ∙ was.none_waits;
+        };
   }
 
 -- nothing waits to be evaluated where no reply is waited for
-pub quiet_posted : {C : Type 0} (s : SessionMeaning C) (reading : ℕ) → HasOpenCall s reading → ((number : ℕ) → awaits_number number s.coordinator.due ≡ false) → s.desk.posted ≡ []
-quiet_posted s reading calls_are quiet = none_posted s.desk (λ n. calls_are.way n ∙ ap (λ b. b && not (waits_aside n s.desk)) (quiet n))
+pub quiet_posted : {C : Type 0} {loses : Bool} (s : SessionMeaning C) (reading : ℕ) → HasCallOver loses s reading → ((number : ℕ) → awaits_number number s.coordinator.due ≡ false) → s.desk.posted ≡ []
+quiet_posted s reading calls_are quiet = none_posted s.desk (λ n. first_none (is_on_way n s.desk) (has_lost n s.desk) (calls_are.way n ∙ ap (λ b. b && not (waits_aside n s.desk)) (quiet n)))
 
 -- an answer that ends an epoch is not that a put was written
 pub ends_unwritten : (c : Coordination) (answer : Answer) → c.due ≡ dues.Tell answer → ends_epoch answer ≡ true → c.due ≡ dues.Tell answers.Written → ⊥
@@ -243,7 +266,7 @@ ends_unwritten c answer due ends told =
 
 -- ---- before an answer is told
 
-module _ {C : Type 0} (s : SessionMeaning C) (reading : ℕ) (answer : Answer) (calls_are : HasOpenCall s reading) (due : s.coordinator.due ≡ dues.Tell answer) where
+module _ {C : Type 0} {loses : Bool} (s : SessionMeaning C) (reading : ℕ) (answer : Answer) (calls_are : HasCallOver loses s reading) (due : s.coordinator.due ≡ dues.Tell answer) where
   abbrev known : Known
   known = session_knows s
 
@@ -260,8 +283,8 @@ module _ {C : Type 0} (s : SessionMeaning C) (reading : ℕ) (answer : Answer) (
 
   -- else what was set aside waits in the outbox
   module _ (goes_on : ends_epoch answer ≡ false) where
-    abbrev at : TellsNow false s.coordinator known answer
-    at = subst (KnowsAt false s.coordinator known) due calls_are.one.knows.stands
+    abbrev at : TellsNow loses s.coordinator known answer
+    at = subst (KnowsAt loses s.coordinator known) due calls_are.one.knows.stands
 
     asked : call_of known ≡ Some calls.Rollback → at.may.may.s.call ≡ calls.Rollback
     asked rolls = same_Some at.may.may.s.call calls.Rollback (sym (ap call_in at.may.may.opened) ∙ rolls)
@@ -278,7 +301,7 @@ module _ {C : Type 0} (s : SessionMeaning C) (reading : ℕ) (answer : Answer) (
         rolls_begins id ts is =
             begun_apart s.coordinator.splits s.coordinator.session known at.may.may.s id ts (asked rolls) (subst (λ a. MayTellIn s.coordinator.splits (actors.Session s.coordinator.session) known at.may.may.s a) is at.may.may.told)
 
-        by : (txn : Option OpenTxn) → IsHeld txn (learned (events.Tell answer) known) → IsOutboxOf false txn s.coordinator.later (learned (events.Tell answer) known) → ⊥
+        by : (txn : Option OpenTxn) → IsHeld txn (learned (events.Tell answer) known) → IsOutboxOf loses txn s.coordinator.later (learned (events.Tell answer) known) → ⊥
         by None held outbox = let e : true ≡ false = sym has ∙ ap (has_waited number) outbox.0 in cc e
         by (Some x) held outbox = rolls_open rolls (was_open answer known.is_open goes_on rolls_begins held.open_in.is_open)
 
@@ -287,31 +310,36 @@ module _ {C : Type 0} (s : SessionMeaning C) (reading : ℕ) (answer : Answer) (
     not_stray number of None is stray = let e : true ≡ false = sym stray ∙ goes_on in cc e
     not_stray number of (Some call) is stray = let e : true ≡ false = sym stray ∙ goes_on in cc e
 
-    pub on_aside : (number : ℕ) → waits_aside number s.desk ≡ has_waited number s.coordinator.later
-    on_aside number = by (waits_aside number s.desk) (has_waited number s.coordinator.later) refl refl
+    -- each put that waits there was set aside
+    pub on_waits : (number : ℕ) → has_waited number s.coordinator.later ≡ true → waits_aside number s.desk ≡ true
+    on_waits number has = elim (calls_are.waits number has) [
+      | inl is ↦ is
+      | inr rolls ↦ absurd (rolls_never number has rolls)
+    ]
+
+    -- and where nothing is lost, no others were
+    pub on_aside : loses ≡ false → (number : ℕ) → waits_aside number s.desk ≡ has_waited number s.coordinator.later
+    on_aside quiet number = by (waits_aside number s.desk) (has_waited number s.coordinator.later) refl refl
       where
         by : (a b : Bool) → waits_aside number s.desk ≡ a → has_waited number s.coordinator.later ≡ b → waits_aside number s.desk ≡ has_waited number s.coordinator.later
         by true true x y = x ∙ sym y
         by false false x y = x ∙ sym y
-        by false true x y = elim (calls_are.aside.waits number y) [
-          | inl is ↦ is ∙ sym y
-          | inr rolls ↦ absurd (rolls_never number y rolls)
-        ]
-        by true false x y = elim (calls_are.aside.why number x) [
+        by false true x y = on_waits number y ∙ sym y
+        by true false x y = elim ((calls_are.aside quiet).why number x) [
           | inl waits ↦ x ∙ sym waits
           | inr (inl on) ↦ absurd (let e : true ≡ false = sym on ∙ none_awaited number in cc e)
-          | inr (inr stray) ↦ absurd (not_stray number (calls_are.aside.epoch number x) (call_of known) refl (subst (LeavesStrays (call_of known)) due stray))
+          | inr (inr stray) ↦ absurd (not_stray number ((calls_are.aside quiet).epoch number x) (call_of known) refl (subst (LeavesStrays (call_of known)) due stray))
         ]
 
 -- ---- behind a rollback's asking
 
-module _ {C : Type 0} (s : SessionMeaning C) (reading : ℕ) (calls_are : HasOpenCall s reading) (between : IsBetweenWaves s.desk) (posted : s.desk.posted ≡ []) (rolls : call_of (session_knows s) ≡ Some calls.Rollback) where
+module _ {C : Type 0} {loses : Bool} (s : SessionMeaning C) (reading : ℕ) (calls_are : HasCallOver loses s reading) (between : IsBetweenWaves s.desk) (posted : s.desk.posted ≡ []) (rolls : call_of (session_knows s) ≡ Some calls.Rollback) where
   -- no reply is waited for: what would be were puts
   pub rolls_quiet : (number : ℕ) → awaits_number number s.coordinator.due ≡ false
   rolls_quiet number = by (awaits_number number s.coordinator.due) refl
     where
-      none_on : is_on_way number s.desk ≡ false
-      none_on = none_away s.desk posted between.none_waits number
+      none_on : (is_on_way number s.desk || has_lost number s.desk) ≡ false
+      none_on = ap (λ b. b || has_lost number s.desk) (none_away s.desk posted between.none_waits number) ∙ ap (list_any (λ n. n == number)) between.none_lost
 
       aside_of : awaits_number number s.coordinator.due ≡ true → waits_aside number s.desk ≡ true
       aside_of on = not_not (waits_aside number s.desk) (sym (ap (λ b. b && not (waits_aside number s.desk)) on) ∙ (sym (calls_are.way number) ∙ none_on))
@@ -330,7 +358,7 @@ module _ {C : Type 0} (s : SessionMeaning C) (reading : ℕ) (calls_are : HasOpe
   -- and the call is not to be told that a put was written
   pub rolls_unwritten : s.coordinator.due ≡ dues.Tell answers.Written → ⊥
   rolls_unwritten due =
-      let at : KnowsAt false s.coordinator (session_knows s) (dues.Tell answers.Written) = subst (KnowsAt false s.coordinator (session_knows s)) due calls_are.one.knows.stands in
+      let at : KnowsAt loses s.coordinator (session_knows s) (dues.Tell answers.Written) = subst (KnowsAt loses s.coordinator (session_knows s)) due calls_are.one.knows.stands in
       let may = at.may.may in
       let asked : may.s.call ≡ calls.Rollback = same_Some may.s.call calls.Rollback (sym (ap call_in may.opened) ∙ rolls) in
       never_written s.coordinator.splits (actors.Session s.coordinator.session) (session_knows s) may.s asked may.told
@@ -342,19 +370,22 @@ module _ {C : Type 0} (old s : SessionMeaning C) (reading : ℕ) (call : Call) (
   -- the call goes on behind it, what was set aside dropped
   module _ (e : DeskMeaning C) (dropped : HasDropped s.desk e) (all : e.later ≡ []) where
     quiet : (number : ℕ) → awaits_number number s.coordinator.due ≡ false
-    quiet = rolls_quiet s reading calls_are between posted rolls_back
+    quiet = rolls_quiet s reading calls_are.any between posted rolls_back
 
     unwritten : s.coordinator.due ≡ dues.Tell answers.Written → ⊥
-    unwritten = rolls_unwritten s reading calls_are between posted rolls_back
+    unwritten = rolls_unwritten s reading calls_are.any between posted rolls_back
 
     pub rolled_open : HasOpenCall (record s { desk = e }) reading
-    rolled_open = dropped_open s reading calls_are quiet e dropped all (λ n has. rolls_back) unwritten
+    rolled_open = record {
+      any = dropped_open s reading calls_are.any quiet e dropped all (λ n has. rolls_back) unwritten;
+      quiet = λ still. dropped_open s reading (calls_are.quiet (subst LosesNothing (ap (λ (l : LogMeaning C). verdict_of l) dropped.own) still)) quiet e dropped all (λ n has. rolls_back) unwritten;
+    }
 
     pub rolled_asked : HasAsked old (record s { desk = e }) call reading
-    rolled_asked = asked_on old s (record s { desk = e }) call reading asked (dropped_goes s reading calls_are quiet e dropped all (λ n has. rolls_back) unwritten)
+    rolled_asked = asked_on old s (record s { desk = e }) call reading asked (dropped_goes s reading calls_are.any quiet e dropped all (λ n has. rolls_back) unwritten)
 
     pub rolled_between : IsBetweenWaves e
-    rolled_between = dropped_between s reading calls_are quiet e dropped all (λ n has. rolls_back) unwritten between
+    rolled_between = dropped_between s reading calls_are.any quiet e dropped all (λ n has. rolls_back) unwritten between
 
 -- ---- behind the dropping, before an answer that ends an epoch
 
@@ -363,23 +394,38 @@ module _ {C : Type 0} (s : SessionMeaning C) (reading : ℕ) (answer : Answer) (
   due = tell_due s.coordinator answer next
 
   pub ends_posted : s.desk.posted ≡ []
-  ends_posted = quiet_posted s reading calls_are (none_awaited s reading answer calls_are due)
+  ends_posted = quiet_posted s reading calls_are.any (none_awaited s reading answer calls_are.any due)
 
   module _ (ends : ends_epoch answer ≡ true) (e : DeskMeaning C) (dropped : HasDropped s.desk e) (all : e.later ≡ []) where
+    quiet_before : LosesNothing (verdict_of e.log) → LosesNothing (verdict_of s.desk.log)
+    quiet_before quiet = subst LosesNothing (ap (λ (l : LogMeaning C). verdict_of l) dropped.own) quiet
+
+    ended_over : {loses : Bool} → HasCallOver loses s reading → HasCallOver loses (record s { desk = e }) reading
+    ended_over over = dropped_open s reading over (none_awaited s reading answer over due) e dropped all (ends_waits s reading answer over due ends) (ends_unwritten s.coordinator answer due ends)
+
     pub ended_open : HasOpenCall (record s { desk = e }) reading
-    ended_open = dropped_open s reading calls_are (none_awaited s reading answer calls_are due) e dropped all (ends_waits s reading answer calls_are due ends) (ends_unwritten s.coordinator answer due ends)
+    ended_open = record { any = ended_over calls_are.any; quiet = λ quiet. ended_over (calls_are.quiet (quiet_before quiet)) }
 
-    pub ended_puts : EndsPutWaves s.desk.log.part.own → EndsPutWaves e.log.part.own
-    ended_puts puts = subst EndsPutWaves (sym (own_as s.desk e dropped)) puts
+    pub ended_puts : EndsPutsQuietly s.desk → EndsPutsQuietly e
+    ended_puts puts = λ quiet. subst EndsPutWaves (sym (own_as s.desk e dropped)) (puts (quiet_before quiet))
 
-    pub ended_aside : (number : ℕ) → waits_aside number e ≡ has_waited number s.coordinator.later
-    ended_aside number = ends_aside s reading answer calls_are due ends e all number
+    pub ended_aside : HasPutsAside (record s { desk = e })
+    ended_aside = record {
+      waits = λ number has. absurd (let f : true ≡ false = sym has ∙ cleared s.coordinator (session_knows s) answer calls_are.any.one.knows due ends number in cc f);
+      quiet = λ quiet number. ends_aside s reading answer calls_are.any due ends e all number;
+    }
 
-    pub ended_may : MayCome false s.coordinator (session_knows s) (nexts.Tell answer) → MayCome false s.coordinator (known_of e.log.part.own) (nexts.Tell answer)
-    ended_may may = subst (λ own. MayCome false s.coordinator (known_of own) (nexts.Tell answer)) (sym (own_as s.desk e dropped)) may
+    pub ended_may : MayComeNow s (nexts.Tell answer) → MayComeNow (record s { desk = e }) (nexts.Tell answer)
+    ended_may may = (
+      subst (λ own. MayCome true s.coordinator (known_of own) (nexts.Tell answer)) (sym (own_as s.desk e dropped)) may.0,
+      λ quiet. subst (λ own. MayCome false s.coordinator (known_of own) (nexts.Tell answer)) (sym (own_as s.desk e dropped)) (may.1 (quiet_before quiet)),
+    )
 
-  pub goes_aside : ends_epoch answer ≡ false → (number : ℕ) → waits_aside number s.desk ≡ has_waited number s.coordinator.later
-  goes_aside goes_on number = on_aside s reading answer calls_are due goes_on number
+  pub goes_aside : ends_epoch answer ≡ false → HasPutsAside s
+  goes_aside goes_on = record {
+    waits = λ number has. on_waits s reading answer calls_are.any due goes_on number has;
+    quiet = λ quiet number. on_aside s reading answer (calls_are.quiet quiet) due goes_on refl number;
+  }
 
 -- ---- the answer is told behind it
 

@@ -2,20 +2,20 @@
 use Rattle.std.proofs.Common.{◌≡◌, ℕ, ◌+◌, ◌<◌, ◌≤◌, true, false, Bool, ◌==◌, ◌||◌, ◌&&◌, not, inl, inr, All, Contains, List, [], ◌∷◌, length, Option, Some, refl, sym, ap, subst, ◌∙◌, arith, ◌++◌, ◌⊎◌, IsTrue}
 use Rattle.std.proofs.lemmas.Bool.{eq-eqb, eqb-true}
 use Rattle.std.proofs.lemmas.List.{same_from_push}
-use Rattle.std.proofs.lemmas.List.Elements.{All-cons, All-contains, All-head, All-nil, Contains-push, All-weaker, Contains-append_left}
+use Rattle.std.proofs.lemmas.List.Elements.{All-cons, All-contains, All-head, All-nil, Contains-push, All-weaker, Contains-append_left, All-tail}
 use Rattle.std.specs.List.{list_any}
 use Rattle.pc_coord.specs.Coming.{ComesOf, AwaitsAfter, GoesOnBy, goes_by_sequence}
 use Rattle.pc_coord.proofs.OwnMessages.{awaited_alone}
-use Rattle.pc_coord.specs.Coordination.{Coordination, awaits_number, opened_by, SendsNoMore}
+use Rattle.pc_coord.specs.Coordination.{Coordination, awaits_number, opened_by, SendsNoMore, HasSentWave}
 use Rattle.pc_coord.specs.declared.due.Opened.{Opened}
 use Rattle.pc_coord.specs.Events.{HearsAwaited, IsAnsweredAlive}
-use Rattle.pc_coord.specs.Knows.{Knows}
+use Rattle.pc_coord.specs.Knows.{Knows, HasCallDue}
 use Rattle.pc_desk.proofs.Making.{added, known_after_it}
 use Rattle.pc_desk.proofs.Turns.{oldest_waits}
 use Rattle.pc_desk.specs.declared.answered.Answered.{Answered}
-use Rattle.pc_desk.specs.Desk.{DeskMeaning, HasDelivered, HasHeardFirst, IsAnsweredBy, KeepsTrack, MayHearNow, Posted, WaitInTurn, is_on_way}
-use Rattle.pc_desk.specs.Keeping.{KeepsSessionStep}
-use Rattle.pc_desk.specs.OwnLog.{LogMeaning}
+use Rattle.pc_desk.specs.Desk.{DeskMeaning, HasDelivered, HasHeardFirst, IsAnsweredBy, KeepsTrack, MayHearNow, Posted, WaitInTurn, is_on_way, has_lost, times_sent, heard_as_number}
+use Rattle.pc_desk.specs.Keeping.{KeepsSessionStep, LosesNothing, KeepsOverQuiet}
+use Rattle.pc_desk.specs.OwnLog.{LogMeaning, verdict_of, terms_of}
 use Rattle.pc_exchange.proofs.AnsweredAlive.{answered_alive, first_mapped}
 use Rattle.pc_exchange.proofs.Growing.{grows_else, grows_entered}
 use Rattle.pc_exchange.proofs.HeardKinds.{heard_kind, heard_past}
@@ -33,19 +33,19 @@ use Rattle.pc_proto.specs.declared.call.Call.TheVariants as call_variants
 use Rattle.pc_proto.specs.declared.request.Request.TheVariants as requests
 use Rattle.pc_range.specs.Message.{evaluation}
 use Rattle.pc_session.proofs.Again.{and_first, ends_otherwise}
-use Rattle.pc_session.proofs.Away.{all_heard, any_there, apart_heard, none_away}
+use Rattle.pc_session.proofs.Away.{all_heard, any_there, apart_heard, none_away, has_lost_none}
 use Rattle.pc_session.proofs.InTurn.{AreHeardOnce, heard_once}
-use Rattle.pc_session.proofs.Inside.{one_on, id_same}
+use Rattle.pc_session.proofs.Inside.{one_on, id_same, verdicts_same}
 use Rattle.pc_session.proofs.Jobs.{HasJobs, jobs_heard}
 use Rattle.pc_session.proofs.Keeping.{keeps_as, keeps_heard}
 use Rattle.pc_session.proofs.Knowing.{it, jobs_then, known_heard, with_heard}
 use Rattle.pc_session.proofs.TurnsOn.{heard_silent, IsOpenedAs, waits_opened}
 use Rattle.pc_session.proofs.WholeWave.{whole_heard, whole_still}
-use Rattle.pc_session.specs.InCall.{HasGoneInside, HasOpenCall, IsApartNow, IsWholeOut, HasAsideInCall, IsBetweenWaves, IsHeardOrAway, IsOfOpenEpoch, LeavesStrays, IsWaitedFor}
+use Rattle.pc_session.specs.InCall.{HasGoneInside, HasOpenCall, IsApartNow, IsWholeOut, HasAsideInCall, IsBetweenWaves, IsHeardOrAway, IsOfOpenEpoch, LeavesStrays, IsWaitedFor, HasCallOver, IsQuietWhole}
 use Rattle.pc_session.specs.InTurn.{KeepsTurn}
 use Rattle.pc_session.specs.Session.{HasLeft, SessionMeaning, session_knows, waits_aside}
 use Rattle.pc_turns.specs.Order.{IsInBetween}
-use Rattle.pc_wave.specs.Messages.{awaits_at, back_with, first_changed}
+use Rattle.pc_wave.specs.Messages.{awaits_at, back_with, first_changed, back_with_by, is_to_send}
 use Rattle.pc_wave.specs.Standing.{IsHeardTo, IsPastWhereUndecided}
 use Rattle.pc_world.specs.Answering.{MayAnswer}
 use Rattle.pc_follows.specs.AgainInOneWave.{EndsWithSending}
@@ -78,7 +78,7 @@ use Rattle.pc_follows.specs.WaveEvaluation.{IsHearingOfWave}
 use Rattle.pc_base.specs.declared.actor.ActorId.TheVariants as actors
 use Rattle.pc_call.specs.Missing.{IsAboveMisses}
 use Rattle.pc_proto.specs.Requests.{is_about}
-use Rattle.pc_proto.specs.Replies.{view_in}
+use Rattle.pc_proto.specs.Replies.{view_in, is_conflict}
 use Rattle.pc_proto.specs.Views.{is_staging_at}
 use Rattle.pc_session.proofs.Waiting.{wait_said, wait_of}
 use Rattle.pc_desk.specs.Hearing.{MayStayUnheard}
@@ -86,10 +86,35 @@ use Rattle.pc_session.proofs.Behind.{beats_behind, evaluated_past, records_behin
 use Rattle.pc_session.proofs.KeepsBehind.{behind_heard}
 use Rattle.pc_session.specs.Behind.{WaitsBehindHeard}
 use Rattle.pc_coord.proofs.Dues.{gone_out}
+use Rattle.std.specs.List.Sorted.{IsStrictlySortedBy}
+use Rattle.std.specs.Ordering.{nat_cmp}
+use Rattle.pc_desk.specs.Late.{BehindFirst, HasNoneLostFirst, HasDeliveredDue}
+use Rattle.pc_wire.specs.Verdicts.{is_losing}
+use Rattle.pc_session.proofs.Joining.{sorted_above}
+use Rattle.pc_coord.proofs.Aside.{all_changed}
+use Rattle.pc_call.specs.Serving.{IsOutOrLost}
+use Rattle.pc_wave.specs.declared.message.Message.{Message}
+use Rattle.pc_coord.specs.declared.due.Due.{Due}
+use Rattle.pc_follows.specs.WaveOrder.{EndsWaves, EndsPutWaves}
 
 -- ---- messages are evaluated
 
-module _ {C : Type 0} (old : SessionMeaning C) (reading : ℕ) (calls : HasOpenCall old reading) (d : DeskMeaning C) (made : HasDelivered old.desk d) where
+-- what is lost without the coordinator's knowing, its verdict loses
+lost_loses : {C : Type 0} (d : DeskMeaning C) → KeepsTrack d → (n : ℕ) → has_lost n d ≡ true → is_losing (verdict_of d.log n) ≡ true
+lost_loses d track n is = by d.lost track.lost.each is
+  where
+    P : ℕ → Type 0
+    P number = (is_losing (verdict_of d.log number) ≡ true) × (times_sent number (known_of d.log.part.own) ≡ 1) × (heard_as_number number (known_of d.log.part.own) ≡ 0)
+
+    by : (ns : List ℕ) → All P ns → list_any (λ x. x == n) ns ≡ true → is_losing (verdict_of d.log n) ≡ true
+    by [] all e = absurd cc
+    by (x ∷ ns) all e = first (x == n) refl (by ns (All-tail P x ns all)) e
+      where
+        first : (b : Bool) → (x == n) ≡ b → (list_any (λ x. x == n) ns ≡ true → is_losing (verdict_of d.log n) ≡ true) → (b || list_any (λ x. x == n) ns) ≡ true → is_losing (verdict_of d.log n) ≡ true
+        first true same later e = subst (λ number. is_losing (verdict_of d.log number) ≡ true) (eqb-true x n same) (All-head P x ns all).0
+        first false other later e = later e
+
+module _ {C : Type 0} {loses : Bool} (old : SessionMeaning C) (reading : ℕ) (calls : HasCallOver loses old reading) (d : DeskMeaning C) (made : HasDelivered old.desk d) where
   -- The session after it.
   abbrev pub delivered_then : SessionMeaning C
   delivered_then = record old { desk = d }
@@ -103,42 +128,72 @@ module _ {C : Type 0} (old : SessionMeaning C) (reading : ℕ) (calls : HasOpenC
   grown_delivered : HasGrownBy old.desk.log d.log []
   grown_delivered = grows_else old.desk.log d.log old.desk.log.part.given d.log.part.known made.own made.more
 
+  verdicts : verdict_of d.log ≡ verdict_of old.desk.log
+  verdicts = verdicts_same old.desk.log d.log [] grown_delivered
+
   aside_same : (n : ℕ) → waits_aside n d ≡ waits_aside n old.desk
   aside_same n = ap (list_any (λ (m : Posted). m.number == n)) made.later
 
+  -- what was on its way is so still, or was lost
+  way_or_lost : (n : ℕ) → is_on_way n old.desk ≡ true → (is_on_way n d ≡ true) ⊎ (has_lost n d ≡ true)
+  way_or_lost n on = by (is_on_way n d) (has_lost n d) refl refl (made.way n ∙ ap (λ b. b || has_lost n old.desk) on)
+    where
+      by : (a b : Bool) → is_on_way n d ≡ a → has_lost n d ≡ b → (is_on_way n d || has_lost n d) ≡ true → (is_on_way n d ≡ true) ⊎ (has_lost n d ≡ true)
+      by true b x y e = inl x
+      by false true x y e = inr y
+      by false false x y e = absurd (let f : false ≡ true = sym (ap (λ z. z || has_lost n d) x ∙ y) ∙ e in cc f)
+
   away_still : (m : Sent) → IsHeardOrAway old m → IsHeardOrAway delivered_then m
   away_still m (inl heard) = inl (ap (λ (k : Known). is_heard k.heard_now m) known_same ∙ heard)
-  away_still m (inr (inl on)) = inr (inl (made.way m.number ∙ on))
-  away_still m (inr (inr told)) = inr (inr (aside_same m.number ∙ told.0, told.1, subst (λ k. MayStayUnheard old.coordinator.pipelining k m) (sym known_same) told.2))
+  away_still m (inr (inl on)) = elim (way_or_lost m.number on) [
+    | inl way ↦ inr (inl way)
+    | inr lost ↦ inr (inr (inl (lost_loses d made.track m.number lost)))
+  ]
+  away_still m (inr (inr (inl lost))) = inr (inr (inl (subst (λ verdict. is_losing (verdict m.number) ≡ true) (sym verdicts) lost)))
+  away_still m (inr (inr (inr told))) = inr (inr (inr (aside_same m.number ∙ told.0, told.1, subst (λ k. MayStayUnheard old.coordinator.pipelining k m) (sym known_same) told.2)))
+
+  waits_still : (n : ℕ) → has_waited n old.coordinator.later ≡ true → (waits_aside n d ≡ true) ⊎ (call_of (known_of d.log.part.own) ≡ Some call_variants.Rollback)
+  waits_still n waits = elim (calls.waits n waits) [ inl aside ↦ inl (aside_same n ∙ aside) | inr rolls ↦ inr (ap call_of known_same ∙ rolls) ]
+
+  -- over a wire that loses nothing
+  module _ (is : loses ≡ false) where
+    quiet_then : LosesNothing (verdict_of d.log)
+    quiet_then = subst LosesNothing (sym verdicts) (calls.one.quiet is)
+
+    way_quiet : (n : ℕ) → is_on_way n d ≡ is_on_way n old.desk
+    way_quiet n =
+        sym (ap (λ b. is_on_way n d || b) (has_lost_none d made.track quiet_then n) ∙ or_none (is_on_way n d))
+        ∙ (made.way n ∙ (ap (λ b. is_on_way n old.desk || b) (has_lost_none old.desk calls.track (calls.one.quiet is) n) ∙ or_none (is_on_way n old.desk)))
+      where
+        or_none : (a : Bool) → (a || false) ≡ a
+        or_none true = refl
+        or_none false = refl
 
   -- the call goes on
-  pub delivered_open : HasOpenCall delivered_then reading
+  pub delivered_open : HasCallOver loses delivered_then reading
   delivered_open = record {
     track = made.track;
-    one = one_on old.desk d old.coordinator old.coordinator [] grown_delivered calls.one refl refl refl (subst (Knows false old.coordinator) (sym known_same) calls.one.knows);
+    one = one_on old.desk d old.coordinator old.coordinator [] grown_delivered calls.one refl refl refl (subst (Knows loses old.coordinator) (sym known_same) calls.one.knows);
     way = λ n. made.way n ∙ (calls.way n ∙ ap (λ b. awaits_number n old.coordinator.due && not b) (sym (aside_same n)));
-    aside = record {
-      waits = λ n waits. elim (calls.aside.waits n waits) [ inl aside ↦ inl (aside_same n ∙ aside) | inr rolls ↦ inr (ap call_of known_same ∙ rolls) ];
-      why = λ n aside. subst (λ call. (has_waited n old.coordinator.later ≡ true) ⊎ (awaits_number n old.coordinator.due ≡ true) ⊎ LeavesStrays call old.coordinator.due) (ap call_of (sym known_same)) (calls.aside.why n (sym (aside_same n) ∙ aside));
-      epoch = λ n aside. subst (λ k. IsOfOpenEpoch k n) (sym known_same) (calls.aside.epoch n (sym (aside_same n) ∙ aside));
+    waits = waits_still;
+    aside = λ is. record {
+      waits = waits_still;
+      why = λ n aside. subst (λ call. (has_waited n old.coordinator.later ≡ true) ⊎ (awaits_number n old.coordinator.due ≡ true) ⊎ LeavesStrays call old.coordinator.due) (ap call_of (sym known_same)) ((calls.aside is).why n (sym (aside_same n) ∙ aside));
+      epoch = λ n aside. subst (λ k. IsOfOpenEpoch k n) (sym known_same) ((calls.aside is).epoch n (sym (aside_same n) ∙ aside));
     };
     sent = subst (λ k. All (IsHeardOrAway delivered_then) k.sent_now) (sym known_same) (All-weaker (IsHeardOrAway old) (IsHeardOrAway delivered_then) away_still (session_knows old).sent_now calls.sent);
     call = calls.call;
     opened = ap (λ (k : Known). k.statement) known_same ∙ calls.opened;
     outside = λ outside. ap (λ (k : Known). k.is_open) known_same ∙ calls.outside outside;
     apart = subst IsApartNow (sym known_same) calls.apart;
-    kinds = λ n q on said.
-        subst (λ k. IsForCall old.coordinator.pipelining k q) (sym known_same) (calls.kinds n q (sym (made.way n) ∙ on) (ap (λ (k : Known). request_sent n k.sent) (sym known_same) ∙ said));
-    waiting = subst (λ own. HasLeft own old.jobs) (sym own_same) calls.waiting;
-    turn = subst (λ k. KeepsTurn old.coordinator.pipelining k old.coordinator.due) (sym known_same) calls.turn;
-    goes_out = λ ends. calls.goes_out (subst EndsWithSending own_same ends);
+    kinds = λ is n q on said.
+        subst (λ k. IsForCall old.coordinator.pipelining k q) (sym known_same) (calls.kinds is n q (sym (way_quiet is n) ∙ on) (ap (λ (k : Known). request_sent n k.sent) (sym known_same) ∙ said));
+    waiting = subst (λ own. HasLeft loses own old.jobs) (sym own_same) calls.waiting;
+    turn = λ is. subst (λ k. KeepsTurn old.coordinator.pipelining k old.coordinator.due) (sym known_same) (calls.turn is);
+    goes_out = λ is ends. calls.goes_out is (subst EndsWithSending own_same ends);
     joins = λ silent n on aside. subst EndsUnheard (sym own_same) (calls.joins silent n on (sym (aside_same n) ∙ aside));
     behind = subst (WaitsBehindHeard (IsWaitedFor old.coordinator)) (sym own_same) calls.behind;
   }
-
-  -- the wave is as whole as it was
-  pub delivered_whole : IsWholeOut old → IsWholeOut delivered_then
-  delivered_whole whole = whole_still old delivered_then (ap (λ (l : LogMeaning C). l.head.splits) made.own) own_same made.way aside_same refl whole
 
   pub delivered_goes : HasGoneInside old delivered_then
   delivered_goes = record {
@@ -150,18 +205,82 @@ module _ {C : Type 0} (old : SessionMeaning C) (reading : ℕ) (calls : HasOpenC
     statement = ap (λ (k : Known). k.statement) known_same;
   }
 
--- ---- all were heard
+-- over its own wire
+pub delivers_open : {C : Type 0} (old : SessionMeaning C) (reading : ℕ) → HasOpenCall old reading → (d : DeskMeaning C) → HasDelivered old.desk d → HasOpenCall (record old { desk = d }) reading
+delivers_open old reading calls d made = record {
+  any = delivered_open old reading calls.any d made;
+  quiet = λ quiet. delivered_open old reading (calls.quiet (subst LosesNothing (verdicts old reading calls.any d made) quiet)) d made;
+}
 
-pub wave_ends : {C : Type 0} (s : SessionMeaning C) (reading : ℕ) → HasOpenCall s reading → IsWholeOut s → s.desk.posted ≡ [] → s.desk.replies ≡ [] → IsBetweenWaves s.desk
-wave_ends s reading calls whole posted replies =
+-- ---- what is due in the bag is evaluated
+
+due_delivered : {C : Type 0} (old d : DeskMeaning C) → HasDeliveredDue old d → HasDelivered old d
+due_delivered {C} old d due = record {
+  own = due.own;
+  sends = ap (λ (x : DeskMeaning C). x.sends) due.rest;
+  track = due.track;
+  way = λ n. ap (λ (x : DeskMeaning C). is_on_way n x || has_lost n x) due.rest;
+  kept = λ n lost. ap (λ (x : DeskMeaning C). has_lost n x) due.rest ∙ lost;
+  later = ap (λ (x : DeskMeaning C). x.later) due.rest;
+  more = due.more;
+  limit = ap (λ (x : DeskMeaning C). x.range_limit) due.rest;
+}
+
+pub due_open : {C : Type 0} (old : SessionMeaning C) (reading : ℕ) → HasOpenCall old reading → (d : DeskMeaning C) → HasDeliveredDue old.desk d → HasOpenCall (record old { desk = d }) reading
+due_open old reading calls d due = delivers_open old reading calls d (due_delivered old.desk d due)
+
+pub due_between : {C : Type 0} (old d : DeskMeaning C) → HasDeliveredDue old d → IsBetweenWaves old → IsBetweenWaves d
+due_between {C} old d due between = record {
+  none_waits = ap (λ (x : DeskMeaning C). x.replies) due.rest ∙ between.none_waits;
+  none_lost = ap (λ (x : DeskMeaning C). x.lost) due.rest ∙ between.none_lost;
+  quiet = λ quiet.
+      let was = between.quiet (subst LosesNothing (ap (λ (l : LogMeaning C). verdict_of l) due.own) quiet) in
+      let own : d.log.part.own ≡ old.log.part.own = ap (λ (l : LogMeaning C). l.part.own) due.own in
+      record {
+        ends = subst EndsWaves (sym own) was.ends;
+        puts = subst EndsPutWaves (sym own) was.puts;
+        none_waits = ap (λ (x : DeskMeaning C). x.replies) due.rest ∙ was.none_waits;
+      };
+}
+
+pub due_inside : {C : Type 0} (old new : SessionMeaning C) → HasDeliveredDue old.desk new.desk × (new.coordinator ≡ old.coordinator) → HasGoneInside old new
+due_inside {C} old new due = record {
+  part = [];
+  grown = grows_else old.desk.log new.desk.log old.desk.log.part.given new.desk.log.part.known due.0.own due.0.more;
+  within = All-nil IsInBetween;
+  limit = ap (λ (x : DeskMeaning C). x.range_limit) due.0.rest;
+  session = ap (λ (c : Coordination). c.session) due.1;
+  statement = ap (λ (l : LogMeaning C). (known_of l.part.own).statement) due.0.own;
+}
+
+-- the wave is as whole as it was
+pub delivered_whole : {C : Type 0} (old : SessionMeaning C) (reading : ℕ) → HasOpenCall old reading → (d : DeskMeaning C) → HasDelivered old.desk d → IsWholeOut old → IsWholeOut (record old { desk = d })
+delivered_whole {C} old reading calls d made whole =
+    let wire : verdict_of d.log ≡ verdict_of old.desk.log = verdicts old reading calls.any d made in
+    record {
+      sent = λ n on. whole.sent n (sym (made.way n) ∙ on);
+      joined = λ other on n waits. aside_same old reading calls.any d made n ∙ whole.joined other (sym (made.way other) ∙ on) n waits;
+      quiet = λ quiet.
+          let over = calls.quiet (subst LosesNothing wire quiet) in
+          whole_still old (record old { desk = d }) (ap (λ (l : LogMeaning C). l.head.splits) made.own) (own_same old reading over d made) (way_quiet old reading over d made refl) (aside_same old reading over d made) refl (whole.quiet (subst LosesNothing wire quiet));
+    }
+
+-- ---- all were heard, or lost
+
+pub wave_ends : {C : Type 0} (s : SessionMeaning C) (reading : ℕ) → HasOpenCall s reading → IsWholeOut s → s.desk.posted ≡ [] → s.desk.replies ≡ [] → s.desk.lost ≡ [] → IsBetweenWaves s.desk
+wave_ends s reading calls whole posted replies lost =
     let k = session_knows s in
     let away = none_away s.desk posted replies in
     record {
-      ends = ends_where_heard s.desk.log.part.own (all_heard s.desk calls.track away);
-      puts = λ front back p is hears none.
-          All-weaker (λ m. IsAwaitedPut k m.request → IsTrue (is_heard k.heard m) ⊎ (is_on_way m.number s.desk ≡ true)) (λ m. IsAwaitedPut k m.request → IsTrue (is_heard k.heard m))
-          (λ m was awaited. elim (was awaited) [ inl heard ↦ heard | inr on ↦ absurd (let e : true ≡ false = sym on ∙ away m.number in cc e) ]) (known_of front).sent (whole.puts front back p is hears none);
       none_waits = replies;
+      none_lost = lost;
+      quiet = λ quiet. record {
+        ends = ends_where_heard s.desk.log.part.own (all_heard s.desk calls.any.track quiet away);
+        puts = λ front back p is hears none.
+            All-weaker (λ m. IsAwaitedPut k m.request → IsTrue (is_heard k.heard m) ⊎ (is_on_way m.number s.desk ≡ true)) (λ m. IsAwaitedPut k m.request → IsTrue (is_heard k.heard m))
+            (λ m was awaited. elim (was awaited) [ inl heard ↦ heard | inr on ↦ absurd (let e : true ≡ false = sym on ∙ away m.number in cc e) ]) (known_of front).sent ((whole.quiet quiet).puts front back p is hears none);
+        none_waits = replies;
+      };
     }
 
 -- ---- a reply is heard
@@ -228,7 +347,22 @@ unheard_beat own q number step hears request said beats front p whole does =
     let e : true ≡ false = sym beats ∙ (sym (ap (λ o. option_map_or (λ (r : Request). is_heartbeat r) o false) said) ∙ is) in
     cc e
 
-module _ {C : Type 0} (old : SessionMeaning C) (reading : ℕ) (calls : HasOpenCall old reading) where
+-- what is lost without the coordinator's knowing was sent after that
+lost_behind : {C : Type 0} (d : DeskMeaning C) (a : Answered) (rest : List Answered) → KeepsTrack d → HasNoneLostFirst d → d.replies ≡ a ∷ rest → (n : ℕ) → has_lost n d ≡ true → a.number < n
+lost_behind d a rest track none first n is = by d.lost refl
+  where
+    by : (ns : List ℕ) → d.lost ≡ ns → a.number < n
+    by [] same = absurd (let e : false ≡ true = sym (ap (list_any (λ x. x == n)) same) ∙ is in cc e)
+    by (x ∷ ns) same =
+        let low : a.number < x = subst (BehindFirst x) first (none.behind x ns same) in
+        any_gives (a.number < n) (λ y. y == n) (x ∷ ns) (λ y there at.
+        let here : y ≡ n = eqb-true y n at in
+        elim (contains_cons x ns y there) [
+          | inl it ↦ omega (arith, it, low, here)
+          | inr later ↦ let above : x < y = sorted_above x ns (subst (IsStrictlySortedBy nat_cmp) same track.lost.rising) y later in omega (arith, above, low, here)
+        ]) (sym (ap (list_any (λ y. y == n)) same) ∙ is)
+
+module _ {C : Type 0} {loses : Bool} (old : SessionMeaning C) (reading : ℕ) (calls : HasCallOver loses old reading) (none_lost_first : HasNoneLostFirst old.desk) where
   abbrev k : Known
   k = session_knows old
 
@@ -238,42 +372,28 @@ module _ {C : Type 0} (old : SessionMeaning C) (reading : ℕ) (calls : HasOpenC
   answered-any : (xs : List Answered) (a : Answered) → Contains xs a → list_any (λ (x : Answered). x.number == a.number) xs ≡ true
   answered-any xs a there = any_there (λ (x : Answered). x.number == a.number) xs a (eq-eqb a.number a.number refl) there
 
-  -- a reply that waits is to a message on its way, which is for the call
-  for-call : (a : Answered) (there : Contains old.desk.replies a) → IsForCall old.coordinator.pipelining k (by-it a there).request
-  for-call a there =
-      calls.kinds a.number (by-it a there).request (or_right (list_any (λ (m : Posted). m.number == a.number) old.desk.posted) (list_any (λ (x : Answered). x.number == a.number) old.desk.replies) (answered-any old.desk.replies a there))
-      (by-it a there).said
-
+  -- a reply that waits is to a message on its way
   on-way-of : (a : Answered) → Contains old.desk.replies a → is_on_way a.number old.desk ≡ true
   on-way-of a there = or_right (list_any (λ (m : Posted). m.number == a.number) old.desk.posted) (list_any (λ (x : Answered). x.number == a.number) old.desk.replies) (answered-any old.desk.replies a there)
 
-  awaited-of : (n : ℕ) → is_on_way n old.desk ≡ true → awaits_number n old.coordinator.due ≡ true
-  awaited-of n on = and_first (awaits_number n old.coordinator.due) (not (waits_aside n old.desk)) (sym (calls.way n) ∙ on)
+  out-of : (a : Answered) → Contains old.desk.replies a → (is_on_way a.number old.desk || has_lost a.number old.desk) ≡ true
+  out-of a there = ap (λ b. b || has_lost a.number old.desk) (on-way-of a there)
 
-  -- what is waited for, once the wave is whole, is on its way
-  way-of : IsWholeOut old → (a : Answered) → Contains old.desk.replies a → (n : ℕ) → awaits_number n old.coordinator.due ≡ true → is_on_way n old.desk ≡ true
+  awaited-of : (n : ℕ) → (is_on_way n old.desk || has_lost n old.desk) ≡ true → awaits_number n old.coordinator.due ≡ true
+  awaited-of n out = and_first (awaits_number n old.coordinator.due) (not (waits_aside n old.desk)) (sym (calls.way n) ∙ out)
+
+  -- what is waited for, once the wave is whole, is on its way, or was lost
+  way-of : IsWholeOut old → (a : Answered) → Contains old.desk.replies a → (n : ℕ) → awaits_number n old.coordinator.due ≡ true → (is_on_way n old.desk || has_lost n old.desk) ≡ true
   way-of whole a there n waits =
-      calls.way n ∙ (ap (λ b. b && not (waits_aside n old.desk)) waits ∙ ap (λ b. not b) (whole.joined a.number (on-way-of a there) n waits))
+      calls.way n ∙ (ap (λ b. b && not (waits_aside n old.desk)) waits ∙ ap (λ b. not b) (whole.joined a.number (out-of a there) n waits))
 
   least-of : IsWholeOut old → (a : Answered) (rest : List Answered) → old.desk.replies ≡ a ∷ rest → (n : ℕ) → awaits_number n old.coordinator.due ≡ true → a.number ≤ n
-  least-of whole a rest first n waits =
-      least_on_way old.desk a rest calls.track first n (way-of whole a (subst (λ rs. Contains rs a) (sym first) (contains_head a rest)) n waits)
-
-  -- each reply that waits may be heard
-  pub may_hear_now : IsWholeOut old → MayHearNow old.desk
-  may_hear_now whole = record {
-    each = λ a rest range first.
-        let there : Contains old.desk.replies a = subst (λ rs. Contains rs a) (sym first) (contains_head a rest) in
-        let by = by-it a there in
-        let h : Heard = record { number = a.number; request = by.request; reply = a.reply; step = a.step } in
-        let brings : heard_as a.number a.step (request_sent a.number k.sent) (Some a.reply) ≡ Some h = ap (λ (r : Option Request). heard_as a.number a.step r (Some a.reply)) by.said in
-        let on = on-way-of a there in
-        let next : IsAwaitedNext old.coordinator k h = record { waited = awaited-of a.number on; whole = whole.silent a.number on; said = by.said } in
-        keeps_as old.desk.log.part.id old.coordinator.session old.desk.log.head.splits old.desk.log.pipelining old.coordinator.pipelining old.desk.log.part.own (events.Hear a.number a.step) (heard_as a.number a.step (request_sent a.number k.sent) (Some a.reply)) calls.one.whose calls.one.piped
-        (subst (KeepsSessionStep old.desk.log.head.splits old.coordinator.pipelining old.desk.log.part.own (events.Hear a.number a.step)) (sym brings)
-        (keeps_heard old.desk.log.head.splits old.coordinator.pipelining old.desk.log.part.own a.number a.step h (comes_in_turn old reading h calls next on (least-of whole a rest first)) (whole.pieces a.number by.request on by.said) (whole.refreshes a.number by.request on by.said)
-        (oldest_waits old.desk a rest calls.track first)));
-  }
+  least-of whole a rest first n waits = by (is_on_way n old.desk) (has_lost n old.desk) refl refl (way-of whole a (subst (λ rs. Contains rs a) (sym first) (contains_head a rest)) n waits)
+    where
+      by : (w l : Bool) → is_on_way n old.desk ≡ w → has_lost n old.desk ≡ l → (is_on_way n old.desk || has_lost n old.desk) ≡ true → a.number ≤ n
+      by true l on lost e = least_on_way old.desk a rest calls.track first n on
+      by false true on lost e = let above = lost_behind old.desk a rest calls.track none_lost_first first n lost in omega (arith, above)
+      by false false on lost e = absurd (let f : false ≡ true = sym (ap (λ b. b || has_lost n old.desk) on ∙ lost) ∙ e in cc f)
 
   module _ (d : DeskMeaning C) (c : Coordination) (a : Answered) (heard : HasHeardFirst old.desk d a) where
     abbrev event : Event
@@ -307,8 +427,11 @@ module _ {C : Type 0} (old : SessionMeaning C) (reading : ℕ) (calls : HasOpenC
     on-way : is_on_way a.number old.desk ≡ true
     on-way = on-way-of a there-first
 
+    out : (is_on_way a.number old.desk || has_lost a.number old.desk) ≡ true
+    out = out-of a there-first
+
     pub waited : awaits_number a.number old.coordinator.due ≡ true
-    waited = awaited-of a.number on-way
+    waited = awaited-of a.number out
 
     past-same : (request : Request) (t : Txn) → IsPastWhereUndecided (txn_heard k.sent (Some h) t) request a.reply → IsPastWhereUndecided t request a.reply
     past-same (requests.Commit meta ts locks) t past = past
@@ -363,7 +486,7 @@ module _ {C : Type 0} (old : SessionMeaning C) (reading : ℕ) (calls : HasOpenC
     hears-awaited : IsWholeOut old → HearsAwaited old.coordinator a.number a.step a.reply k p
     hears-awaited whole = record {
       waited = waited;
-      whole = gone_out old.coordinator.due (whole.silent a.number on-way);
+      whole = whole.sent a.number out;
       event = refl;
       evaluation = evaluation a.step heard.range old.desk.log.part.id a.number a.reply;
       actor = old.desk.log.part.id;
@@ -384,11 +507,11 @@ module _ {C : Type 0} (old : SessionMeaning C) (reading : ℕ) (calls : HasOpenC
           (λ g inside comes. evaluated_past old.desk calls.track a d.replies heard.first g.step (calls.behind a.number by.request (inl waited) by.said g inside comes)));
     }
 
-    left_on : HasLeft d.log.part.own old.jobs
+    left_on : HasLeft loses d.log.part.own old.jobs
     left_on =
-        let has : HasJobs old.jobs (learn p k) = jobs_heard old.jobs k p old.coordinator.pipelining a.number a.step h (for-call a there-first) refl (sym learnt ∙ known_is) (λ job left. awaited_alone false old.coordinator k calls.one.knows job.meta.id left.other a.number by.request waited by.said) (record { numbers = calls.waiting.numbers; left = calls.waiting.each }) in
+        let has : HasJobs old.jobs (learn p k) = jobs_heard old.jobs k p a.number a.step h refl (sym learnt ∙ known_is) (λ job left. awaited_alone loses old.coordinator k calls.one.knows job.meta.id left.other a.number by.request waited by.said) (record { numbers = calls.waiting.numbers; left = calls.waiting.each }) in
         let now : HasJobs old.jobs (known_of d.log.part.own) = subst (HasJobs old.jobs) (sym learnt) has in
-        record { left = jobs_then old.desk.log d.log event heard.entered ∙ calls.waiting.left; numbers = now.numbers; each = now.left }
+        record { left = λ is. jobs_then old.desk.log d.log event heard.entered ∙ calls.waiting.left is; numbers = now.numbers; each = now.left }
 
     heard_to : IsHeardTo k a.number a.reply h
     heard_to = record { numbered = refl; asked = by.said; told = refl; kind = kind by.request by.said; past = past by.request by.said; shown = shown by.request by.said }
@@ -405,15 +528,15 @@ module _ {C : Type 0} (old : SessionMeaning C) (reading : ℕ) (calls : HasOpenC
     opened_then : (known_of d.log.part.own).statement ≡ Some (record { call = calls.call; reading = reading })
     opened_then = ap (λ (k : Known). k.statement) known_is ∙ calls.opened
 
-    abbrev o : IsOpenedAs old.coordinator k
+    abbrev o : IsOpenedAs loses old.coordinator k
     o = waits_opened old.coordinator k a.number calls.one.knows waited
 
     -- What the coordinator says of what is due then.
     module _ (whole : IsWholeOut old)
         (learns : (loses : Bool) (k : Known) (p : Pair Event) → Knows loses old.coordinator k → HearsAwaited old.coordinator a.number a.step a.reply k p → Knows loses c (learn p k))
-        (waits : (loses : Bool) (k : Known) (p : Pair Event) → loses ≡ false → Knows loses old.coordinator k → HearsAwaited old.coordinator a.number a.step a.reply k p → AwaitsAfter a.number old.coordinator c.due)
+        (waits : HearsAwaited old.coordinator a.number a.step a.reply k p → AwaitsAfter a.number old.coordinator c.due)
         (left : (number : ℕ) → has_waited number c.later ≡ true → has_waited number old.coordinator.later ≡ true)
-        (goes_on : (loses : Bool) (k : Known) (p : Pair Event) (o : Opened) (other : ℕ) → loses ≡ false → Knows loses old.coordinator k → HearsAwaited old.coordinator a.number a.step a.reply k p → opened_by old.coordinator.txn old.coordinator.due ≡ Some o
+        (goes_on : (o : Opened) (other : ℕ) → HearsAwaited old.coordinator a.number a.step a.reply k p → opened_by old.coordinator.txn old.coordinator.due ≡ Some o
         → (awaits_number other old.coordinator.due && not (a.number == other)) ≡ true → GoesOnBy (first_changed (awaits_at a.number) (back_with a.number a.reply) o.call.wave) c.due)
         (joins : (loses : Bool) (k : Known) (p : Pair Event) (request : Request) (other : ℕ) → Knows loses old.coordinator k → HearsAwaited old.coordinator a.number a.step a.reply k p → request_sent a.number k.sent ≡ Some request → is_heartbeat request ≡ false
         → has_waited other old.coordinator.later ≡ true → awaits_number other c.due ≡ true → SendsNoMore c.due → ⊥)
@@ -424,26 +547,51 @@ module _ {C : Type 0} (old : SessionMeaning C) (reading : ℕ) (calls : HasOpenC
       it-is : HearsAwaited old.coordinator a.number a.step a.reply k p
       it-is = hears-awaited whole
 
-      knows_learnt : Knows false c (learn p k)
-      knows_learnt = learns false k p calls.one.knows it-is
+      knows_learnt : Knows loses c (learn p k)
+      knows_learnt = learns loses k p calls.one.knows it-is
 
-      knows_then : Knows false c (known_of d.log.part.own)
-      knows_then = subst (Knows false c) (sym learnt) knows_learnt
+      knows_then : Knows loses c (known_of d.log.part.own)
+      knows_then = subst (Knows loses c) (sym learnt) knows_learnt
 
       after : AwaitsAfter a.number old.coordinator c.due
-      after = waits false k p refl calls.one.knows it-is
+      after = waits it-is
 
       on_by : (other : ℕ) → (awaits_number other old.coordinator.due && not (a.number == other)) ≡ true → GoesOnBy (first_changed (awaits_at a.number) (back_with a.number a.reply) o.o.call.wave) c.due
-      on_by other on = goes_on false k p o.o other refl calls.one.knows it-is o.opened on
+      on_by other on = goes_on o.o other it-is o.opened on
 
-      silent_then : (n : ℕ) → is_on_way n d ≡ true → SendsNoMore c.due
-      silent_then n on =
-          heard_silent old.coordinator c k (with_heard h k) h calls.one.knows waited (whole.silent a.number on-way) after on_by n (still_awaited n on)
+      lost_is : (n : ℕ) → has_lost n d ≡ has_lost n old.desk
+      lost_is n = ap (list_any (λ x. x == n)) heard.lost
+
+      out_then : (n : ℕ) → (is_on_way n d || has_lost n d) ≡ ((is_on_way n old.desk || has_lost n old.desk) && not (a.number == n))
+      out_then n = ap (λ b. b || has_lost n d) (heard.way n) ∙ (ap (λ b. (is_on_way n old.desk && not (a.number == n)) || b) (lost_is n) ∙ by (a.number == n) refl)
         where
-          still_awaited : (n : ℕ) → is_on_way n d ≡ true → (awaits_number n old.coordinator.due && not (a.number == n)) ≡ true
-          still_awaited n on =
-              let was : (is_on_way n old.desk && not (a.number == n)) ≡ true = sym (heard.way n) ∙ on in
-              ap (λ b. b && not (a.number == n)) (awaited-of n (and_first (is_on_way n old.desk) (not (a.number == n)) was)) ∙ and_last (is_on_way n old.desk) (not (a.number == n)) was
+          apart : (w l : Bool) → ((w && true) || l) ≡ ((w || l) && true)
+          apart true l = refl
+          apart false true = refl
+          apart false false = refl
+
+          none : (w : Bool) → (w && false) ≡ false
+          none true = refl
+          none false = refl
+
+          unlost : (a.number == n) ≡ true → has_lost n old.desk ≡ false
+          unlost same = not_lost (has_lost n old.desk) refl
+            where
+              not_lost : (b : Bool) → has_lost n old.desk ≡ b → has_lost n old.desk ≡ false
+              not_lost false is = is
+              not_lost true is = absurd (let above = lost_behind old.desk a d.replies calls.track none_lost_first heard.first n is in let it : a.number ≡ n = eqb-true a.number n same in omega (arith, above, it))
+
+          by : (b : Bool) → (a.number == n) ≡ b → ((is_on_way n old.desk && not (a.number == n)) || has_lost n old.desk) ≡ ((is_on_way n old.desk || has_lost n old.desk) && not (a.number == n))
+          by true is =
+              ap (λ b. (is_on_way n old.desk && not b) || has_lost n old.desk) is ∙ (ap (λ b. b || has_lost n old.desk) (none (is_on_way n old.desk)) ∙ (unlost is ∙ sym (ap (λ b. (is_on_way n old.desk || has_lost n old.desk) && not b) is ∙ none (is_on_way n old.desk || has_lost n old.desk))))
+          by false is =
+              ap (λ b. (is_on_way n old.desk && not b) || has_lost n old.desk) is ∙ (apart (is_on_way n old.desk) (has_lost n old.desk) ∙ sym (ap (λ b. (is_on_way n old.desk || has_lost n old.desk) && not b) is))
+
+      -- what is out then is waited for still
+      still_awaited : (n : ℕ) → (is_on_way n d || has_lost n d) ≡ true → (awaits_number n old.coordinator.due && not (a.number == n)) ≡ true
+      still_awaited n on =
+          let was : ((is_on_way n old.desk || has_lost n old.desk) && not (a.number == n)) ≡ true = sym (out_then n) ∙ on in
+          ap (λ b. b && not (a.number == n)) (awaited-of n (and_first (is_on_way n old.desk || has_lost n old.desk) (not (a.number == n)) was)) ∙ and_last (is_on_way n old.desk || has_lost n old.desk) (not (a.number == n)) was
 
       not_rolled : (n : ℕ) → has_waited n old.coordinator.later ≡ true → awaits_number n c.due ≡ true → (waits_aside n old.desk ≡ true) ⊎ (call_of k ≡ Some call_variants.Rollback) → waits_aside n old.desk ≡ true
       not_rolled n has on (inl aside) = aside
@@ -451,14 +599,14 @@ module _ {C : Type 0} (old : SessionMeaning C) (reading : ℕ) (calls : HasOpenC
           let w = wait_said old.coordinator k o.o.call o.at n has in
           absurd (rollback_awaits_none c (known_of d.log.part.own) n knows_then on (ap call_of known_is ∙ rolls) (wait_of old.coordinator k o.o.call o.at n has).put.request (ap (λ (x : Known). request_sent n x.sent) known_is ∙ w.0) w.1))
 
-      way_is : (n : ℕ) → is_on_way n d ≡ (awaits_number n c.due && not (waits_aside n d))
-      way_is n = heard.way n ∙ (ap (λ b. b && not (a.number == n)) (calls.way n) ∙ elim after [
+      way_is : (n : ℕ) → (is_on_way n d || has_lost n d) ≡ (awaits_number n c.due && not (waits_aside n d))
+      way_is n = out_then n ∙ (ap (λ b. b && not (a.number == n)) (calls.way n) ∙ elim after [
         | inl same ↦
             swap (awaits_number n old.coordinator.due) (waits_aside n old.desk) (a.number == n)
             ∙ (ap (λ b. b && not (waits_aside n old.desk)) (sym (same n)) ∙ ap (λ b. awaits_number n c.due && not b) (sym (aside_back n)))
         | inr (none, outbox) ↦
             (swap (awaits_number n old.coordinator.due) (waits_aside n old.desk) (a.number == n) ∙ ap (λ b. b && not (waits_aside n old.desk)) (none n))
-            ∙ sym (none_and (awaits_number n c.due) (waits_aside n d) (λ on. aside_back n ∙ not_rolled n (outbox n on) on (calls.aside.waits n (outbox n on))))
+            ∙ sym (none_and (awaits_number n c.due) (waits_aside n d) (λ on. aside_back n ∙ not_rolled n (outbox n on) on (calls.waits n (outbox n on))))
       ])
 
       apart_then : IsApartNow (known_of d.log.part.own)
@@ -484,23 +632,53 @@ module _ {C : Type 0} (old : SessionMeaning C) (reading : ℕ) (calls : HasOpenC
           on : (m : Sent) → IsHeardOrAway old m → IsHeardOrAway heard_then m
           on m (inl now) = inl (pushed m now)
           on m (inr (inl way)) = by_number m (a.number == m.number) refl way
-          on m (inr (inr told)) = absurd (let e : dues.Call o.o.call ≡ dues.Tell answers.Written = sym o.due ∙ told.1 in cc e)
+          on m (inr (inr (inl lost))) = inr (inr (inl (subst (λ verdict. is_losing (verdict m.number) ≡ true) (sym (verdicts_same old.desk.log d.log (p ∷ []) grown_heard)) lost)))
+          on m (inr (inr (inr told))) = absurd (let e : dues.Call o.o.call ≡ dues.Tell answers.Written = sym o.due ∙ told.1 in cc e)
 
-      epoch_then : (n : ℕ) → waits_aside n d ≡ true → IsOfOpenEpoch (known_of d.log.part.own) n
-      epoch_then n aside =
+      epoch_then : loses ≡ false → (n : ℕ) → waits_aside n d ≡ true → IsOfOpenEpoch (known_of d.log.part.own) n
+      epoch_then is n aside =
           subst (λ k. IsOfOpenEpoch k n) (sym known_is)
-          (epoch_same k (with_heard h k) n (txn_heard k.sent (Some h)) (λ t. (refl, refl)) refl (λ t opened. first_mapped (txn_heard k.sent (Some h)) k.is_open k.txns t opened) (calls.aside.epoch n (sym (aside_back n) ∙ aside)))
+          (epoch_same k (with_heard h k) n (txn_heard k.sent (Some h)) (λ t. (refl, refl)) refl (λ t opened. first_mapped (txn_heard k.sent (Some h)) k.is_open k.txns t opened) ((calls.aside is).epoch n (sym (aside_back n) ∙ aside)))
 
-      aside_then : HasAsideInCall heard_then
-      aside_then = record {
-        waits = λ n waiting. elim (calls.aside.waits n (left n waiting)) [ inl aside ↦ inl (aside_back n ∙ aside) | inr rolls ↦ inr (ap call_of known_is ∙ rolls) ];
-        why = λ n aside. aside_why heard_then heard.track knows_then (record { call = calls.call; reading = reading }) opened_then outside_then apart_then sent_then n aside (epoch_then n aside);
-        epoch = epoch_then;
-      }
+      waits_then : (n : ℕ) → has_waited n c.later ≡ true → (waits_aside n d ≡ true) ⊎ (call_of (known_of d.log.part.own) ≡ Some call_variants.Rollback)
+      waits_then n waiting = elim (calls.waits n (left n waiting)) [ inl aside ↦ inl (aside_back n ∙ aside) | inr rolls ↦ inr (ap call_of known_is ∙ rolls) ]
 
-      -- what waits in the outbox was sent before the call
-      before : (n : ℕ) → has_waited n old.coordinator.later ≡ true → list_any (λ (m : Sent). m.number == n) k.sent_now ≡ false
-      before n waiting = waits_before old reading calls o.o.call o.due o.at n waiting
+      -- over a wire that loses nothing
+      module _ (is : loses ≡ false) where
+        quiet_calls : HasCallOver false old reading
+        quiet_calls = subst (λ b. HasCallOver b old reading) is calls
+
+        quiet_then : LosesNothing (verdict_of d.log)
+        quiet_then = subst LosesNothing (sym (verdicts_same old.desk.log d.log (p ∷ []) grown_heard)) (calls.one.quiet is)
+
+        knows_quietly : Knows false c (known_of d.log.part.own)
+        knows_quietly = subst (λ b. Knows b c (known_of d.log.part.own)) is knows_then
+
+        quiet_whole : IsQuietWhole old
+        quiet_whole = whole.quiet (calls.one.quiet is)
+
+        for-call : IsForCall old.coordinator.pipelining k by.request
+        for-call = calls.kinds is a.number by.request on-way by.said
+
+        aside_then : HasAsideInCall heard_then
+        aside_then = record {
+          waits = waits_then;
+          why = λ n aside. aside_why heard_then heard.track quiet_then knows_quietly (record { call = calls.call; reading = reading }) opened_then outside_then apart_then sent_then n aside (epoch_then is n aside);
+          epoch = epoch_then is;
+        }
+
+        -- what waits in the outbox was sent before the call
+        before : (n : ℕ) → has_waited n old.coordinator.later ≡ true → list_any (λ (m : Sent). m.number == n) k.sent_now ≡ false
+        before n waiting = waits_before old reading quiet_calls o.o.call o.due (subst (λ b. HasCallDue b old.coordinator k o.o.call) is o.at) n waiting
+
+        turn_then : KeepsTurn c.pipelining (known_of d.log.part.own) c.due
+        turn_then =
+            subst (λ now. KeepsTurn c.pipelining now c.due) (sym known_is)
+            (heard_turn old.coordinator c k h quiet_calls.one.knows (subst (Knows false c) known_is knows_quietly) pipelines waited (calls.turn is) heard_to for-call (quiet_whole.silent a.number on-way) (least-of whole a d.replies heard.first) once after
+            (λ other on. goes_on quiet_o.o other it-is quiet_o.opened on) (λ isnt. comes loses k p quiet_o.o calls.one.knows it-is quiet_o.opened isnt) (λ answer asked next at. ends quiet_o.o answer asked next quiet_o.opened at) before)
+          where
+            quiet_o : IsOpenedAs false old.coordinator k
+            quiet_o = waits_opened old.coordinator k a.number quiet_calls.one.knows waited
 
       joins_then : SendsNoMore c.due → (n : ℕ) → awaits_number n c.due ≡ true → waits_aside n d ≡ true → EndsUnheard d.log.part.own
       joins_then silent n on aside = by (is_heartbeat by-request) refl
@@ -512,7 +690,7 @@ module _ {C : Type 0} (old : SessionMeaning C) (reading : ℕ) (calls : HasOpenC
           has = elim after [
             | inl same ↦ absurd (
                 let was : (awaits_number n old.coordinator.due && not (a.number == n)) ≡ true = sym (same n) ∙ on in
-                let none : waits_aside n old.desk ≡ false = whole.joined a.number on-way n (and_first (awaits_number n old.coordinator.due) (not (a.number == n)) was) in
+                let none : waits_aside n old.desk ≡ false = whole.joined a.number out n (and_first (awaits_number n old.coordinator.due) (not (a.number == n)) was) in
                 let e : true ≡ false = sym (sym (aside_back n) ∙ aside) ∙ none in
                 cc e)
             | inr (none, outbox) ↦ outbox n on
@@ -520,51 +698,77 @@ module _ {C : Type 0} (old : SessionMeaning C) (reading : ℕ) (calls : HasOpenC
 
           by : (b : Bool) → is_heartbeat by-request ≡ b → EndsUnheard d.log.part.own
           by true beats = subst EndsUnheard (sym own-is) (unheard_beat old.desk.log.part.own p a.number a.step refl by-request (ap (λ (own : List (Pair Event)). request_sent a.number (known_of own).sent) (sym own-is) ∙ (ap (λ (k : Known). request_sent a.number k.sent) known_is ∙ (by-it a there-first).said)) beats)
-          by false other = absurd (joins false k p by-request n calls.one.knows it-is (by-it a there-first).said other has on silent)
+          by false other = absurd (joins loses k p by-request n calls.one.knows it-is (by-it a there-first).said other has on silent)
 
       -- the call goes on
-      pub heard_open : HasOpenCall heard_then reading
+      pub heard_open : HasCallOver loses heard_then reading
       heard_open = record {
         track = heard.track;
         one = one_on old.desk d old.coordinator c (p ∷ []) grown_heard calls.one session splits pipelines knows_then;
         way = way_is;
+        waits = waits_then;
         aside = aside_then;
         sent = sent_then;
         call = calls.call;
         opened = opened_then;
         outside = outside_then;
         apart = apart_then;
-        kinds = λ n q on said. awaited_kind c (known_of d.log.part.own) n q knows_then (and_first (awaits_number n c.due) (not (waits_aside n d)) (sym (way_is n) ∙ on)) said;
+        kinds = λ is n q on said. awaited_kind c (known_of d.log.part.own) n q (knows_quietly is) (and_first (awaits_number n c.due) (not (waits_aside n d)) (sym (way_is n) ∙ ap (λ b. b || has_lost n d) on)) said;
         waiting = left_on;
-        goes_out = λ ends. absurd (ends_otherwise old.desk.log.part.own d.log.part.own p own-is (λ sends. sends) ends);
+        goes_out = λ is ends. absurd (ends_otherwise old.desk.log.part.own d.log.part.own p own-is (λ sends. sends) ends);
         joins = joins_then;
         behind = subst (WaitsBehindHeard (IsWaitedFor c)) (sym own-is) (behind_heard old.coordinator c old.desk.log.part.own p h calls.one.knows o.o.call o.at waited by.said (ap known_of (sym own-is) ∙ known_is) after left calls.behind);
-        turn =
-            subst (λ now. KeepsTurn c.pipelining now c.due) (sym known_is)
-            (heard_turn old.coordinator c k h calls.one.knows (subst (Knows false c) known_is knows_then) pipelines waited calls.turn heard_to (for-call a there-first) (whole.silent a.number on-way) (least-of whole a d.replies heard.first) once after on_by
-            (λ isnt. comes false k p o.o calls.one.knows it-is o.opened isnt) (λ answer asked next is. ends o.o answer asked next o.opened is) before);
+        turn = turn_then;
       }
 
-      joined_then : (n : ℕ) → is_on_way n d ≡ true → (number : ℕ) → awaits_number number c.due ≡ true → waits_aside number d ≡ false
+      joined_then : (n : ℕ) → (is_on_way n d || has_lost n d) ≡ true → (number : ℕ) → awaits_number number c.due ≡ true → waits_aside number d ≡ false
       joined_then n on number waits_it = elim after [
         | inl same ↦
             let was : (awaits_number number old.coordinator.due && not (a.number == number)) ≡ true = sym (same number) ∙ waits_it in
-            aside_back number ∙ whole.joined a.number on-way number (and_first (awaits_number number old.coordinator.due) (not (a.number == number)) was)
-        | inr (none, outbox) ↦ absurd (
-            let was : (is_on_way n old.desk && not (a.number == n)) ≡ true = sym (heard.way n) ∙ on in
-            let awaits : (awaits_number n old.coordinator.due && not (a.number == n)) ≡ true = ap (λ b. b && not (a.number == n)) (awaited-of n (and_first (is_on_way n old.desk) (not (a.number == n)) was)) ∙ and_last (is_on_way n old.desk) (not (a.number == n)) was in
-            let e : true ≡ false = sym awaits ∙ none n in
-            cc e)
+            aside_back number ∙ whole.joined a.number out number (and_first (awaits_number number old.coordinator.due) (not (a.number == number)) was)
+        | inr (none, outbox) ↦ absurd (let e : true ≡ false = sym (still_awaited n on) ∙ none n in cc e)
       ]
 
-      next_h : IsAwaitedNext old.coordinator k h
-      next_h = record { waited = waited; whole = whole.silent a.number on-way; said = by.said }
+      -- all of the wave went out still, but for what was lost
+      sent_wave : (n : ℕ) → (is_on_way n d || has_lost n d) ≡ true → HasSentWave c.due
+      sent_wave n on = by c.due (on_by n (still_awaited n on))
+        where
+          was : All IsOutOrLost o.o.call.wave
+          was = subst HasSentWave o.due (whole.sent a.number out)
 
-      -- the wave stays whole
-      pub heard_whole : IsWholeOut heard_then
-      heard_whole =
-          whole_heard old heard_then h (ap (λ (l : LogMeaning C). l.head.splits) heard.entered.stored) known_is (λ n on. and_first (is_on_way n old.desk) (not (a.number == n)) (sym (heard.way n) ∙ on)) silent_then joined_then
-          (puts_heard old heard_then h p own-is refl known_is heard.way by.said (awaited_out old.coordinator k h calls.one.knows next_h) (way-of whole a there-first) whole.puts) whole
+          back_out : (m : Message) → IsOutOrLost m → IsOutOrLost (back_with a.number a.reply m)
+          back_out m isnt = λ to_send. absurd (
+              let none : is_to_send (back_with a.number a.reply m) ≡ false = elim (is_conflict a.reply) as (λ b. is_to_send (back_with_by b a.number a.reply m) ≡ false) [ true ↦ refl | false ↦ refl ] in
+              let e : false ≡ true = sym none ∙ to_send in
+              cc e)
+
+          by : (due : Due) → GoesOnBy (first_changed (awaits_at a.number) (back_with a.number a.reply) o.o.call.wave) due → HasSentWave due
+          by dues.Nothing goes = absurd goes
+          by (dues.Call call) goes = subst (All IsOutOrLost) (sym goes) (all_changed (awaits_at a.number) (back_with a.number a.reply) IsOutOrLost back_out o.o.call.wave was)
+          by (dues.Tell answer) goes = absurd goes
+
+      -- and where nothing is lost, the wave stays whole
+      whole_quietly : loses ≡ false → IsQuietWhole heard_then
+      whole_quietly is =
+          whole_heard old heard_then h (ap (λ (l : LogMeaning C). l.head.splits) heard.entered.stored) known_is (λ n on. and_first (is_on_way n old.desk) (not (a.number == n)) (sym (heard.way n) ∙ on)) (λ n on. silent_then n on) (λ n on. joined_then n (ap (λ b. b || has_lost n d) on))
+          (puts_heard old heard_then h p own-is refl known_is heard.way by.said (awaited_out old.coordinator k h (quiet_calls is).one.knows next_h) way_out (quiet_whole is).puts) (quiet_whole is)
+        where
+          next_h : IsAwaitedNext old.coordinator k h
+          next_h = record { waited = waited; whole = (quiet_whole is).silent a.number on-way; said = by.said }
+
+          quiet_o : IsOpenedAs false old.coordinator k
+          quiet_o = waits_opened old.coordinator k a.number (quiet_calls is).one.knows waited
+
+          way_out : (n : ℕ) → awaits_number n old.coordinator.due ≡ true → is_on_way n old.desk ≡ true
+          way_out n waits = sym (or_none (is_on_way n old.desk) (has_lost n old.desk) (has_lost_none old.desk calls.track (calls.one.quiet is) n)) ∙ way-of whole a there-first n waits
+            where
+              or_none : (w l : Bool) → l ≡ false → (w || l) ≡ w
+              or_none true l none = refl
+              or_none false l none = none
+
+          silent_then : (n : ℕ) → is_on_way n d ≡ true → SendsNoMore c.due
+          silent_then n on =
+              heard_silent old.coordinator c k (with_heard h k) h (quiet_calls is).one.knows waited ((quiet_whole is).silent a.number on-way) after (λ other still. goes_on quiet_o.o other it-is quiet_o.opened still) n (still_awaited n (ap (λ b. b || has_lost n d) on))
 
     pub heard_goes : c.session ≡ old.coordinator.session → HasGoneInside old heard_then
     heard_goes session = record {
@@ -578,3 +782,29 @@ module _ {C : Type 0} (old : SessionMeaning C) (reading : ℕ) (calls : HasOpenC
 
     pub fewer : length old.desk.replies ≡ length d.replies + 1
     fewer = let e : length old.desk.replies ≡ length (a ∷ d.replies) = ap length heard.first in omega (arith, e)
+
+-- each reply that waits may be heard
+pub may_hear_now : {C : Type 0} (old : SessionMeaning C) (reading : ℕ) → HasOpenCall old reading → IsWholeOut old → HasNoneLostFirst old.desk → MayHearNow old.desk
+may_hear_now old reading calls whole none_first = record {
+  each = λ a rest range first.
+      let any = calls.any in
+      let k = session_knows old in
+      let there : Contains old.desk.replies a = subst (λ rs. Contains rs a) (sym first) (contains_head a rest) in
+      let by = by-it old reading any none_first a there in
+      let h : Heard = record { number = a.number; request = by.request; reply = a.reply; step = a.step } in
+      let brings : heard_as a.number a.step (request_sent a.number k.sent) (Some a.reply) ≡ Some h = ap (λ (r : Option Request). heard_as a.number a.step r (Some a.reply)) by.said in
+      let on = on-way-of old reading any none_first a there in
+      keeps_as old.desk.log.part.id old.coordinator.session old.desk.log.head.splits (terms_of old.desk.log) old.desk.log.part.own (events.Hear a.number a.step) (heard_as a.number a.step (request_sent a.number k.sent) (Some a.reply)) any.one.whose
+      (subst (KeepsSessionStep old.desk.log.head.splits (terms_of old.desk.log) old.desk.log.part.own (events.Hear a.number a.step)) (sym brings)
+      (record {
+        wire = tt;
+        losses = by.unlost;
+        quiet = λ quiet.
+            let over = calls.quiet quiet in
+            let quiet_whole = whole.quiet quiet in
+            let next : IsAwaitedNext old.coordinator k h = record { waited = awaited-of old reading any none_first a.number (out-of old reading any none_first a there); whole = quiet_whole.silent a.number on; said = by.said } in
+            subst (λ b. KeepsOverQuiet old.desk.log.head.splits b old.desk.log.part.own (events.Hear a.number a.step) (Some h)) (sym any.one.piped)
+            (keeps_heard old.desk.log.head.splits old.coordinator.pipelining old.desk.log.part.own a.number a.step h (comes_in_turn old reading h over next on (least-of old reading any none_first whole a rest first)) (quiet_whole.pieces a.number by.request on by.said) (quiet_whole.refreshes a.number by.request on by.said)
+            (oldest_waits old.desk a rest any.track quiet first));
+      }));
+}

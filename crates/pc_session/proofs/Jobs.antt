@@ -140,8 +140,8 @@ jobs_sent jobs k p set session number range request may says e puts alone has =
     has
 
 -- a reply is heard
-pub jobs_heard : (jobs : List Job) (k : Known) (p : Pair Event) (pipelining : Bool) (number step : ℕ) (h : Heard) → IsForCall pipelining k h.request → p.entry.event ≡ events.Hear number step → learn p k ≡ with_heard h k → ((job : Job) → IsFinishable k job → LeavesAlone job.meta.id h.request) → HasJobs jobs k → HasJobs jobs (learn p k)
-jobs_heard jobs k p pipelining number step h kind says e alone has =
+pub jobs_heard : (jobs : List Job) (k : Known) (p : Pair Event) (number step : ℕ) (h : Heard) → p.entry.event ≡ events.Hear number step → learn p k ≡ with_heard h k → ((job : Job) → IsFinishable k job → LeavesAlone job.meta.id h.request) → HasJobs jobs k → HasJobs jobs (learn p k)
+jobs_heard jobs k p number step h says e alone has =
     jobs_message jobs k p
     (subst (LeavesTxns k) (sym e) (record { begun = refl; is_open = refl; same = same_map (txn_heard k.sent (Some h)) (λ t. refl) k.txns }))
     (λ job left. settles_on k (learn p k) job (finish_message k p job (ap is_message says) (ap (sends_put_by job.meta.id) says))

@@ -12,8 +12,8 @@ use Rattle.pc_coord.specs.declared.next.Next.TheVariants as nexts
 use Rattle.pc_coord.specs.Knows.{HasCallDue, Knows, KnowsAt}
 use Rattle.pc_desk.proofs.Counting.{none_counted, counts_any}
 use Rattle.pc_desk.specs.Aside.{HasJoinedWave}
-use Rattle.pc_desk.specs.Desk.{DeskMeaning, Posted, is_on_way, posted_as}
-use Rattle.pc_desk.specs.OwnLog.{LogMeaning}
+use Rattle.pc_desk.specs.Desk.{DeskMeaning, Posted, is_on_way, posted_as, has_lost}
+use Rattle.pc_desk.specs.OwnLog.{LogMeaning, verdict_of}
 use Rattle.pc_desk.specs.Waiting.{EndsUnheard}
 use Rattle.pc_exchange.proofs.Growing.{grows_none}
 use Rattle.pc_exchange.specs.Growing.{HasGrownBy}
@@ -24,7 +24,7 @@ use Rattle.pc_session.proofs.Again.{and_first}
 use Rattle.pc_session.proofs.Inside.{one_on}
 use Rattle.pc_session.proofs.Waiting.{wait_apart}
 use Rattle.pc_session.proofs.Wanted.{awaited_kind}
-use Rattle.pc_session.specs.InCall.{HasGoneInside, HasJoinedIfAwaited, HasOpenCall, IsApartNow, IsHeardOrAway, IsOfOpenEpoch, LeavesStrays, IsWholeOut, IsWaitedFor}
+use Rattle.pc_session.specs.InCall.{HasGoneInside, HasJoinedIfAwaited, HasOpenCall, IsApartNow, IsHeardOrAway, IsOfOpenEpoch, LeavesStrays, IsWholeOut, IsWaitedFor, HasCallOver}
 use Rattle.pc_session.specs.InTurn.{KeepsTurn}
 use Rattle.pc_session.specs.Session.{HasLeft, SessionMeaning, waits_aside, session_knows}
 use Rattle.pc_turns.specs.Order.{IsInBetween}
@@ -47,8 +47,11 @@ use Rattle.std.specs.Cmp.{ranked}
 use Rattle.std.specs.declared.cmp.Ordering.TheVariants.{Less}
 use Rattle.pc_desk.proofs.Desking.{sends_few}
 use Rattle.pc_session.proofs.AsideInCall.{aside_low}
+use Rattle.pc_desk.specs.Keeping.{LosesNothing}
+use Rattle.pc_wire.specs.Verdicts.{is_losing}
+use Rattle.pc_coord.proofs.Dues.{gone_out}
 
-module _ {C : Type 0} (old : SessionMeaning C) (reading : ℕ) (calls_are : HasOpenCall old reading) (number : ℕ) (waits : awaits_number number old.coordinator.due ≡ true) (aside : waits_aside number old.desk ≡ true) (e : DeskMeaning C) (put : HasJoinedWave old.desk e number) where
+module _ {C : Type 0} {loses : Bool} (old : SessionMeaning C) (reading : ℕ) (calls_are : HasCallOver loses old reading) (number : ℕ) (waits : awaits_number number old.coordinator.due ≡ true) (aside : waits_aside number old.desk ≡ true) (e : DeskMeaning C) (put : HasJoinedWave old.desk e number) where
   abbrev k : Known
   k = session_knows old
 
@@ -72,24 +75,27 @@ module _ {C : Type 0} (old : SessionMeaning C) (reading : ℕ) (calls_are : HasO
   others : (n : ℕ) → (number == n) ≡ false → waits_aside n e ≡ waits_aside n old.desk
   others n other = same_any (λ (m : Posted). m.number == n) e.later old.desk.later (put.moved.gone n ∙ ap (λ b. cond b 0 (posted_as n old.desk.later)) other)
 
-  way_is : (n : ℕ) → is_on_way n e ≡ (awaits_number n old.coordinator.due && not (waits_aside n e))
-  way_is n = put.way n ∙ by (number == n) refl
+  lost_same : (n : ℕ) → has_lost n e ≡ has_lost n old.desk
+  lost_same n = ap (has_lost n) put.rest
+
+  way_is : (n : ℕ) → (is_on_way n e || has_lost n e) ≡ (awaits_number n old.coordinator.due && not (waits_aside n e))
+  way_is n = ap (λ b. b || has_lost n e) (put.way n) ∙ (ap (λ b. (number == n || is_on_way n old.desk) || b) (lost_same n) ∙ by (number == n) refl)
     where
-      by : (b : Bool) → (number == n) ≡ b → (number == n || is_on_way n old.desk) ≡ (awaits_number n old.coordinator.due && not (waits_aside n e))
+      by : (b : Bool) → (number == n) ≡ b → ((number == n || is_on_way n old.desk) || has_lost n old.desk) ≡ (awaits_number n old.coordinator.due && not (waits_aside n e))
       by true is =
           let same : number ≡ n = eqb-true number n is in
           let w : awaits_number n old.coordinator.due ≡ true = ap (λ i. awaits_number i old.coordinator.due) (sym same) ∙ waits in
           let g : waits_aside n e ≡ false = ap (λ i. waits_aside i e) (sym same) ∙ gone in
-          ap (λ b. b || is_on_way n old.desk) is ∙ sym (ap (λ b. b && not (waits_aside n e)) w ∙ ap (λ b. not b) g)
-      by false is = ap (λ b. b || is_on_way n old.desk) is ∙ (calls_are.way n ∙ ap (λ b. awaits_number n old.coordinator.due && not b) (sym (others n is)))
+          ap (λ b. (b || is_on_way n old.desk) || has_lost n old.desk) is ∙ sym (ap (λ b. b && not (waits_aside n e)) w ∙ ap (λ b. not b) g)
+      by false is = ap (λ b. (b || is_on_way n old.desk) || has_lost n old.desk) is ∙ (calls_are.way n ∙ ap (λ b. awaits_number n old.coordinator.due && not b) (sym (others n is)))
 
   -- the call is one whose wave goes out
-  call_at : (due : Due) → old.coordinator.due ≡ due → awaits_number number due ≡ true → (call : OpenCall) × (old.coordinator.due ≡ dues.Call call) × HasCallDue false old.coordinator k call
+  call_at : (due : Due) → old.coordinator.due ≡ due → awaits_number number due ≡ true → (call : OpenCall) × (old.coordinator.due ≡ dues.Call call) × HasCallDue loses old.coordinator k call
   call_at dues.Nothing is w = absurd cc
-  call_at (dues.Call call) is w = (call, is, subst (KnowsAt false old.coordinator k) is calls_are.one.knows.stands)
+  call_at (dues.Call call) is w = (call, is, subst (KnowsAt loses old.coordinator k) is calls_are.one.knows.stands)
   call_at (dues.Tell answer) is w = absurd cc
 
-  abbrev at : (call : OpenCall) × (old.coordinator.due ≡ dues.Call call) × HasCallDue false old.coordinator k call
+  abbrev at : (call : OpenCall) × (old.coordinator.due ≡ dues.Call call) × HasCallDue loses old.coordinator k call
   at = call_at old.coordinator.due refl waits
 
   aside_before : (n : ℕ) → waits_aside n e ≡ true → waits_aside n old.desk ≡ true
@@ -109,8 +115,8 @@ module _ {C : Type 0} (old : SessionMeaning C) (reading : ℕ) (calls_are : HasO
           absurd (wait_apart old.coordinator k at.0 at.2 n has w)
       by false other = inl (others n other ∙ is)
 
-  knows_then : Knows false old.coordinator (known_of e.log.part.own)
-  knows_then = subst (Knows false old.coordinator) (sym known_same) calls_are.one.knows
+  knows_then : Knows loses old.coordinator (known_of e.log.part.own)
+  knows_then = subst (Knows loses old.coordinator) (sym known_same) calls_are.one.knows
 
   sent_still : (m : Sent) → IsHeardOrAway old m → IsHeardOrAway joined_then m
   sent_still m (inl heard) = inl (ap (λ (k : Known). is_heard k.heard_now m) known_same ∙ heard)
@@ -119,28 +125,31 @@ module _ {C : Type 0} (old : SessionMeaning C) (reading : ℕ) (calls_are : HasO
       or_right : (a b : Bool) → b ≡ true → (a || b) ≡ true
       or_right true b e = refl
       or_right false b e = e
-  sent_still m (inr (inr told)) = absurd (let f : dues.Call at.0 ≡ dues.Tell answers.Written = sym at.1 ∙ told.1 in cc f)
+  sent_still m (inr (inr (inl lost))) = inr (inr (inl (subst (λ verdict. is_losing (verdict m.number) ≡ true) (sym (ap (λ l. verdict_of l) log_same)) lost)))
+  sent_still m (inr (inr (inr told))) = absurd (let f : dues.Call at.0 ≡ dues.Tell answers.Written = sym at.1 ∙ told.1 in cc f)
 
   -- the call goes on
-  pub joined_open : HasOpenCall joined_then reading
+  pub joined_open : HasCallOver loses joined_then reading
   joined_open = record {
     track = put.track;
     one = one_on old.desk e old.coordinator old.coordinator [] (subst (λ l. HasGrownBy old.desk.log l []) (sym log_same) (grows_none old.desk.log)) calls_are.one refl refl refl knows_then;
     way = way_is;
-    aside = record {
-      waits = λ n has. still_waits n has (calls_are.aside.waits n has);
-      why = λ n is. subst (λ call. (has_waited n old.coordinator.later ≡ true) ⊎ (awaits_number n old.coordinator.due ≡ true) ⊎ LeavesStrays call old.coordinator.due) (ap call_of (sym known_same)) (calls_are.aside.why n (aside_before n is));
-      epoch = λ n is. subst (λ k. IsOfOpenEpoch k n) (sym known_same) (calls_are.aside.epoch n (aside_before n is));
+    waits = λ n has. still_waits n has (calls_are.waits n has);
+    aside = λ is. record {
+      waits = λ n has. still_waits n has (calls_are.waits n has);
+      why = λ n there. subst (λ call. (has_waited n old.coordinator.later ≡ true) ⊎ (awaits_number n old.coordinator.due ≡ true) ⊎ LeavesStrays call old.coordinator.due) (ap call_of (sym known_same)) ((calls_are.aside is).why n (aside_before n there));
+      epoch = λ n there. subst (λ k. IsOfOpenEpoch k n) (sym known_same) ((calls_are.aside is).epoch n (aside_before n there));
     };
     sent = subst (λ k. All (IsHeardOrAway joined_then) k.sent_now) (sym known_same) (All-weaker (IsHeardOrAway old) (IsHeardOrAway joined_then) sent_still k.sent_now calls_are.sent);
     call = calls_are.call;
     opened = ap (λ (k : Known). k.statement) known_same ∙ calls_are.opened;
     outside = λ outside. ap (λ (k : Known). k.is_open) known_same ∙ calls_are.outside outside;
     apart = subst IsApartNow (sym known_same) calls_are.apart;
-    kinds = λ n q on said. awaited_kind old.coordinator (known_of e.log.part.own) n q knows_then (and_first (awaits_number n old.coordinator.due) (not (waits_aside n e)) (sym (way_is n) ∙ on)) said;
-    waiting = subst (λ own. HasLeft own old.jobs) (sym own_same) calls_are.waiting;
-    turn = subst (λ k. KeepsTurn old.coordinator.pipelining k old.coordinator.due) (sym known_same) calls_are.turn;
-    goes_out = λ ends. calls_are.goes_out (subst EndsWithSending own_same ends);
+    kinds = λ is n q on said.
+        awaited_kind old.coordinator (known_of e.log.part.own) n q (subst (λ b. Knows b old.coordinator (known_of e.log.part.own)) is knows_then) (and_first (awaits_number n old.coordinator.due) (not (waits_aside n e)) (sym (way_is n) ∙ ap (λ b. b || has_lost n e) on)) said;
+    waiting = subst (λ own. HasLeft loses own old.jobs) (sym own_same) calls_are.waiting;
+    turn = λ is. subst (λ k. KeepsTurn old.coordinator.pipelining k old.coordinator.due) (sym known_same) (calls_are.turn is);
+    goes_out = λ is ends. calls_are.goes_out is (subst EndsWithSending own_same ends);
     behind = subst (WaitsBehindHeard (IsWaitedFor old.coordinator)) (sym own_same) calls_are.behind;
     joins = λ silent n on is. subst EndsUnheard (sym own_same) (calls_are.joins silent n on (aside_before n is));
   }
@@ -150,6 +159,7 @@ pub record IsJoining {C : Type 0} (old new : SessionMeaning C) (next : Option �
   pub log : new.desk.log ≡ old.desk.log
   pub limit : new.desk.range_limit ≡ old.desk.range_limit
   pub replies : new.desk.replies ≡ old.desk.replies
+  pub lost : new.desk.lost ≡ old.desk.lost
   pub coordinator : new.coordinator ≡ old.coordinator
   pub bound : ℕ
   pub from : next ≡ first_from bound (map (λ m. m.number) new.desk.later)
@@ -178,7 +188,7 @@ below_number : (n number : ℕ) → n < number + 1 → (n == number) ≡ false �
 below_number n number low other = grind (arith, nat_tests, low, other)
 
 -- in a sorted list the first is below the others
-sorted_above : (x : ℕ) (ns : List ℕ) → IsStrictlySortedBy nat_cmp (x ∷ ns) → (n : ℕ) → Contains ns n → x < n
+pub sorted_above : (x : ℕ) (ns : List ℕ) → IsStrictlySortedBy nat_cmp (x ∷ ns) → (n : ℕ) → Contains ns n → x < n
 unfolding IsStrictlySortedBy
 sorted_above x ns sorted n there = All-contains (λ (n : ℕ). x < n) ns n (by ns sorted.0) there
   where
@@ -233,6 +243,7 @@ joining_first s next from = record {
   log = refl;
   limit = refl;
   replies = refl;
+  lost = refl;
   coordinator = refl;
   bound = 0;
   from = from;
@@ -246,6 +257,7 @@ joining_next {C} old mid new number next j sorted from same fewer gone = record 
   log = ap (λ (s : SessionMeaning C). s.desk.log) same ∙ j.log;
   limit = ap (λ (s : SessionMeaning C). s.desk.range_limit) same ∙ j.limit;
   replies = ap (λ (s : SessionMeaning C). s.desk.replies) same ∙ j.replies;
+  lost = ap (λ (s : SessionMeaning C). s.desk.lost) same ∙ j.lost;
   coordinator = ap (λ (s : SessionMeaning C). s.coordinator) same ∙ j.coordinator;
   bound = number + 1;
   from = from;
@@ -313,16 +325,19 @@ module _ {C : Type 0} (l : SessionMeaning C) (reading number : ℕ) (calls_are :
 
   -- what was set aside may join the wave that waits for it
   pub may_join : awaits_number number l.coordinator.due ≡ true → EndsUnheard l.desk.log.part.own
-  may_join waits = calls_are.joins (silent_wave l.coordinator (session_knows l) calls_are.one.knows due) number waits aside
+  may_join waits = calls_are.any.joins (silent_wave l.coordinator (session_knows l) calls_are.any.one.knows due) number waits aside
 
   -- once it did
   pub has_joined : awaits_number number l.coordinator.due ≡ true → (e : DeskMeaning C) → HasJoinedWave l.desk e number → HasOpenCall (record l { desk = e }) reading × HasJoinedIfAwaited l (record l { desk = e }) number
   has_joined waits e put = (
-    joined_open l reading calls_are number waits aside e put,
+    record {
+      any = joined_open l reading calls_are.any number waits aside e put;
+      quiet = λ quiet. joined_open l reading (calls_are.quiet (subst LosesNothing (ap (λ (d : DeskMeaning C). verdict_of d.log) put.rest) quiet)) number waits aside e put;
+    },
     record {
       same = ap (λ d. record l { desk = d }) put.rest;
-      fewer = aside_before l reading calls_are number waits aside e put;
-      gone = λ w. gone l reading calls_are number waits aside e put;
+      fewer = aside_before l reading calls_are.any number waits aside e put;
+      gone = λ w. gone l reading calls_are.any number waits aside e put;
     },
   )
 
@@ -340,9 +355,14 @@ passed_next old l new number next j sorted looked from =
     joining_next old l new number next j sorted from looked.same looked.fewer (λ w. looked.gone (ap (λ (c : Coordination). awaits_number number c.due) j.coordinator ∙ w))
 
 -- in the end the wave is whole
-pub joining_ends : {C : Type 0} (old l : SessionMeaning C) (reading : ℕ) → HasOpenCall l reading → IsJoining old l None → next_of old.coordinator ≡ nexts.Wave → EndsPutWaves old.desk.log.part.own → IsWholeOut l
+pub joining_ends : {C : Type 0} (old l : SessionMeaning C) (reading : ℕ) → HasOpenCall l reading → IsJoining old l None → next_of old.coordinator ≡ nexts.Wave → (LosesNothing (verdict_of old.desk.log) → EndsPutWaves old.desk.log.part.own) → IsWholeOut l
 joining_ends old l reading calls_are j due puts =
-    whole_wave l reading calls_are (joining_all old l j) (subst (λ log. EndsPutWaves log.part.own) (sym j.log) puts) (ap next_of j.coordinator ∙ due)
+    let due_now : next_of l.coordinator ≡ nexts.Wave = ap next_of j.coordinator ∙ due in
+    record {
+      sent = λ number on. gone_out l.coordinator.due (silent_wave l.coordinator (session_knows l) calls_are.any.one.knows due_now);
+      joined = λ other on. joining_all old l j;
+      quiet = λ quiet. whole_wave l reading (calls_are.quiet quiet) (joining_all old l j) (subst (λ log. EndsPutWaves log.part.own) (sym j.log) (puts (subst (λ log. LosesNothing (verdict_of log)) j.log quiet))) due_now;
+    }
 
 -- ---- the numbers go on
 
@@ -365,12 +385,12 @@ fewer_to_join last number (Some n) ns from low = let above : number + 1 ≤ n = 
 
 module _ {C : Type 0} (old l : SessionMeaning C) (reading number : ℕ) (calls_are : HasOpenCall l reading) (j : IsJoining old l (Some number)) where
   number_low : number ≤ length (session_knows l).sent
-  number_low = aside_low l.desk calls_are.track number (next_aside_is old l number j)
+  number_low = aside_low l.desk calls_are.any.track number (next_aside_is old l number j)
 
   pub number_fits : number + 1 < 2 ^ 64
   number_fits =
-      let few : l.desk.sends + 1 < 2 ^ 64 = sends_few l.desk calls_are.track in
-      let counted : l.desk.sends ≡ length (session_knows l).sent = calls_are.track.counted in
+      let few : l.desk.sends + 1 < 2 ^ 64 = sends_few l.desk calls_are.any.track in
+      let counted : l.desk.sends ≡ length (session_knows l).sent = calls_are.any.track.counted in
       omega (arith, few, counted, number_low)
 
   -- the measure of the loop falls

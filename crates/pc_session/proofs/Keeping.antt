@@ -7,7 +7,7 @@ use Rattle.pc_call.specs.Sending.{IsSendable}
 use Rattle.pc_coord.specs.Coordination.{Coordination, setting_of}
 use Rattle.pc_coord.specs.Knows.{IsTellable}
 use Rattle.pc_desk.specs.Hearing.{HearsAll}
-use Rattle.pc_desk.specs.Keeping.{KeepsAs, KeepsSessionStep}
+use Rattle.pc_desk.specs.Keeping.{KeepsAs, KeepsSessionStep, KeepsOverQuiet, Terms}
 use Rattle.pc_history.specs.declared.pair.Pair.{Pair}
 use Rattle.pc_proto.specs.declared.answer.Answer.{Answer}
 use Rattle.pc_proto.specs.declared.call.Call.{Call}
@@ -41,10 +41,9 @@ use Rattle.pc_world.specs.Known.Statements.{Statement}
 use Rattle.pc_world.specs.Known.Traffic.{Heard}
 
 -- what a session's event keeps, as that of an actor
-pub keeps_as : (id : ActorId) (session : ℕ) (splits : List (List ℕ)) (pipelining piped : Bool) (own : List (Pair Event)) (event : Event) (h : Option Heard) → id ≡ actors.Session session → pipelining ≡ piped
-    → KeepsSessionStep splits piped own event h → KeepsAs id splits pipelining own event h
-keeps_as id session splits pipelining piped own event h whose same keeps =
-    subst (λ i. KeepsAs i splits pipelining own event h) (sym whose) (subst (λ b. KeepsSessionStep splits b own event h) (sym same) keeps)
+pub keeps_as : (id : ActorId) (session : ℕ) (splits : List (List ℕ)) (terms : Terms) (own : List (Pair Event)) (event : Event) (h : Option Heard) → id ≡ actors.Session session
+    → KeepsSessionStep splits terms own event h → KeepsAs id splits terms own event h
+keeps_as id session splits terms own event h whose keeps = subst (λ i. KeepsAs i splits terms own event h) (sym whose) keeps
 
 -- ---- a message of the call is no push
 
@@ -215,7 +214,7 @@ pub record GoesInTurn (pipelining : Bool) (k : Known) (request : Request) : Type
 
 -- a message that the coordinator gave is sent
 pub keeps_sent : (cut : List (List ℕ)) (own : List (Pair Event)) (number range : ℕ) (request : Request) (c : Coordination)
-    → IsSendable (setting_of false c) c.session (known_of own) request → GoesInTurn c.pipelining (known_of own) request → EndsWaves own → EndsPutWaves own → KeepsSessionStep cut c.pipelining own (events.Send number range request) None
+    → IsSendable (setting_of false c) c.session (known_of own) request → GoesInTurn c.pipelining (known_of own) request → EndsWaves own → EndsPutWaves own → KeepsOverQuiet cut c.pipelining own (events.Send number range request) None
 keeps_sent cut own number range request c may turn ends puts = record {
   wire = tt;
   early_tell = may.undecided;
@@ -265,7 +264,7 @@ pub record ComesInTurn (pipelining : Bool) (own : List (Pair Event)) (h : Heard)
 
 -- a reply to such a message is heard
 pub keeps_heard : (cut : List (List ℕ)) (pipelining : Bool) (own : List (Pair Event)) (number step : ℕ) (h : Heard) → ComesInTurn pipelining own h → (is_heartbeat h.request ≡ false → is_put h.request ≡ false → SentAllPieces cut (known_of own)) → IsOfWholeRefresh (known_of own) h.request → IsOldestUnheard (known_of own) h.number
-    → KeepsSessionStep cut pipelining own (events.Hear number step) (Some h)
+    → KeepsOverQuiet cut pipelining own (events.Hear number step) (Some h)
 keeps_heard cut pipelining own number step h turn pieces whole oldest = record {
   wire = tt;
   early_tell = tt;
@@ -306,7 +305,7 @@ tells_rounds false k answer = tt
 
 -- an answer is told
 pub keeps_told : (cut : List (List ℕ)) (own : List (Pair Event)) (c : Coordination) (answer : Answer) → IsTellable false c (known_of own) answer → TellsFirstBlock c.pipelining (known_of own) answer → ((s : Statement) → (known_of own).statement ≡ Some s → TellsTheEighth (known_of own) s answer)
-    → HearsAll c.pipelining (known_of own) (events.Tell answer) → EndsPutWaves own → KeepsSessionStep cut c.pipelining own (events.Tell answer) None
+    → HearsAll c.pipelining (known_of own) (events.Tell answer) → EndsPutWaves own → KeepsOverQuiet cut c.pipelining own (events.Tell answer) None
 keeps_told cut own c answer may first eighth all puts = record {
   wire = all;
   early_tell = tt;

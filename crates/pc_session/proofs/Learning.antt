@@ -1,5 +1,5 @@
 -- A session that learns of a commit: it asks, meets the commit where its token was given, and is told.
-use Rattle.std.proofs.Common.{◌≡◌, ℕ, ◌+◌, ◌<◌, ◌≤◌, ◌⊎◌, ◌==◌, max, Bool, true, false, All, Contains, inl, inr, is_some, List, [], ◌∷◌, ◌++◌, Option, None, Some, refl, sym, ap, subst, ◌∙◌, arith, ◌&&◌, not, IsTrue}
+use Rattle.std.proofs.Common.{◌≡◌, ℕ, ◌+◌, ◌<◌, ◌≤◌, ◌⊎◌, ◌==◌, max, Bool, true, false, All, Contains, inl, inr, is_some, List, [], ◌∷◌, ◌++◌, Option, None, Some, refl, sym, ap, subst, ◌∙◌, arith, ◌&&◌, not, IsTrue, ◌||◌}
 use Rattle.std.proofs.lemmas.Bool.{and_from, eq-eqb}
 use Rattle.std.proofs.lemmas.List.{append-nil, map-append}
 use Rattle.std.proofs.lemmas.List.Elements.{All-cons, All-contains, All-nil, All-weaker, Contains-append_left, Contains-push}
@@ -16,10 +16,10 @@ use Rattle.pc_desk.proofs.Entering.{local_does}
 use Rattle.pc_desk.proofs.Making.{added, known_after_it}
 use Rattle.pc_desk.specs.declared.halt.Halt.{Halt}
 use Rattle.pc_desk.specs.declared.halt.Halt.TheVariants as halts
-use Rattle.pc_desk.specs.Desk.{DeskMeaning, HasDone, KeepsTrack, is_on_way}
+use Rattle.pc_desk.specs.Desk.{DeskMeaning, HasDone, KeepsTrack, is_on_way, has_lost}
 use Rattle.pc_desk.specs.Ending.{EndsBy, EndsOnly, HasEnded, HasMadeLast}
-use Rattle.pc_desk.specs.Keeping.{KeepsSessionStep}
-use Rattle.pc_desk.specs.OwnLog.{MayEnter}
+use Rattle.pc_desk.specs.Keeping.{KeepsSessionStep, LosesNothing, KeepsOverQuiet}
+use Rattle.pc_desk.specs.OwnLog.{MayEnter, verdict_of, terms_of, LogMeaning}
 use Rattle.pc_exchange.proofs.Ending.{breaks_only, made_by}
 use Rattle.pc_exchange.proofs.Growing.{grows_both, grows_else, grows_entered, grows_none, knows_more}
 use Rattle.pc_exchange.specs.Ending.{BreaksOff}
@@ -37,12 +37,12 @@ use Rattle.pc_proto.specs.declared.event.Event.{Event}
 use Rattle.pc_proto.specs.declared.event.Event.TheVariants as events
 use Rattle.pc_proto.specs.Stamps.{event_stamps, fate_stamps, greatest_of}
 use Rattle.pc_session.proofs.FirstCommits.{first_met, settles_on}
-use Rattle.pc_session.proofs.Inside.{one_on}
+use Rattle.pc_session.proofs.Inside.{one_on, verdicts_same}
 use Rattle.pc_session.proofs.Jobs.{HasJobs}
 use Rattle.pc_session.proofs.Keeping.{keeps_as, hears_none}
 use Rattle.pc_session.proofs.Knowing.{jobs_then}
 use Rattle.pc_session.proofs.Stepping.{part_whose}
-use Rattle.pc_session.specs.InCall.{HasOpenCall, HasTold, IsApartNow, IsHeardOrAway, IsWaitedFor}
+use Rattle.pc_session.specs.InCall.{HasOpenCall, HasTold, IsApartNow, IsHeardOrAway, IsWaitedFor, HasCallOver, EndsPutsQuietly, HasPutsAside, MayComeNow}
 use Rattle.pc_session.specs.InTurn.{KeepsTurn, WaitsForReplies}
 use Rattle.pc_session.specs.Learning.{AreOfBrokenLearn, AreOfToldLearn, AreOfUntoldLearn, HasAskedToLearn, HasLearnt, HasMet, IsLearning, answer_to_learn, met_at}
 use Rattle.pc_session.specs.Session.{HasLeft, IsAtRest, SessionMeaning, session_knows, waits_aside}
@@ -61,14 +61,15 @@ use Rattle.pc_follows.specs.Proving.{IsAwaitedPut, WritesLast}
 use Rattle.pc_follows.specs.WaveOrder.{AreAwaitedHeard, EndsPutWaves}
 use Rattle.pc_session.proofs.Strays.{is_open_by}
 use Rattle.pc_world.specs.Tell.Refusal.{is_heard}
+use Rattle.pc_wire.specs.Verdicts.{is_losing}
 
 -- ---- what is due is told
 
 pub next_told : (c : Coordination) (answer : Answer) → c.due ≡ dues.Tell answer → next_of c ≡ nexts.Tell answer
 next_told c answer due = ap (next_at c.pipelining c.txn) due
 
-pub tellable_now : (c : Coordination) (k : Known) (answer : Answer) → Knows false c k → c.due ≡ dues.Tell answer → IsTellable false c k answer
-tellable_now c k answer knows due = let now : KnowsAt false c k (dues.Tell answer) = subst (KnowsAt false c k) due knows.stands in now.may
+pub tellable_now : {loses : Bool} (c : Coordination) (k : Known) (answer : Answer) → Knows loses c k → c.due ≡ dues.Tell answer → IsTellable loses c k answer
+tellable_now {loses} c k answer knows due = let now : KnowsAt loses c k (dues.Tell answer) = subst (KnowsAt loses c k) due knows.stands in now.may
 
 -- ---- what a session knows once it met a commit
 
@@ -112,7 +113,7 @@ meets_rounds true k id step = tt
 meets_rounds false k id step = tt
 
 -- a meeting keeps what a session's events keep
-keeps_met : (cut : List (List ℕ)) (pipelining : Bool) (own : List (Pair Event)) (id : TxnId) (step : ℕ) → KeepsSessionStep cut pipelining own (events.Meet id step) None
+keeps_met : (cut : List (List ℕ)) (pipelining : Bool) (own : List (Pair Event)) (id : TxnId) (step : ℕ) → KeepsOverQuiet cut pipelining own (events.Meet id step) None
 keeps_met cut pipelining own id step = record {
   wire = tt;
   early_tell = tt;
@@ -148,13 +149,13 @@ learnt_turn true k = tt
 learnt_turn false k = tt
 
 -- outside of a transaction nothing waits in the outbox, and no put is waited for
-closed_later : (c : Coordination) (k : Known) → Knows false c k → c.due ≡ dues.Tell answers.NotYet → k.is_open ≡ false → (number : ℕ) → has_waited number c.later ≡ false
-closed_later c k knows due closed number = by c.txn at.after.held at.after.outbox
+closed_later : {loses : Bool} (c : Coordination) (k : Known) → Knows loses c k → c.due ≡ dues.Tell answers.NotYet → k.is_open ≡ false → (number : ℕ) → has_waited number c.later ≡ false
+closed_later {loses} c k knows due closed number = by c.txn at.after.held at.after.outbox
   where
-    at : KnowsAt false c k (dues.Tell answers.NotYet)
-    at = subst (KnowsAt false c k) due knows.stands
+    at : KnowsAt loses c k (dues.Tell answers.NotYet)
+    at = subst (KnowsAt loses c k) due knows.stands
 
-    by : (txn : Option OpenTxn) → IsHeld txn (learned (events.Tell answers.NotYet) k) → IsOutboxOf false txn c.later (learned (events.Tell answers.NotYet) k) → has_waited number c.later ≡ false
+    by : (txn : Option OpenTxn) → IsHeld txn (learned (events.Tell answers.NotYet) k) → IsOutboxOf loses txn c.later (learned (events.Tell answers.NotYet) k) → has_waited number c.later ≡ false
     by None held outbox = ap (has_waited number) outbox.0
     by (Some x) held outbox = absurd (let is_open_now : k.is_open ≡ true = held.open_in.is_open in let e : true ≡ false = sym is_open_now ∙ closed in cc e)
 
@@ -163,19 +164,25 @@ closed_awaited k closed =
     all_from_contains (λ m. IsAwaitedPut k m.request → IsTrue (is_heard k.heard m)) k.sent (λ m there a. absurd (let is_open_now : k.is_open ≡ true = is_open_by k.is_open k.txns a.t a.opened in let e : true ≡ false = sym is_open_now ∙ closed in cc e))
 
 -- while a learn is open, what was set aside waits in the outbox: nothing
-pub learn_aside : {C : Type 0} (s : SessionMeaning C) (reading : ℕ) (id : TxnId) → HasOpenCall s reading → IsLearning s id → (number : ℕ) → waits_aside number s.desk ≡ has_waited number s.coordinator.later
-learn_aside s reading id calls_are learning number = by (waits_aside number s.desk) refl
+learn_just : {C : Type 0} (s : SessionMeaning C) (reading : ℕ) (id : TxnId) → HasCallOver false s reading → IsLearning s id → (number : ℕ) → waits_aside number s.desk ≡ has_waited number s.coordinator.later
+learn_just s reading id calls_are learning number = by (waits_aside number s.desk) refl
   where
     k : Known
     k = session_knows s
 
     by : (b : Bool) → waits_aside number s.desk ≡ b → waits_aside number s.desk ≡ has_waited number s.coordinator.later
     by false is = is ∙ sym (closed_later s.coordinator k calls_are.one.knows learning.due learning.closed number)
-    by true is = absurd (let of = calls_are.aside.epoch number is in let is_open_now : k.is_open ≡ true = is_open_by k.is_open k.txns of.t of.opened in let e : true ≡ false = sym is_open_now ∙ learning.closed in cc e)
+    by true is = absurd (let of = (calls_are.aside refl).epoch number is in let is_open_now : k.is_open ≡ true = is_open_by k.is_open k.txns of.t of.opened in let e : true ≡ false = sym is_open_now ∙ learning.closed in cc e)
+
+pub learn_aside : {C : Type 0} (s : SessionMeaning C) (reading : ℕ) (id : TxnId) → HasOpenCall s reading → IsLearning s id → HasPutsAside s
+learn_aside s reading id calls_are learning = record {
+  waits = λ number has. absurd (let e : true ≡ false = sym has ∙ closed_later s.coordinator (session_knows s) calls_are.any.one.knows learning.due learning.closed number in cc e);
+  quiet = λ quiet. learn_just s reading id (calls_are.quiet quiet) learning;
+}
 
 -- ---- the commit is met
 
-module _ {C : Type 0} (old : SessionMeaning C) (reading : ℕ) (token : TokenMeaning) (calls : HasOpenCall old reading) (learning : IsLearning old token.id) (commit : IsOfCommit token) where
+module _ {C : Type 0} {loses : Bool} (old : SessionMeaning C) (reading : ℕ) (token : TokenMeaning) (calls : HasCallOver loses old reading) (learning : IsLearning old token.id) (commit : IsOfCommit token) where
   abbrev k : Known
   k = session_knows old
 
@@ -194,8 +201,15 @@ module _ {C : Type 0} (old : SessionMeaning C) (reading : ℕ) (token : TokenMea
   knows_it =
       knows-known desk_told.log.part commit.entry (subst (λ (ks : List (KnownEntry Event)). Contains (old.desk.log.part.known ++ ks) commit.entry) (sym commit.knows) (Contains-push old.desk.log.part.known commit.entry))
 
+  none_out : (number : ℕ) → (is_on_way number old.desk || has_lost number old.desk) ≡ false
+  none_out number = calls.way number ∙ ap (λ d. awaits_number number d && not (waits_aside number old.desk)) learning.due
+
   away : (number : ℕ) → is_on_way number old.desk ≡ false
-  away number = calls.way number ∙ ap (λ d. awaits_number number d && not (waits_aside number old.desk)) learning.due
+  away number = first_none (is_on_way number old.desk) (has_lost number old.desk) (none_out number)
+    where
+      first_none : (a b : Bool) → (a || b) ≡ false → a ≡ false
+      first_none true b f = absurd cc
+      first_none false b f = refl
 
   module _ (track : KeepsTrack desk_told) where
     names_it : named_by (protocol desk_told.log.head) desk_told.log.part event ≡ Some telling
@@ -213,7 +227,7 @@ module _ {C : Type 0} (old : SessionMeaning C) (reading : ℕ) (token : TokenMea
           caused = (knows_it.0, telling, knows_it.1, knows_it.2, record { at = commit.at; tell = subst (TellsCommitted token.id) (sym commit.says) refl });
           free = refl;
           no_ask = refl;
-          keeps = keeps_as l.part.id old.coordinator.session l.head.splits l.pipelining old.coordinator.pipelining l.part.own event None calls.one.whose calls.one.piped (keeps_met l.head.splits old.coordinator.pipelining l.part.own token.id token.step);
+          keeps = keeps_as l.part.id old.coordinator.session l.head.splits (terms_of l) l.part.own event None calls.one.whose (record { wire = tt; losses = tt; quiet = λ quiet. keeps_met l.head.splits l.pipelining l.part.own token.id token.step });
         }
 
     module _ (d : DeskMeaning C) (c : Coordination) (done : HasDone desk_told d event) (made : c ≡ meeting token.ts old.coordinator)
@@ -242,19 +256,19 @@ module _ {C : Type 0} (old : SessionMeaning C) (reading : ℕ) (token : TokenMea
       session_is : c.session ≡ old.coordinator.session
       session_is = ap (λ (c : Coordination). c.session) made
 
-      knows_then : Knows false c (known_of d.log.part.own)
+      knows_then : Knows loses c (known_of d.log.part.own)
       knows_then =
-          subst (Knows false c) (sym learnt)
-          (learns false k p token.id token.step calls.one.knows
+          subst (Knows loses c) (sym learnt)
+          (learns loses k p token.id token.step calls.one.knows
           (record { due = learning.due; asked = learning.asked; closed = learning.closed; quiet = learning.quiet; event = refl; commit = telling; named = names_it; told = commit.says }))
 
       away_then : (number : ℕ) → is_on_way number d ≡ false
       away_then number = ap (is_on_way number) done.rest ∙ away number
 
-      left_on : HasLeft d.log.part.own old.jobs
+      left_on : HasLeft loses d.log.part.own old.jobs
       left_on =
           let has : HasJobs old.jobs (known_of d.log.part.own) = subst (HasJobs old.jobs) (sym known_is) (jobs_met old.jobs k token.id token.ts (record { numbers = calls.waiting.numbers; left = calls.waiting.each })) in
-          record { left = jobs_then desk_told.log d.log event done.entered ∙ calls.waiting.left; numbers = has.numbers; each = has.left }
+          record { left = λ is. jobs_then desk_told.log d.log event done.entered ∙ calls.waiting.left is; numbers = has.numbers; each = has.left }
 
       later_is : c.later ≡ old.coordinator.later
       later_is = ap (λ (c : Coordination). c.later) made
@@ -263,15 +277,18 @@ module _ {C : Type 0} (old : SessionMeaning C) (reading : ℕ) (token : TokenMea
       none_later : (number : ℕ) → has_waited number old.coordinator.later ≡ false
       none_later number = closed_later old.coordinator k calls.one.knows learning.due learning.closed number
 
-      none_aside : (number : ℕ) → waits_aside number old.desk ≡ false
-      none_aside number = by (waits_aside number old.desk) refl
+      none_aside : loses ≡ false → (number : ℕ) → waits_aside number old.desk ≡ false
+      none_aside quiet number = by (waits_aside number old.desk) refl
         where
           by : (b : Bool) → waits_aside number old.desk ≡ b → waits_aside number old.desk ≡ false
           by false is = is
-          by true is = absurd (let of = calls.aside.epoch number is in let is_open_now : k.is_open ≡ true = is_open_by k.is_open k.txns of.t of.opened in let e : true ≡ false = sym is_open_now ∙ learning.closed in cc e)
+          by true is = absurd (let of = (calls.aside quiet).epoch number is in let is_open_now : k.is_open ≡ true = is_open_by k.is_open k.txns of.t of.opened in let e : true ≡ false = sym is_open_now ∙ learning.closed in cc e)
 
-      aside_then : (number : ℕ) → waits_aside number d ≡ false
-      aside_then number = ap (λ (x : DeskMeaning C). waits_aside number x) done.rest ∙ none_aside number
+      aside_then : loses ≡ false → (number : ℕ) → waits_aside number d ≡ false
+      aside_then quiet number = ap (λ (x : DeskMeaning C). waits_aside number x) done.rest ∙ none_aside quiet number
+
+      none_out_then : (number : ℕ) → (is_on_way number d || has_lost number d) ≡ false
+      none_out_then number = ap (λ (x : DeskMeaning C). is_on_way number x || has_lost number x) done.rest ∙ none_out number
 
       no_written : old.coordinator.due ≡ dues.Tell answers.Written → ⊥
       no_written told = let e : dues.Tell answers.NotYet ≡ dues.Tell answers.Written = sym learning.due ∙ told in cc e
@@ -282,7 +299,8 @@ module _ {C : Type 0} (old : SessionMeaning C) (reading : ℕ) (token : TokenMea
           (All-weaker (IsHeardOrAway old) (IsHeardOrAway met_then) (λ m out. elim out [
             | inl heard ↦ inl (ap (λ (k : Known). is_heard k.heard_now m) known_is ∙ heard)
             | inr (inl on) ↦ absurd (let e : true ≡ false = sym on ∙ away m.number in cc e)
-            | inr (inr told) ↦ absurd (no_written told.1)
+            | inr (inr (inl lost)) ↦ inr (inr (inl (subst (λ verdict. is_losing (verdict m.number) ≡ true) (sym (verdicts_same old.desk.log d.log (p ∷ []) grown_met)) lost)))
+            | inr (inr (inr told)) ↦ absurd (no_written told.1)
           ]) k.sent_now calls.sent)
 
       none_waits : (number : ℕ) → IsWaitedFor c number → ⊥
@@ -290,35 +308,40 @@ module _ {C : Type 0} (old : SessionMeaning C) (reading : ℕ) (token : TokenMea
       none_waits number (inr later) = let e : true ≡ false = sym later ∙ (ap (has_waited number) later_is ∙ none_later number) in cc e
 
       -- the call goes on
-      pub met_open : HasOpenCall met_then reading
+      pub met_open : HasCallOver loses met_then reading
       met_open = record {
         track = done.track;
         one = one_on old.desk d old.coordinator c (p ∷ []) grown_met calls.one session_is (ap (λ (c : Coordination). c.splits) made) (ap (λ (c : Coordination). c.pipelining) made) knows_then;
-        way = λ number. away_then number ∙ sym (ap (λ due. awaits_number number due && not (waits_aside number d)) due_is);
-        aside = record {
+        way = λ number. none_out_then number ∙ sym (ap (λ due. awaits_number number due && not (waits_aside number d)) due_is);
+        waits = λ number has. absurd (let e : true ≡ false = sym (ap (has_waited number) (sym later_is) ∙ has) ∙ none_later number in cc e);
+        aside = λ quiet. record {
           waits = λ number has. absurd (let e : true ≡ false = sym (ap (has_waited number) (sym later_is) ∙ has) ∙ none_later number in cc e);
-          why = λ number is. absurd (let e : true ≡ false = sym is ∙ aside_then number in cc e);
-          epoch = λ number is. absurd (let e : true ≡ false = sym is ∙ aside_then number in cc e);
+          why = λ number is. absurd (let e : true ≡ false = sym is ∙ aside_then quiet number in cc e);
+          epoch = λ number is. absurd (let e : true ≡ false = sym is ∙ aside_then quiet number in cc e);
         };
         sent = sent_then;
         call = calls.call;
         opened = ap (λ (k : Known). k.statement) known_is ∙ calls.opened;
         outside = λ outside. ap (λ (k : Known). k.is_open) known_is ∙ calls.outside outside;
         apart = subst IsApartNow (sym known_is) (apart_met k token.id token.ts calls.apart);
-        kinds = λ number request on. absurd (let e : true ≡ false = sym on ∙ away_then number in cc e);
+        kinds = λ quiet number request on. absurd (let e : true ≡ false = sym on ∙ away_then number in cc e);
         waiting = left_on;
-        goes_out = λ ends. subst WaitsForReplies (sym due_is) tt;
-        joins = λ silent number on is. absurd (let e : true ≡ false = sym is ∙ aside_then number in cc e);
+        goes_out = λ quiet ends. subst WaitsForReplies (sym due_is) tt;
+        joins = λ silent number on is. absurd (let e : false ≡ true = ap (awaits_number number) (sym due_is) ∙ on in cc e);
         behind = λ number request waits. absurd (none_waits number waits);
-        turn = subst (KeepsTurn c.pipelining (known_of d.log.part.own)) (sym due_is) (learnt_turn c.pipelining (known_of d.log.part.own));
+        turn = λ quiet. subst (KeepsTurn c.pipelining (known_of d.log.part.own)) (sym due_is) (learnt_turn c.pipelining (known_of d.log.part.own));
       }
 
-      -- what waits in the outbox was set aside, and no wave of puts is half heard
-      pub met_aside : (number : ℕ) → waits_aside number d ≡ has_waited number c.later
-      met_aside number = aside_then number ∙ sym (ap (has_waited number) later_is ∙ none_later number)
+      -- what waits in the outbox was set aside: nothing
+      pub met_waits : (number : ℕ) → has_waited number c.later ≡ true → waits_aside number d ≡ true
+      met_waits number has = absurd (let e : true ≡ false = sym (ap (has_waited number) (sym later_is) ∙ has) ∙ none_later number in cc e)
 
-      pub met_puts : EndsPutWaves old.desk.log.part.own → EndsPutWaves d.log.part.own
-      met_puts puts = puts_where_heard d.log.part.own (closed_awaited (known_of d.log.part.own) (ap (λ (k : Known). k.is_open) known_is ∙ learning.closed))
+      pub met_aside : loses ≡ false → (number : ℕ) → waits_aside number d ≡ has_waited number c.later
+      met_aside quiet number = aside_then quiet number ∙ sym (ap (has_waited number) later_is ∙ none_later number)
+
+      -- and no wave of puts is half heard
+      pub met_puts : EndsPutWaves d.log.part.own
+      met_puts = puts_where_heard d.log.part.own (closed_awaited (known_of d.log.part.own) (ap (λ (k : Known). k.is_open) known_is ∙ learning.closed))
 
       -- and the commit alone was met
       pub met_goes : HasMet old met_then token.id token.step
@@ -384,30 +407,39 @@ module _ {C : Type 0} (v old : SessionMeaning C) (same : v ≡ old) (reading : �
   commit-v : IsOfCommit parts
   commit-v = subst IsOfCommit is commit
 
-  track-v : KeepsTrack (desk_told v reading parts calls-v learning-v commit-v)
+  track-v : KeepsTrack (desk_told v reading parts calls-v.any learning-v commit-v)
   track-v = subst KeepsTrack took track
 
   pub meet_may : MayEnter t.log (events.Meet parts.id parts.step)
-  meet_may = subst (λ (x : DeskMeaning C). MayEnter x.log (events.Meet parts.id parts.step)) (sym took) (may_meet v reading parts calls-v learning-v commit-v track-v)
+  meet_may = subst (λ (x : DeskMeaning C). MayEnter x.log (events.Meet parts.id parts.step)) (sym took) (may_meet v reading parts calls-v.any learning-v commit-v track-v)
 
   module _ (d : DeskMeaning C) (c : Coordination) (done : HasDone t d (events.Meet parts.id parts.step)) (made : c ≡ meeting parts.ts v.coordinator)
       (learns : (loses : Bool) (k : Known) (p : Pair Event) (id : TxnId) (step : ℕ) → Knows loses v.coordinator k → MeetsCommit v.coordinator id step parts.ts k p → Knows loses c (learn p k)) where
-    done-v : HasDone (desk_told v reading parts calls-v learning-v commit-v) d (events.Meet parts.id parts.step)
+    done-v : HasDone (desk_told v reading parts calls-v.any learning-v commit-v) d (events.Meet parts.id parts.step)
     done-v = subst (λ (x : DeskMeaning C). HasDone x d (events.Meet parts.id parts.step)) took done
 
+    wire-same : verdict_of d.log ≡ verdict_of v.desk.log
+    wire-same = ap (λ (l : LogMeaning C). verdict_of l) done-v.entered.stored
+
     pub meet_calls : HasOpenCall (record v { desk = d; coordinator = c }) reading
-    meet_calls = met_open v reading parts calls-v learning-v commit-v track-v d c done-v made learns
+    meet_calls = record {
+      any = met_open v reading parts calls-v.any learning-v commit-v track-v d c done-v made learns;
+      quiet = λ quiet. met_open v reading parts (calls-v.quiet (subst LosesNothing wire-same quiet)) learning-v commit-v track-v d c done-v made learns;
+    }
 
-    pub meet_aside : (number : ℕ) → waits_aside number d ≡ has_waited number c.later
-    meet_aside = met_aside v reading parts calls-v learning-v commit-v track-v d c done-v made learns
+    pub meet_aside : HasPutsAside (record v { desk = d; coordinator = c })
+    meet_aside = record {
+      waits = met_waits v reading parts calls-v.any learning-v commit-v track-v d c done-v made learns;
+      quiet = λ quiet. met_aside v reading parts (calls-v.quiet (subst LosesNothing wire-same quiet)) learning-v commit-v track-v d c done-v made learns refl;
+    }
 
-    pub meet_puts : EndsPutWaves old.desk.log.part.own → EndsPutWaves d.log.part.own
-    meet_puts puts = met_puts v reading parts calls-v learning-v commit-v track-v d c done-v made learns (subst (λ (s : SessionMeaning C). EndsPutWaves s.desk.log.part.own) (sym same) puts)
+    pub meet_puts : EndsPutsQuietly d
+    meet_puts = λ quiet. met_puts v reading parts calls-v.any learning-v commit-v track-v d c done-v made learns
 
     pub meet_met : HasMet old (record v { desk = d; coordinator = c }) token.id token.step
     meet_met =
         subst (λ (x : TokenMeaning). HasMet old (record v { desk = d; coordinator = c }) x.id x.step) (sym is)
-        (subst (λ (s : SessionMeaning C). HasMet s (record v { desk = d; coordinator = c }) parts.id parts.step) same (met_goes v reading parts calls-v learning-v commit-v track-v d c done-v made learns))
+        (subst (λ (s : SessionMeaning C). HasMet s (record v { desk = d; coordinator = c }) parts.id parts.step) same (met_goes v reading parts calls-v.any learning-v commit-v track-v d c done-v made learns))
 
   pub meet_ends : (new : DeskMeaning C) (halt : Halt) → EndsOnly (λ made. made ≡ events.Meet parts.id parts.step) t new halt → EndsOnly (λ made. made ≡ events.Meet token.id token.step) old.desk new halt
   meet_ends new halt ends =
@@ -486,7 +518,7 @@ module _ {C : Type 0} (old mid : SessionMeaning C) (id : TxnId) (reading : ℕ) 
           part = part;
           grown = grown;
           whole = record {
-            whose = part_whose old.desk.log new.desk.log part old.coordinator.session grown t.rest.track.log rest.one.whose;
+            whose = part_whose old.desk.log new.desk.log part old.coordinator.session grown t.rest.any.track.log rest.any.one.whose;
             reading = reading;
             between = met_at id step;
             answer = answer;

@@ -30,6 +30,7 @@ pub mod Learning
 pub mod Lost
 pub mod Misses
 pub mod NextRound
+pub mod OneRange
 pub mod OfRun
 pub mod OwnWrites
 pub mod PieceTurns

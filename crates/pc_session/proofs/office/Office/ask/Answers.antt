@@ -1,7 +1,7 @@
 use Rattle.std.proofs.Common.{ℕ, ◌≡◌, sym, subst}
 use Rattle.pc_desk.specs.Desk.{HasDone}
 use Rattle.pc_proto.specs.declared.event.Event.TheVariants as events
-use Rattle.pc_session.proofs.Asking.{asked_alone, asked_between, asked_goes, asked_learning, asked_open, unheld}
+use Rattle.pc_session.proofs.Asking.{asks_open, asked_alone, asked_between, asked_goes, asked_learning, asked_open, unheld}
 use Rattle.pc_session.proofs.Inside.{asked_from, learning_from}
 use Rattle.pc_session.specs.Calls.{MayBeCalled}
 use Rattle.pc_session.specs.Session.{IsAtRest}
@@ -19,7 +19,7 @@ returns-in-Ok-ask-clause-calls g c =
     let reading = c.in_ok-reading.reading in
     let done = subst (λ q. HasDone c.self.inside.desk d (events.Ask q reading)) c.in-Ok.ensures c.in_ok-reading.ensures.ok in
     let asked = c.in-Ok-ask.ensures in
-    asked_open _ d c.ask-2.new.self c.args.call reading rest may done asked.knows asked.waits asked.left asked.session asked.splits asked.pipelines
+    asks_open _ d c.ask-2.new.self c.args.call reading rest may done asked.knows asked.waits asked.left asked.session asked.splits asked.pipelines
 
 pub returns-in-Ok-ask-clause-asked : goal.returns-in-Ok-ask-clause-asked
 returns-in-Ok-ask-clause-asked g c =
@@ -28,7 +28,7 @@ returns-in-Ok-ask-clause-asked g c =
     let d = c.ask.new.self in
     let reading = c.in_ok-reading.reading in
     let done = subst (λ q. HasDone c.self.inside.desk d (events.Ask q reading)) c.in-Ok.ensures c.in_ok-reading.ensures.ok in
-    asked_from _ c.args.self.now _ c.self.view_is c.args.call reading (asked_goes _ d c.ask-2.new.self c.args.call reading rest may done c.in-Ok-ask.ensures.session)
+    asked_from _ c.args.self.now _ c.self.view_is c.args.call reading (asked_goes _ d c.ask-2.new.self c.args.call reading rest.any may done c.in-Ok-ask.ensures.session)
 
 pub returns-in-Ok-ask-clause-between : goal.returns-in-Ok-ask-clause-between
 returns-in-Ok-ask-clause-between g c =
@@ -37,7 +37,7 @@ returns-in-Ok-ask-clause-between g c =
     let d = c.ask.new.self in
     let reading = c.in_ok-reading.reading in
     let done = subst (λ q. HasDone c.self.inside.desk d (events.Ask q reading)) c.in-Ok.ensures c.in_ok-reading.ensures.ok in
-    asked_between _ d c.ask-2.new.self c.args.call reading rest may done
+    asked_between _ d c.ask-2.new.self c.args.call reading rest.any may done
 
 pub returns-in-Ok-ask-clause-alone : goal.returns-in-Ok-ask-clause-alone
 returns-in-Ok-ask-clause-alone g c =
@@ -46,7 +46,7 @@ returns-in-Ok-ask-clause-alone g c =
     let d = c.ask.new.self in
     let reading = c.in_ok-reading.reading in
     let done = subst (λ q. HasDone c.self.inside.desk d (events.Ask q reading)) c.in-Ok.ensures c.in_ok-reading.ensures.ok in
-    asked_alone _ d c.ask-2.new.self c.args.call reading rest may done
+    asked_alone _ d c.ask-2.new.self c.args.call reading rest.any may done
 
 pub returns-in_err-reading-clause-ended : goal.returns-in_err-reading-clause-ended
 returns-in_err-reading-clause-ended g c =
@@ -62,5 +62,5 @@ returns-in-Ok-ask-clause-learns g c = λ id is.
     let reading = c.in_ok-reading.reading in
     let done = subst (λ q. HasDone c.self.inside.desk d (events.Ask q reading)) c.in-Ok.ensures c.in_ok-reading.ensures.ok in
     let asked = c.in-Ok-ask.ensures in
-    let none = unheld _ d c.ask-2.new.self c.args.call reading rest may done id is in
-    learning_from _ c.args.self.now _ c.self.view_is id reading (asked_learning _ d c.ask-2.new.self c.args.call reading rest may done id is (asked.learns id is none) asked.session)
+    let none = unheld _ d c.ask-2.new.self c.args.call reading rest.any may done id is in
+    learning_from _ c.args.self.now _ c.self.view_is id reading (asked_learning _ d c.ask-2.new.self c.args.call reading rest.any may done id is (asked.learns id is none) asked.session)

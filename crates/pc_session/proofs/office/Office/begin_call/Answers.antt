@@ -50,7 +50,7 @@ returns-in_ok-deliver_strays-clause-asked g c =
 pub returns-in_err-reading-clause-ended : goal.returns-in_err-reading-clause-ended
 returns-in_err-reading-clause-ended g c =
     let p = err_from_is_err_and c.from_residual.result c.from_residual.ensures.1 in
-    rw (p.1, p.2) (unasked_breaks c.args.self.now c.args.self.now c.ask.new.self.desk refl c.args.call c.in_err-reading.field-0.0 c.requires.rest.track c.in_err-reading.ensures.ended)
+    rw (p.1, p.2) (unasked_breaks c.args.self.now c.args.self.now c.ask.new.self.desk refl c.args.call c.in_err-reading.field-0.0 c.requires.rest.any.track c.in_err-reading.ensures.ended)
 
 pub returns-in_err-deliver_strays-clause-err : goal.returns-in_err-deliver_strays-clause-err
 returns-in_err-deliver_strays-clause-err g c =
@@ -68,6 +68,6 @@ returns-in_err-deliver_strays-clause-ended g c =
     let ends = subst (λ s. EndsOnly (λ made. ⊥) s.desk c.deliver_strays.new.self halt) c.self.view_is c.in_err-deliver_strays.ensures.ended in
     let p = err_from_is_err_and c.from_residual-in_err-deliver_strays.result c.from_residual-in_err-deliver_strays.ensures.1 in
     rw (p.1, p.2)
-    (asked_breaks c.args.self.now c.ask.new.self c.deliver_strays.new.self halt open_call.track
-    (open_breaks c.ask.new.self c.ask.new.self c.deliver_strays.new.self refl halt open_call.track (nothing_breaks c.ask.new.self c.ask.new.self c.deliver_strays.new.self refl (λ made. ⊥) halt open_call.track (λ event is. absurd is) ends))
+    (asked_breaks c.args.self.now c.ask.new.self c.deliver_strays.new.self halt open_call.any.track
+    (open_breaks c.ask.new.self c.ask.new.self c.deliver_strays.new.self refl halt open_call.any.track (nothing_breaks c.ask.new.self c.ask.new.self c.deliver_strays.new.self refl (λ made. ⊥) halt open_call.any.track (λ event is. absurd is) ends))
     c.args.call reading c.in_ok-reading.ensures.asked)

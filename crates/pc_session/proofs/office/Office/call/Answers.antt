@@ -25,7 +25,7 @@ loop-preserved g c =
 pub returns-in_err-answer-clause-ended : goal.returns-in_err-answer-clause-ended
 returns-in_err-answer-clause-ended g c =
     let p = err_from_is_err_and c.from_residual-in_err-answer.result c.from_residual-in_err-answer.ensures.1 in
-    rw (p.1, p.2) (asked_breaks c.args.self.now c.loop.self c.go_on.new.self.desk c.in_err-answer.field-0.0 c.loop.invariant.0.track c.in_err-answer.ensures.ended c.args.call c.in_ok-reading.reading c.loop.invariant.1)
+    rw (p.1, p.2) (asked_breaks c.args.self.now c.loop.self c.go_on.new.self.desk c.in_err-answer.field-0.0 c.loop.invariant.0.any.track c.in_err-answer.ensures.ended c.args.call c.in_ok-reading.reading c.loop.invariant.1)
 
 pub returns-in_err-reading-clause-ended : goal.returns-in_err-reading-clause-ended
 returns-in_err-reading-clause-ended g c =

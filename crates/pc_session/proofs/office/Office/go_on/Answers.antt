@@ -18,28 +18,28 @@ wave-requires-clause-between g c κs within = subst (λ s. IsBetweenWaves s.desk
 
 pub returns-in-Tell-clause-ended : goal.returns-in-Tell-clause-ended
 returns-in-Tell-clause-ended g c =
-    told_breaks_if c.due.new.self c.args.self.now c.end.new.self.desk c.in_ok-request.ensures.same c.in-Tell.answer c.end.result c.in_ok-request.ensures.calls.track c.end.ensures.ended
+    told_breaks_if c.due.new.self c.args.self.now c.end.new.self.desk c.in_ok-request.ensures.same c.in-Tell.answer c.end.result c.in_ok-request.ensures.calls.any.track c.end.ensures.ended
 
 pub returns-in-Send-clause-ended : goal.returns-in-Send-clause-ended
 returns-in-Send-clause-ended g c =
-    open_breaks_if c.due.new.self c.args.self.now c.send.new.self.desk c.in_ok-request.ensures.same c.send.result c.in_ok-request.ensures.calls.track c.send.ensures.ended
+    open_breaks_if c.due.new.self c.args.self.now c.send.new.self.desk c.in_ok-request.ensures.same c.send.result c.in_ok-request.ensures.calls.any.track c.send.ensures.ended
 
 pub returns-in-Later-clause-ended : goal.returns-in-Later-clause-ended
 returns-in-Later-clause-ended g c =
-    open_breaks_if c.due.new.self c.args.self.now c.send_later.new.self.desk c.in_ok-request.ensures.same c.send_later.result c.in_ok-request.ensures.calls.track c.send_later.ensures.ended
+    open_breaks_if c.due.new.self c.args.self.now c.send_later.new.self.desk c.in_ok-request.ensures.same c.send_later.result c.in_ok-request.ensures.calls.any.track c.send_later.ensures.ended
 
 pub returns-in-Wave-clause-ended : goal.returns-in-Wave-clause-ended
 returns-in-Wave-clause-ended g c =
-    open_breaks_if c.due.new.self c.args.self.now c.wave.new.self.desk c.in_ok-request.ensures.same c.wave.result c.in_ok-request.ensures.calls.track c.wave.ensures.ended
+    open_breaks_if c.due.new.self c.args.self.now c.wave.new.self.desk c.in_ok-request.ensures.same c.wave.result c.in_ok-request.ensures.calls.any.track c.wave.ensures.ended
 
 pub returns-in-Conflict-clause-ended : goal.returns-in-Conflict-clause-ended
 returns-in-Conflict-clause-ended g c =
-    open_breaks_if c.due.new.self c.args.self.now c.round.new.self.desk c.in_ok-request.ensures.same c.round.result c.in_ok-request.ensures.calls.track c.round.ensures.ended
+    open_breaks_if c.due.new.self c.args.self.now c.round.new.self.desk c.in_ok-request.ensures.same c.round.result c.in_ok-request.ensures.calls.any.track c.round.ensures.ended
 
 pub returns-in_err-request-clause-ended : goal.returns-in_err-request-clause-ended
 returns-in_err-request-clause-ended g c =
     let p = err_from_is_err_and c.from_residual.result c.from_residual.ensures.1 in
-    rw (p.1, p.2) (open_breaks c.args.self.now c.args.self.now c.due.new.self.desk refl c.in_err-request.field-0.0 c.requires.calls.track c.in_err-request.ensures.ended)
+    rw (p.1, p.2) (open_breaks c.args.self.now c.args.self.now c.due.new.self.desk refl c.in_err-request.field-0.0 c.requires.calls.any.track c.in_err-request.ensures.ended)
 
 pub returns-in-Send-clause-ok : goal.returns-in-Send-clause-ok
 returns-in-Send-clause-ok g c = subst (λ s. IfOk c.send.result (GoesOnOrTold s c.send.new.self c.args.reading)) c.in_ok-request.ensures.same c.send.ensures.ok

@@ -8,9 +8,10 @@ use Rattle.pc_session.proofs.Ending.{nothing_breaks}
 use Rattle.pc_proto.specs.declared.event.Event.TheVariants as events
 use Rattle.pc_exchange.proofs.Ending.{hears_within}
 use Rattle.pc_session.proofs.office.Office.hear.Goals as goal
+use Rattle.pc_desk.specs.Late.{HasNoneLostFirst}
 
 pub hear-requires-clause-may : goal.hear-requires-clause-may
-hear-requires-clause-may g c = may_hear_now _ c.args.reading (subst (λ s. HasOpenCall s c.args.reading) (sym c.self.view_is) c.requires.calls) (subst IsWholeOut (sym c.self.view_is) c.requires.whole)
+hear-requires-clause-may g c = may_hear_now _ c.args.reading (subst (λ s. HasOpenCall s c.args.reading) (sym c.self.view_is) c.requires.calls) (subst IsWholeOut (sym c.self.view_is) c.requires.whole) (subst (λ s. HasNoneLostFirst s.desk) (sym c.self.view_is) c.requires.none_lost)
 
 pub hear-requires-clause-none_waits : goal.hear-requires-clause-none_waits
 hear-requires-clause-none_waits g c = subst (λ s. s.desk.posted ≡ []) (sym c.self.view_is) c.requires.none_waits
@@ -45,4 +46,7 @@ returns-in-None-clause-goes g c =
 pub returns-in_err-answered-clause-ended : goal.returns-in_err-answered-clause-ended
 returns-in_err-answered-clause-ended g c =
     let p = err_from_is_err_and c.from_residual.result c.from_residual.ensures.1 in
-    rw (p.1, p.2) (nothing_breaks _ c.args.self.now c.hear.new.self c.self.view_is (λ made. (number : ℕ) × (step : ℕ) × (made ≡ events.Hear number step)) c.in_err-answered.field-0.0 c.requires.calls.track hears_within c.in_err-answered.ensures.ended)
+    rw (p.1, p.2) (nothing_breaks _ c.args.self.now c.hear.new.self c.self.view_is (λ made. (number : ℕ) × (step : ℕ) × (made ≡ events.Hear number step)) c.in_err-answered.field-0.0 c.requires.calls.any.track hears_within c.in_err-answered.ensures.ended)
+
+pub hear-requires-clause-none_lost : goal.hear-requires-clause-none_lost
+hear-requires-clause-none_lost g c = subst (λ s. HasNoneLostFirst s.desk) (sym c.self.view_is) c.requires.none_lost

@@ -43,7 +43,7 @@ loop-next-smaller g c =
 pub returns-clause-whole : goal.returns-clause-whole
 returns-clause-whole g c =
     let j = subst (λ o. IsJoining c.args.self.now c.loop-next.self o) c.in_default.is c.loop-next.invariant.1 in
-    joining_ends c.args.self.now c.loop-next.self c.args.reading c.loop-next.invariant.0 j c.requires.due c.requires.between.puts
+    joining_ends c.args.self.now c.loop-next.self c.args.reading c.loop-next.invariant.0 j c.requires.due (λ quiet. (c.requires.between.quiet quiet).puts)
 
 pub returns-clause-goes : goal.returns-clause-goes
 returns-clause-goes g c = joining_goes c.args.self.now c.loop-next.self c.loop-next.next c.loop-next.invariant.1
@@ -61,5 +61,8 @@ pub returns-in_err-join_if_awaited-clause-ended : goal.returns-in_err-join_if_aw
 returns-in_err-join_if_awaited-clause-ended g c =
     let p = err_from_is_err_and c.from_residual.result c.from_residual.ensures.1 in
     rw (p.1, p.2)
-    (inside_breaks c.args.self.now c.loop-next.self c.join_if_awaited.new.self.desk c.in_err-join_if_awaited.field-0.0 c.loop-next.invariant.0.track c.in_err-join_if_awaited.ensures.ended
+    (inside_breaks c.args.self.now c.loop-next.self c.join_if_awaited.new.self.desk c.in_err-join_if_awaited.field-0.0 c.loop-next.invariant.0.any.track c.in_err-join_if_awaited.ensures.ended
     (joining_goes c.args.self.now c.loop-next.self c.loop-next.next c.loop-next.invariant.1))
+
+pub join_if_awaited-requires-clause-none_lost : goal.join_if_awaited-requires-clause-none_lost
+join_if_awaited-requires-clause-none_lost g c = c.loop-next.invariant.1.lost ∙ c.requires.between.none_lost

@@ -47,4 +47,7 @@ returns-else-waits_for-clause-joined g c =
 pub returns-in_err-join-clause-ended : goal.returns-in_err-join-clause-ended
 returns-in_err-join-clause-ended g c =
     let p = err_from_is_err_and c.from_residual.result c.from_residual.ensures.1 in
-    rw (p.1, p.2) (nothing_breaks _ c.args.self.now c.join.new.self c.self.view_is (λ made. ⊥) c.in_err-join.field-0.0 c.requires.calls.track (λ event is. absurd is) c.in_err-join.ensures.ended)
+    rw (p.1, p.2) (nothing_breaks _ c.args.self.now c.join.new.self c.self.view_is (λ made. ⊥) c.in_err-join.field-0.0 c.requires.calls.any.track (λ event is. absurd is) c.in_err-join.ensures.ended)
+
+pub join-requires-clause-none_lost : goal.join-requires-clause-none_lost
+join-requires-clause-none_lost g c = subst (λ s. s.desk.lost ≡ []) (sym c.self.view_is) c.requires.none_lost

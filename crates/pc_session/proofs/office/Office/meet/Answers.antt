@@ -6,14 +6,14 @@ use Rattle.pc_session.specs.Token.{TokenMeaning}
 use Rattle.pc_session.proofs.office.Office.meet.Goals as goal
 
 pub meet-requires-clause-track : goal.meet-requires-clause-track
-meet-requires-clause-track g c = c.follow.ensures.track (subst (λ s. KeepsTrack s.desk) (sym c.self.view_is) c.requires.calls.track)
+meet-requires-clause-track g c = c.follow.ensures.track (subst (λ s. KeepsTrack s.desk) (sym c.self.view_is) c.requires.calls.any.track)
 
 pub meet-requires-clause-may : goal.meet-requires-clause-may
 meet-requires-clause-may g c =
     let r = c.into_parts-step.result in
     let told = c.into_parts-step.ensures in
     let parts : TokenMeaning = record { id = r.0; step = r.1; ts = r.2; known = r.3.known } in
-    let track = c.follow.ensures.track (subst (λ s. KeepsTrack s.desk) (sym c.self.view_is) c.requires.calls.track) in
+    let track = c.follow.ensures.track (subst (λ s. KeepsTrack s.desk) (sym c.self.view_is) c.requires.calls.any.track) in
     meet_may _ c.args.self.now c.self.view_is c.args.reading c.args.token parts told.parts c.requires.calls c.requires.learning told.commit c.follow.new.self c.follow.ensures.took track
 
 pub returns-clause-calls : goal.returns-clause-calls
@@ -21,7 +21,7 @@ returns-clause-calls g c =
     let r = c.into_parts-step.result in
     let told = c.into_parts-step.ensures in
     let parts : TokenMeaning = record { id = r.0; step = r.1; ts = r.2; known = r.3.known } in
-    let track = c.follow.ensures.track (subst (λ s. KeepsTrack s.desk) (sym c.self.view_is) c.requires.calls.track) in
+    let track = c.follow.ensures.track (subst (λ s. KeepsTrack s.desk) (sym c.self.view_is) c.requires.calls.any.track) in
     meet_calls _ c.args.self.now c.self.view_is c.args.reading c.args.token parts told.parts c.requires.calls c.requires.learning told.commit c.follow.new.self c.follow.ensures.took track c.meet.new.self c.met.new.self c.in_ok-meet.ensures.ok c.met.ensures.made c.met.ensures.knows
 
 pub returns-clause-puts : goal.returns-clause-puts
@@ -29,15 +29,15 @@ returns-clause-puts g c =
     let r = c.into_parts-step.result in
     let told = c.into_parts-step.ensures in
     let parts : TokenMeaning = record { id = r.0; step = r.1; ts = r.2; known = r.3.known } in
-    let track = c.follow.ensures.track (subst (λ s. KeepsTrack s.desk) (sym c.self.view_is) c.requires.calls.track) in
-    meet_puts _ c.args.self.now c.self.view_is c.args.reading c.args.token parts told.parts c.requires.calls c.requires.learning told.commit c.follow.new.self c.follow.ensures.took track c.meet.new.self c.met.new.self c.in_ok-meet.ensures.ok c.met.ensures.made c.met.ensures.knows c.requires.between.puts
+    let track = c.follow.ensures.track (subst (λ s. KeepsTrack s.desk) (sym c.self.view_is) c.requires.calls.any.track) in
+    meet_puts _ c.args.self.now c.self.view_is c.args.reading c.args.token parts told.parts c.requires.calls c.requires.learning told.commit c.follow.new.self c.follow.ensures.took track c.meet.new.self c.met.new.self c.in_ok-meet.ensures.ok c.met.ensures.made c.met.ensures.knows
 
 pub returns-clause-aside : goal.returns-clause-aside
 returns-clause-aside g c =
     let r = c.into_parts-step.result in
     let told = c.into_parts-step.ensures in
     let parts : TokenMeaning = record { id = r.0; step = r.1; ts = r.2; known = r.3.known } in
-    let track = c.follow.ensures.track (subst (λ s. KeepsTrack s.desk) (sym c.self.view_is) c.requires.calls.track) in
+    let track = c.follow.ensures.track (subst (λ s. KeepsTrack s.desk) (sym c.self.view_is) c.requires.calls.any.track) in
     meet_aside _ c.args.self.now c.self.view_is c.args.reading c.args.token parts told.parts c.requires.calls c.requires.learning told.commit c.follow.new.self c.follow.ensures.took track c.meet.new.self c.met.new.self c.in_ok-meet.ensures.ok c.met.ensures.made c.met.ensures.knows
 
 pub returns-clause-met : goal.returns-clause-met
@@ -45,7 +45,7 @@ returns-clause-met g c =
     let r = c.into_parts-step.result in
     let told = c.into_parts-step.ensures in
     let parts : TokenMeaning = record { id = r.0; step = r.1; ts = r.2; known = r.3.known } in
-    let track = c.follow.ensures.track (subst (λ s. KeepsTrack s.desk) (sym c.self.view_is) c.requires.calls.track) in
+    let track = c.follow.ensures.track (subst (λ s. KeepsTrack s.desk) (sym c.self.view_is) c.requires.calls.any.track) in
     meet_met _ c.args.self.now c.self.view_is c.args.reading c.args.token parts told.parts c.requires.calls c.requires.learning told.commit c.follow.new.self c.follow.ensures.took track c.meet.new.self c.met.new.self c.in_ok-meet.ensures.ok c.met.ensures.made c.met.ensures.knows
 
 pub returns-in_err-meet-clause-ended : goal.returns-in_err-meet-clause-ended
@@ -53,6 +53,6 @@ returns-in_err-meet-clause-ended g c =
     let r = c.into_parts-step.result in
     let told = c.into_parts-step.ensures in
     let parts : TokenMeaning = record { id = r.0; step = r.1; ts = r.2; known = r.3.known } in
-    let track = c.follow.ensures.track (subst (λ s. KeepsTrack s.desk) (sym c.self.view_is) c.requires.calls.track) in
+    let track = c.follow.ensures.track (subst (λ s. KeepsTrack s.desk) (sym c.self.view_is) c.requires.calls.any.track) in
     let p = err_from_is_err_and c.from_residual.result c.from_residual.ensures.1 in
     rw (p.1, p.2) (meet_ends _ c.args.self.now c.self.view_is c.args.reading c.args.token parts told.parts c.requires.calls c.requires.learning told.commit c.follow.new.self c.follow.ensures.took track c.meet.new.self c.in_err-meet.field-0.0 c.in_err-meet.ensures.ended)

@@ -1,10 +1,9 @@
 use Rattle.std.proofs.Common.{◌≡◌, false, sym, subst, All}
 use Rattle.pc_coord.specs.Coordination.{next_of}
 use Rattle.pc_coord.specs.declared.next.Next.TheVariants as nexts
-use Rattle.pc_coord.specs.Knows.{MayCome}
 use Rattle.pc_session.proofs.Inside.{inside_from}
 use Rattle.pc_session.proofs.Rounds.{may_round, round_between, round_goes, round_open}
-use Rattle.pc_session.specs.InCall.{HasOpenCall}
+use Rattle.pc_session.specs.InCall.{HasOpenCall, MayComeNow}
 use Rattle.pc_session.specs.Session.{session_knows}
 use Rattle.std.proofs.lemmas.Result.{err_from_is_err_and}
 use Rattle.pc_session.proofs.Ending.{breaks_from}
@@ -16,22 +15,8 @@ make_round-requires g c =
     let n = c.args.number in
     let calls = subst (λ s. HasOpenCall s c.args.reading) (sym c.self.view_is) c.requires.calls in
     let due = subst (λ s. next_of s.coordinator ≡ nexts.Conflict n c.args.conflict c.args.reader) (sym c.self.view_is) c.requires.due in
-    let met = subst (λ s. MayCome false s.coordinator (session_knows s) (nexts.Conflict n c.args.conflict c.args.reader)) (sym c.self.view_is) c.requires.may in
-    may_round _ c.args.reading n c.args.conflict c.args.reader calls due met c.in-Some.pusher (c.in-Some.ensures.pushes false _ n c.args.conflict c.args.reader calls.one.knows due)
-
-pub returns-in-Ok-clause-ok : goal.returns-in-Ok-clause-ok
-returns-in-Ok-clause-ok g c =
-    let n = c.args.number in
-    let calls = subst (λ s. HasOpenCall s c.args.reading) (sym c.self.view_is) c.requires.calls in
-    let due = subst (λ s. next_of s.coordinator ≡ nexts.Conflict n c.args.conflict c.args.reader) (sym c.self.view_is) c.requires.due in
-    let met = subst (λ s. MayCome false s.coordinator (session_knows s) (nexts.Conflict n c.args.conflict c.args.reader)) (sym c.self.view_is) c.requires.may in
-    let made = c.in_ok-round in
-    let e = c.in-Ok.ensures in (
-      round_open _ c.args.reading n c.args.conflict c.args.reader calls due met c.make_round.new.desk c.raise.new.self c.settled.new.self made.round made.ts made.ensures.ok c.raise.ensures e.knows e.quiet e.left e.session e.splits e.pipelines e.comes,
-      inside_from _ c.args.self.now _ c.self.view_is
-          (round_goes _ c.args.reading n c.args.conflict c.args.reader calls due met c.make_round.new.desk c.raise.new.self c.settled.new.self made.round made.ts made.ensures.ok c.raise.ensures e.session),
-      round_between _ c.args.reading n c.args.conflict c.args.reader calls due met c.make_round.new.desk c.raise.new.self c.settled.new.self made.round made.ts made.ensures.ok c.raise.ensures,
-    )
+    let met = subst (λ s. MayComeNow s (nexts.Conflict n c.args.conflict c.args.reader)) (sym c.self.view_is) c.requires.may in
+    may_round _ c.args.reading n c.args.conflict c.args.reader calls due met c.in-Some.pusher (c.in-Some.ensures.pushes true _ n c.args.conflict c.args.reader calls.any.one.knows due)
 
 pub returns-in_err-round-clause-ended : goal.returns-in_err-round-clause-ended
 returns-in_err-round-clause-ended g c =

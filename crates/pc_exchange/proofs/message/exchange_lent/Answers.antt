@@ -3,10 +3,10 @@ use Rattle.std.proofs.lemmas.Result.{err_from_is_err_and}
 use Rattle.pc_exchange.proofs.Ending.{goes_breaks}
 use Rattle.pc_exchange.proofs.Losing.{exchanged_then, lost_all, lost_at_first, lost_more}
 use Rattle.pc_exchange.specs.Exchange.{HasLostOne, MayExchangeNow, WasExchangedOnce}
-use Rattle.pc_exchange.proofs.message.exchange.Goals as goal
+use Rattle.pc_exchange.proofs.message.exchange_lent.Goals as goal
 
 pub loop-sending-init : goal.loop-sending-init
-loop-sending-init g c = (lost_at_first c.args.request c.args.desk.now c.requires, refl)
+loop-sending-init g c = (lost_at_first c.args.request.now c.args.desk.now c.requires, refl)
 
 pub exchange_once-requires : goal.exchange_once-requires
 exchange_once-requires g c = subst (MayExchangeNow c.loop-sending.desk) (sym c.in-Ok.ensures) c.loop-sending.invariant.0.may
@@ -15,18 +15,18 @@ pub returns-in-Some-clause-heard : goal.returns-in-Some-clause-heard
 returns-in-Some-clause-heard g c =
     let copied = subst (λ o. IfSome o (WasExchangedOnce c.loop-sending.desk c.exchange_once.new.desk c.in-Ok.copy)) c.in-Some.is c.in_ok-reply.ensures.heard in
     let once = subst (λ q. WasExchangedOnce c.loop-sending.desk c.exchange_once.new.desk q c.in-Some.reply) c.in-Ok.ensures copied in
-    exchanged_then c.args.request c.args.desk.now c.loop-sending.desk c.exchange_once.new.desk c.loop-sending._sending c.loop-sending.invariant.0 c.in-Some.reply (omega arith) once
+    exchanged_then c.args.request.now c.args.desk.now c.loop-sending.desk c.exchange_once.new.desk c.loop-sending._sending c.loop-sending.invariant.0 c.in-Some.reply (omega arith) once
 
 pub loop-sending-preserved : goal.loop-sending-preserved
 loop-sending-preserved g c =
     let copied = subst (λ o. IfNone o (HasLostOne c.loop-sending.desk c.exchange_once.new.desk c.in-Ok.copy)) c.in_default.is c.in_ok-reply.ensures.lost in
     let lost = subst (HasLostOne c.loop-sending.desk c.exchange_once.new.desk) c.in-Ok.ensures copied in (
-      lost_more c.args.request c.args.desk.now c.loop-sending.desk c.exchange_once.new.desk c.loop-sending._sending c.loop-sending.invariant.0 lost,
+      lost_more c.args.request.now c.args.desk.now c.loop-sending.desk c.exchange_once.new.desk c.loop-sending._sending c.loop-sending.invariant.0 lost,
       c.in_ok-reply.ensures.clock ∙ c.loop-sending.invariant.1,
     )
 
 pub returns-clause-lost : goal.returns-clause-lost
-returns-clause-lost g c = lost_all c.args.request c.args.desk.now c.loop-sending.desk c.loop-sending._sending (omega arith) c.loop-sending.invariant.0
+returns-clause-lost g c = lost_all c.args.request.now c.args.desk.now c.loop-sending.desk c.loop-sending._sending (omega arith) c.loop-sending.invariant.0
 
 pub returns-in_err-reply-clause-ended : goal.returns-in_err-reply-clause-ended
 returns-in_err-reply-clause-ended g c =
