@@ -1,8 +1,12 @@
-use Rattle.std.proofs.Common.{is_some, refl, sym, ap, subst, ◌∙◌, arith}
+use Rattle.std.proofs.Common.{◌≡◌, ℕ, ◌<◌, ◌+◌, length, None, is_some, refl, sym, ap, subst, ◌∙◌, arith}
 use Rattle.std.proofs.lemmas.Result.{err_from_is_err_and}
 use Rattle.pc_desk.proofs.InCall.{statement_sent}
+use Rattle.pc_proto.specs.declared.reply.Reply.TheVariants as replies
 use Rattle.pc_proto.specs.declared.request.Request.TheVariants as requests
-use Rattle.pc_recoverer.proofs.Trying.{in_round_still, lost_nothing_to, may_list_again}
+use Rattle.pc_recoverer.proofs.Traffic.{if_some}
+use Rattle.pc_recoverer.proofs.Trying.{heard_at_last_to, in_round_still, listing_answers, lost_more_to, lost_nothing_to, may_list_again, one_more_lost, try_ends_sent_to, try_ends_unsent_to}
+use Rattle.pc_recoverer.specs.Broken.{BreaksOffIn, IsOneSend}
+use Rattle.pc_recoverer.specs.InRound.{WasExchangedWith, WasHeardOnce, WasLostOnce}
 use Rattle.pc_recoverer.proofs.message.list_records.Goals as goal
 
 pub loop-sending-init : goal.loop-sending-init
