@@ -31,6 +31,7 @@ use Rattle.pc_runs.proofs.Learning.{each_from, share_is_own}
 use Rattle.pc_runs.specs.Laws.{TransactionsLearnNothing}
 use Rattle.pc_runs.specs.Learning.{LearnInOrder, LearnsNext}
 use Rattle.pc_runs.specs.Runners.{head_in_work}
+use Rattle.pc_runs.specs.Wires.{verdicts_in}
 use Rattle.pc_runs.specs.Together.{AreClients, ClientsMeaning, HaveAllLeft}
 use Rattle.pc_script.specs.declared.planned.Planned.{Planned}
 use Rattle.pc_script.specs.declared.planned.Planned.TheVariants as plans
@@ -230,7 +231,7 @@ rounds_learn_nothing id order mine part same whose asks =
     (none_open_on [] mine (each-front P mine part (recursion_from_All P (mine ++ part) none)) tt) (recursion_from_All P part back)
 
 module _ {C : Type 0} (work : Workload) (rules : ActorId → ℕ → ℕ → Bool) (c : ClientsMeaning C) (leavers : List Leaver) (history : List (Entry Event)) (clients : AreClients work c) (left : HaveAllLeft work rules c leavers)
-    (closed : IsClosedOver work.limit (head_in_work work) leavers history) (all : All HasTransactions work.sessions) where
+    (closed : IsClosedOver work.limit (head_in_work work) (verdicts_in work) leavers history) (all : All HasTransactions work.sessions) where
   abbrev pairs : List (Pair Event)
   pairs = pairs_of (protocol (head_in_work work)) history
 

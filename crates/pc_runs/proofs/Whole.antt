@@ -9,22 +9,27 @@ use Rattle.pc_closing.specs.Closing.{IsClosedOver, IsKeptIn, lists_of}
 use Rattle.pc_closing.specs.HeldUp.{holds_up}
 use Rattle.pc_closing.specs.Leaving.{Leaver}
 use Rattle.pc_closing.specs.Served.{AreServed}
+use Rattle.pc_desk.specs.Keeping.{KeepsEach, Terms}
+use Rattle.pc_desk.specs.OwnLog.{terms_of, verdict_of}
 use Rattle.pc_desk.specs.Refused.{WasGivenBack}
 use Rattle.pc_history.specs.declared.pair.Pair.{Pair}
 use Rattle.pc_history.specs.declared.view.Part.{Part}
 use Rattle.pc_history.specs.Own.{own}
 use Rattle.pc_proto.specs.declared.event.Event.{Event}
+use Rattle.pc_recoverer.specs.Exchanges.{Sending}
+use Rattle.pc_recoverer.specs.InRound.{sending_of}
 use Rattle.pc_rounds.specs.Counted.{CountedMeaning, GoesInRounds, entries_made}
 use Rattle.pc_rounds.specs.Made.{AreWholeRounds, StopsBefore}
-use Rattle.pc_runs.specs.Follows.{FollowsByItself, FollowsWork}
-use Rattle.pc_runs.proofs.Finished.{there}
+use Rattle.pc_runs.specs.Follows.{FollowsByItself, FollowsWork, terms_in}
+use Rattle.pc_runs.proofs.Finished.{recoverer_verdicts, session_verdicts, there}
 use Rattle.pc_runs.proofs.Learning.{all_learn_truly}
 use Rattle.pc_runs.specs.Laws.{HistoryFollows, LearnsAreKept, TurnsAreAsStated}
 use Rattle.pc_runs.specs.Learning.{LearnInOrder}
 use Rattle.pc_runs.specs.Order.{GoAsStated, GoInTurnsOf, ended_in_work, is_work_opened, next_in_work, recoverer_ended_in_work, rounds_in_work}
 use Rattle.pc_runs.specs.Recoverers.{HasNoRoundLeft, HaveNoRoundLeft}
-use Rattle.pc_runs.specs.Rounds.{FollowsInRounds}
+use Rattle.pc_runs.specs.Rounds.{FollowsInRounds, sending_in}
 use Rattle.pc_runs.specs.Runners.{AreRunOut, head_in_work}
+use Rattle.pc_runs.specs.Wires.{verdicts_in}
 use Rattle.pc_runs.specs.Together.{AreAtEnds, AreClients, ClientsMeaning, ClientsSayHeldUp, HaveAllLeft, client_lists}
 use Rattle.pc_script.specs.End.{IsScriptEnd}
 use Rattle.pc_script.specs.Script.{next_call, script_position}
@@ -37,6 +42,8 @@ use Rattle.pc_turns.proofs.Order.{clients_keep_order}
 use Rattle.pc_turns.proofs.Shares.{recoverer_at, session_at, shares_make_up}
 use Rattle.pc_turns.specs.Clients.{MakesUpEach, client_pairs}
 use Rattle.pc_turns.specs.Shares.{AreHandedIn, AreShares, client_at}
+use Rattle.pc_wire.specs.declared.verdict.Verdict.{Verdict}
+use Rattle.pc_work.specs.Wire.{wire_rule}
 use Rattle.pc_work.specs.declared.item.Item.{Item}
 use Rattle.pc_work.specs.declared.recoverer.RecovererWork.{RecovererWork}
 use Rattle.pc_work.specs.declared.session.SessionWork.{SessionWork}
@@ -56,16 +63,23 @@ ends_so s held scripted out says = by s.session.desk.log.stopped refl
     by true stopped = inr (has_ended_now s.session.desk held says (scripted.ends stopped))
     by false going = inl (record { no_next = ap next_call (sym (scripted.goes going).place) ∙ out.over going; none_open = (scripted.goes going).rest.closed })
 
+-- terms with the same verdicts, tries and pipelining are the same
+same_terms : (one other : Terms) → ((n : ℕ) → one.verdict n ≡ other.verdict n) → one.tries ≡ other.tries → one.pipelining ≡ other.pipelining → one ≡ other
+same_terms one other ruled tries piped = λ i. record { verdict = λ n. ruled n i; tries = tries i; pipelining = piped i }
+
+same_sending : (one other : Sending) → ((n : ℕ) → one.verdict n ≡ other.verdict n) → one.tries ≡ other.tries → one ≡ other
+same_sending one other ruled tries = λ i. record { verdict = λ n. ruled n i; tries = tries i }
+
 -- All rounds were made, or fewer, and the list has ended.
-abbrev HasMadeOrEnded : List (List ℕ) → ℕ → Priority → ℕ → ℕ → Option ℕ → (Sent → Bool) → List (Pair Event) → Type 0
-HasMadeOrEnded splits number level rounds limit stop held list = AreWholeRounds splits number level rounds list ⊎ (StopsBefore splits number level rounds list × (list_has_ended limit stop held list ≡ true))
+abbrev HasMadeOrEnded : Sending → List (List ℕ) → ℕ → Priority → ℕ → ℕ → Option ℕ → (Sent → Bool) → List (Pair Event) → Type 0
+HasMadeOrEnded sending splits number level rounds limit stop held list = AreWholeRounds sending splits number level rounds list ⊎ (StopsBefore sending splits number level rounds list × (list_has_ended limit stop held list ≡ true))
 
 -- a recoverer whose list has ended, or whose rounds are made
 rounds_so : {C : Type 0} (r : CountedMeaning C) (held : Sent → Bool) → GoesInRounds r → HasNoRoundLeft r → SaysHeldUp held r.recoverer.desk
-    → HasMadeOrEnded r.recoverer.desk.log.head.splits r.recoverer.number r.recoverer.level r.rounds r.recoverer.desk.log.limit r.recoverer.desk.log.stop held (entries_made r)
+    → HasMadeOrEnded (sending_of r.recoverer.desk.log) r.recoverer.desk.log.head.splits r.recoverer.number r.recoverer.level r.rounds r.recoverer.desk.log.limit r.recoverer.desk.log.stop held (entries_made r)
 rounds_so r held counted out says = by r.recoverer.desk.log.stopped refl
   where
-    by : (b : Bool) → r.recoverer.desk.log.stopped ≡ b → HasMadeOrEnded r.recoverer.desk.log.head.splits r.recoverer.number r.recoverer.level r.rounds r.recoverer.desk.log.limit r.recoverer.desk.log.stop held (entries_made r)
+    by : (b : Bool) → r.recoverer.desk.log.stopped ≡ b → HasMadeOrEnded (sending_of r.recoverer.desk.log) r.recoverer.desk.log.head.splits r.recoverer.number r.recoverer.level r.rounds r.recoverer.desk.log.limit r.recoverer.desk.log.stop held (entries_made r)
     by true stopped = elim ((counted.ends stopped).stops) [
       | inl all ↦ inl all
       | inr stops ↦ inr (stops, has_ended_now r.recoverer.desk held says (counted.ends stopped).end)
@@ -74,12 +88,12 @@ rounds_so r held counted out says = by r.recoverer.desk.log.stopped refl
         let few = counted.few in
         let most = out.over going in
         let all : r.made ≡ r.rounds = omega arith in
-        inl (subst (λ n. AreWholeRounds r.recoverer.desk.log.head.splits r.recoverer.number r.recoverer.level n (entries_made r)) all (counted.goes going).are)
+        inl (subst (λ n. AreWholeRounds (sending_of r.recoverer.desk.log) r.recoverer.desk.log.head.splits r.recoverer.number r.recoverer.level n (entries_made r)) all (counted.goes going).are)
 
 module _ {C : Type 0} (work : Workload) (rules : ActorId → ℕ → ℕ → Bool) (c : ClientsMeaning C) (leavers : List Leaver) (history : List (Entry Event)) (clients : AreClients work c) (left : HaveAllLeft work rules c leavers)
-    (closed : IsClosedOver work.limit (head_in_work work) leavers history) where
+    (closed : IsClosedOver work.limit (head_in_work work) (verdicts_in work) leavers history) where
   abbrev held : ActorId → Sent → Bool
-  held = holds_up work.limit (head_in_work work) history
+  held = holds_up work.limit (head_in_work work) history (verdicts_in work)
 
   abbrev head : Head
   head = head_in_work work
@@ -119,16 +133,19 @@ module _ {C : Type 0} (work : Workload) (rules : ActorId → ℕ → ℕ → Boo
       let l = leaver-of index s.0 s.1 in
       let r = clients.runners.each index s.0 s.1 in
       let gone = left.sessions index s.0 l.0 s.1 l.1 in
-      let kept : IsKeptIn work.limit head history (actors.Session (index + 1)) l.0.0.part = subst (λ (i : ActorId). IsKeptIn work.limit head history i l.0.0.part) (session_at head index within) (closed.each index l.0 l.1) in
+      let kept : IsKeptIn work.limit head (verdicts_in work) history (actors.Session (index + 1)) l.0.0.part = subst (λ (i : ActorId). IsKeptIn work.limit head (verdicts_in work) history i l.0.0.part) (session_at head index within) (closed.each index l.0 l.1) in
       let list : own (protocol head) (actors.Session (index + 1)) history ≡ own_list s.0 = kept.list ∙ ap (λ (p : Part Event). p.own) gone.part in
       let script : session.script ≡ s.0.script = ap (λ (w : SessionWork). w.script) (same_some session r.session (sym listed ∙ r.listed)) ∙ r.script in
       let stop : s.0.session.desk.log.stop ≡ session.stop = r.stop ∙ ap (λ (w : SessionWork). w.stop) (sym (same_some session r.session (sym listed ∙ r.listed))) in
+      let ruled : (n : ℕ) → verdict_of s.0.session.desk.log n ≡ wire_rule session.wire n = λ n. r.wire n ∙ ap (λ (w : SessionWork). wire_rule w.wire n) (sym (same_some session r.session (sym listed ∙ r.listed))) in
+      let terms : terms_of s.0.session.desk.log ≡ terms_in work session = same_terms (terms_of s.0.session.desk.log) (terms_in work session) ruled r.tries r.piped in
       let P : List (Pair Event) → Type 0 = λ list. FollowsByItself work session (rules (actors.Session (index + 1))) (held (actors.Session (index + 1))) (actors.Session (index + 1)) list history in
       subst P (sym list) (record {
         steps = gone.steps session listed;
-        keeps = gone.keeps;
+        keeps = subst (λ (t : Terms). KeepsEach (actors.Session (index + 1)) work.splits t (own_list s.0)) terms gone.keeps;
         waves = gone.waves;
-        wire = subst (λ (p : Part Event). AreServed (held (actors.Session (index + 1))) (actors.Session (index + 1)) history (known_of p.own)) gone.part kept.served;
+        wire = subst (λ (v : ℕ → Verdict). AreServed v (held (actors.Session (index + 1))) (actors.Session (index + 1)) history (known_of (own_list s.0))) (session_verdicts work index session listed)
+            (subst (λ (p : Part Event). AreServed (verdicts_in work (actors.Session (index + 1))) (held (actors.Session (index + 1))) (actors.Session (index + 1)) history (known_of p.own)) gone.part kept.served);
         within = gone.within;
         no_later = subst (λ (o : Option ℕ). IfSome o (λ stop. length (own_list s.0) ≤ stop)) stop gone.no_later;
         end = subst (λ n. IsScriptEnd (script_position n session.script (own_list s.0)) (own_list s.0) ⊎ (list_has_ended work.limit session.stop (held (actors.Session (index + 1))) (own_list s.0) ≡ true)) (sym r.reruns)
@@ -151,16 +168,19 @@ module _ {C : Type 0} (work : Workload) (rules : ActorId → ℕ → ℕ → Boo
       let r = clients.recoverers.each index x.0 x.1 in
       let gone = left.recoverers index x.0 l.0 x.1 l.1 in
       let place : client_at head (length c.sessions + index) ≡ actors.Recoverer (index + 1) = ap (λ n. client_at head (n + index)) clients.runners.many ∙ recoverer_at head index in
-      let kept : IsKeptIn work.limit head history (actors.Recoverer (index + 1)) l.0.0.part = subst (λ (i : ActorId). IsKeptIn work.limit head history i l.0.0.part) place (closed.each (length c.sessions + index) l.0 l.1) in
+      let kept : IsKeptIn work.limit head (verdicts_in work) history (actors.Recoverer (index + 1)) l.0.0.part = subst (λ (i : ActorId). IsKeptIn work.limit head (verdicts_in work) history i l.0.0.part) place (closed.each (length c.sessions + index) l.0 l.1) in
       let list : own (protocol head) (actors.Recoverer (index + 1)) history ≡ entries_made x.0 = kept.list ∙ ap (λ (p : Part Event). p.own) gone.part in
       let P : List (Pair Event) → Type 0 = λ list. FollowsInRounds work recoverer (rules (actors.Recoverer (index + 1))) (held (actors.Recoverer (index + 1))) (index + 1) list history in
       let same : recoverer ≡ r.recoverer = same_some recoverer r.recoverer (sym listed ∙ r.listed) in
       let D = x.0.recoverer in
       let stop : D.desk.log.stop ≡ recoverer.stop = r.stop ∙ ap (λ (w : RecovererWork). w.stop) (sym same) in
-      let R : ℕ → Option ℕ → ℕ → Priority → List (List ℕ) → Type 0 = λ limit stop number level splits. HasMadeOrEnded splits number level recoverer.rounds limit stop (held (actors.Recoverer (index + 1))) (entries_made x.0) in
-      let made : HasMadeOrEnded D.desk.log.head.splits D.number D.level x.0.rounds D.desk.log.limit D.desk.log.stop (held (actors.Recoverer (index + 1))) (entries_made x.0) = rounds_so x.0 (held (actors.Recoverer (index + 1))) r.counted (out index x.0 x.1) (say_held_up.recoverers index x.0 x.1) in
+      let S : Sending = sending_of D.desk.log in
+      let ruled : (n : ℕ) → verdict_of D.desk.log n ≡ wire_rule recoverer.wire n = λ n. r.wire n ∙ ap (λ (w : RecovererWork). wire_rule w.wire n) (sym same) in
+      let sends : S ≡ sending_in work recoverer = same_sending S (sending_in work recoverer) ruled r.tries in
+      let R : ℕ → Option ℕ → ℕ → Priority → List (List ℕ) → Type 0 = λ limit stop number level splits. HasMadeOrEnded S splits number level recoverer.rounds limit stop (held (actors.Recoverer (index + 1))) (entries_made x.0) in
+      let made : HasMadeOrEnded S D.desk.log.head.splits D.number D.level x.0.rounds D.desk.log.limit D.desk.log.stop (held (actors.Recoverer (index + 1))) (entries_made x.0) = rounds_so x.0 (held (actors.Recoverer (index + 1))) r.counted (out index x.0 x.1) (say_held_up.recoverers index x.0 x.1) in
       let rounds : R D.desk.log.limit D.desk.log.stop D.number D.level D.desk.log.head.splits =
-      subst (λ n. HasMadeOrEnded D.desk.log.head.splits D.number D.level n D.desk.log.limit D.desk.log.stop (held (actors.Recoverer (index + 1))) (entries_made x.0)) (sym (ap (λ (w : RecovererWork). w.rounds) same ∙ r.rounds)) made in
+      subst (λ n. HasMadeOrEnded S D.desk.log.head.splits D.number D.level n D.desk.log.limit D.desk.log.stop (held (actors.Recoverer (index + 1))) (entries_made x.0)) (sym (ap (λ (w : RecovererWork). w.rounds) same ∙ r.rounds)) made in
       let levels : R D.desk.log.limit D.desk.log.stop D.number recoverer.level D.desk.log.head.splits =
       subst (λ v. R D.desk.log.limit D.desk.log.stop D.number v D.desk.log.head.splits) (sym (ap (λ (w : RecovererWork). w.level) same ∙ r.level)) rounds in
       let numbers : R D.desk.log.limit D.desk.log.stop (index + 1) recoverer.level D.desk.log.head.splits = subst (λ n. R D.desk.log.limit D.desk.log.stop n recoverer.level D.desk.log.head.splits) r.number levels in
@@ -169,10 +189,11 @@ module _ {C : Type 0} (work : Workload) (rules : ActorId → ℕ → ℕ → Boo
       let all : R work.limit recoverer.stop (index + 1) recoverer.level work.splits = subst (λ (h : Head). R work.limit recoverer.stop (index + 1) recoverer.level h.splits) r.head stops in
       subst P (sym list) (record {
         readings = gone.readings recoverer listed;
-        wire = subst (λ (p : Part Event). AreServed (held (actors.Recoverer (index + 1))) (actors.Recoverer (index + 1)) history (known_of p.own)) gone.part kept.served;
+        wire = subst (λ (v : ℕ → Verdict). AreServed v (held (actors.Recoverer (index + 1))) (actors.Recoverer (index + 1)) history (known_of (entries_made x.0))) (recoverer_verdicts work index recoverer listed)
+            (subst (λ (p : Part Event). AreServed (verdicts_in work (actors.Recoverer (index + 1))) (held (actors.Recoverer (index + 1))) (actors.Recoverer (index + 1)) history (known_of p.own)) gone.part kept.served);
         within = gone.within;
         no_later = subst (λ (o : Option ℕ). IfSome o (λ n. length (entries_made x.0) ≤ n)) stop gone.no_later;
-        rounds = all;
+        rounds = subst (λ (t : Sending). HasMadeOrEnded t work.splits (index + 1) recoverer.level recoverer.rounds work.limit recoverer.stop (held (actors.Recoverer (index + 1))) (entries_made x.0)) sends all;
       })
     where
       same_some : (x y : RecovererWork) → Some x ≡ Some y → x ≡ y
@@ -227,14 +248,14 @@ module _ {C : Type 0} where
 
 -- clients that have left made up their order
 order-made : {C : Type 0} (work : Workload) (rules : ActorId → ℕ → ℕ → Bool) (c : ClientsMeaning C) (leavers : List Leaver) (history : List (Entry Event)) (order : List (Pair Event)) → HaveAllLeft work rules c leavers
-    → (closed : IsClosedOver work.limit (head_in_work work) leavers history) → AreShares (head_in_work work) (client_lists c) order → MakesUpEach closed.parts order
+    → (closed : IsClosedOver work.limit (head_in_work work) (verdicts_in work) leavers history) → AreShares (head_in_work work) (client_lists c) order → MakesUpEach closed.parts order
 order-made work rules c leavers history order left closed shares =
     let lists : lists_of leavers ≡ client_lists c = lists-are c.sessions c.recoverers leavers left.many (λ index s l at here. (left.sessions index s l at here).part) (λ index r l at here. (left.recoverers index r l at here).part) in
     shares_make_up (head_in_work work) (client_lists c) order closed.parts shares (subst (λ ls. AreHandedIn (head_in_work work) ls closed.parts) lists closed.handed)
 
 pub turns_are_as_stated : (C : Type 0) → TurnsAreAsStated C
 turns_are_as_stated C work rules c leavers history order stated left closed shares some goes =
-    let held = holds_up work.limit (head_in_work work) history in
+    let held = holds_up work.limit (head_in_work work) history (verdicts_in work) in
     let kept : GoInTurnsOf work held stated (length work.sessions) (length work.recoverers) (client_pairs (head_in_work work) history) =
     turns_are_kept (head_in_work work) history closed.parts order (next_in_work work) (ended_in_work work held) (recoverer_ended_in_work work held) (rounds_in_work work) (is_work_opened work) stated closed.stored (order-made work rules c leavers history order left closed shares) goes in
     subst (λ (o : Option (List Turn)). GoAsStated work held o (length work.sessions) (client_pairs (head_in_work work) history)) (sym some) kept

@@ -1,7 +1,7 @@
 use Rattle.std.proofs.Common.{◌≡◌, ◌<◌, ◌+◌, Some, length, slice_get, refl, sym, ap, subst, ◌∙◌}
 use Rattle.std.proofs.lemmas.Option.{slice_get_read}
 use Rattle.pc_base.specs.declared.actor.ActorId.TheVariants as actors
-use Rattle.pc_ends.proofs.Begun.{clock_if, runner_if, stop_from, told_none}
+use Rattle.pc_ends.proofs.Begun.{clock_if, runner_if, stop_from, told_none, wire_within}
 use Rattle.pc_ends.specs.SessionClock.{session_rule}
 use Rattle.pc_script.specs.Script.{opened}
 use Rattle.pc_ends.proofs.beginning.begin_next.Goals as goal
@@ -11,7 +11,7 @@ returns-clause-runner g c =
     let stated = c.index-as_slice-index.result in
     let within : c.args.index < length c.as_slice.result.now = subst (λ xs. c.args.index < length xs) (sym c.as_slice.ensures) c.requires.there in
     let listed : slice_get c.args.work.now.sessions c.args.index ≡ Some stated = subst (λ xs. slice_get xs c.args.index ≡ Some stated) c.as_slice.ensures (slice_get_read c.as_slice.result.now (length c.as_slice.result.now) c.args.index stated refl within c.index-as_slice-index.is) in
-    runner_if c.new-2.result c.args.work.now c.args.index stated c.new-session.result _ _ _ _ _ _ _ _ _ listed c.new-2.ensures.scripted c.new-2.ensures.made c.new-session.ensures.made c.requires.world c.requires.part refl (told_none c.args.work.now.turns c.is_none.result c.is_none.ensures) refl refl (ap (λ r. r.limit) c.requires.ranges)
+    runner_if c.new-2.result c.args.work.now c.args.index stated c.new-session.result _ _ _ _ _ _ _ _ _ _ _ listed c.new-2.ensures.scripted c.new-2.ensures.made c.new-session.ensures.made c.requires.world c.requires.part c.in_ok-wire.ensures refl refl (told_none c.args.work.now.turns c.is_none.result c.is_none.ensures) refl refl (ap (λ r. r.limit) c.requires.ranges)
 
 pub returns-clause-clock : goal.returns-clause-clock
 returns-clause-clock g c =
@@ -26,3 +26,10 @@ new-session-requires-clause-stop g c =
     let within : c.args.index < length c.as_slice.result.now = subst (λ xs. c.args.index < length xs) (sym c.as_slice.ensures) c.requires.there in
     let listed : slice_get c.args.work.now.sessions c.args.index ≡ Some stated = subst (λ xs. slice_get xs c.args.index ≡ Some stated) c.as_slice.ensures (slice_get_read c.as_slice.result.now (length c.as_slice.result.now) c.args.index stated refl within c.index-as_slice-index.is) in
     stop_from c.args.work.now c.args.index stated c.requires.accepted listed
+
+pub wire_for-requires : goal.wire_for-requires
+wire_for-requires g c =
+    let stated = c.index-as_slice-index.result in
+    let within : c.args.index < length c.as_slice.result.now = subst (λ xs. c.args.index < length xs) (sym c.as_slice.ensures) c.requires.there in
+    let listed : slice_get c.args.work.now.sessions c.args.index ≡ Some stated = subst (λ xs. slice_get xs c.args.index ≡ Some stated) c.as_slice.ensures (slice_get_read c.as_slice.result.now (length c.as_slice.result.now) c.args.index stated refl within c.index-as_slice-index.is) in
+    wire_within c.args.work.now c.args.index stated c.requires.accepted listed
