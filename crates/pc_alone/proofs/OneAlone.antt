@@ -7,7 +7,7 @@ use Rattle.pc_base.specs.declared.actor.ActorId.{ActorId}
 use Rattle.pc_base.specs.declared.actor.ActorId.TheVariants as actors
 use Rattle.pc_base.specs.declared.entry.Entry.{Entry}
 use Rattle.pc_desk.specs.Hearing.{HearsAll, MayStayUnheard}
-use Rattle.pc_desk.specs.Keeping.{EachAfter, KeepsNext}
+use Rattle.pc_desk.specs.Keeping.{EachAfter, KeepsNext, KeepsOverQuiet, LosesNothing}
 use Rattle.pc_history.proofs.Histories.{named-one, own-contains, own-push_same, pairs_after-append, pairs_of-entries}
 use Rattle.pc_history.proofs.Ids.{same_id-equal}
 use Rattle.pc_history.specs.declared.pair.Pair.{Pair}
@@ -25,10 +25,11 @@ use Rattle.pc_proto.specs.declared.event.Event.{Event}
 use Rattle.pc_proto.specs.declared.event.Event.TheVariants as events
 use Rattle.pc_proto.specs.declared.request.Request.{Request}
 use Rattle.pc_proto.specs.declared.request.Request.TheVariants as requests
-use Rattle.pc_runs.specs.Follows.{FollowsByItself, FollowsWork}
+use Rattle.pc_runs.specs.Follows.{FollowsByItself, FollowsWork, terms_in}
 use Rattle.pc_runs.specs.Order.{GoAsStated, GoInTurnsOf, ended_in_work, is_work_opened, next_in_work, recoverer_ended_in_work, rounds_in_work}
 use Rattle.pc_closing.specs.HeldUp.{holds_up}
-use Rattle.pc_closing.specs.Served.{IsServedOnce}
+use Rattle.pc_closing.specs.Served.{IsServedByVerdict}
+use Rattle.pc_desk.specs.Desk.{uses_by}
 use Rattle.pc_serial.proofs.AloneStanding.{contains_split, heard_evaluated, sent-there}
 use Rattle.pc_alone.proofs.OneInOrder.{AllGood, HearsEach, IsGoodAt, TellsHeard, heard_ever, hears-before, in-turns, on-threads}
 use Rattle.pc_alone.specs.OneSession.{IsForOneSession}
@@ -48,11 +49,16 @@ use Rattle.pc_world.specs.Caused.{Evaluates}
 use Rattle.pc_follows.specs.CallMessages.{SendsForCall}
 use Rattle.pc_follows.specs.FinishingJobs.{DoesJobs}
 use Rattle.pc_world.specs.Known.{Known, known_of}
-use Rattle.pc_world.specs.Known.Traffic.{Sent, request_sent}
+use Rattle.pc_world.specs.Known.Traffic.{Sent, heard_by, request_sent}
 use Rattle.pc_world.specs.Local.{Head, IsActorOf}
 use Rattle.pc_world.specs.Named.{is_send_of, request_in}
 use Rattle.pc_world.specs.Run.{IsRun, protocol}
 use Rattle.pc_world.specs.Tell.Refusal.{is_heard}
+use Rattle.pc_runs.specs.Wires.{verdicts_in}
+use Rattle.pc_wire.specs.Verdicts.{is_losing}
+use Rattle.pc_work.specs.Wire.{wire_rule}
+use Rattle.pc_work.specs.declared.wire.WireWork.{WireWork}
+use Rattle.pc_work.specs.declared.wire.WireWork.TheVariants.{Quiet}
 
 -- ---- the session's own list
 
@@ -98,6 +104,10 @@ calls-as : (k : Known) (event : Event) → SendsForCall false k event → SendsF
 calls-as k (events.Send number range request) is = inl is
 calls-as k event is = tt
 
+each-weaker : (P Q : List (Pair Event) → Pair Event → Type 0) → ((before : List (Pair Event)) (p : Pair Event) → P before p → Q before p) → (before xs : List (Pair Event)) → EachAfter P before xs → EachAfter Q before xs
+each-weaker P Q more before [] each = tt
+each-weaker P Q more before (x ∷ xs) each = (more before x each.0, each-weaker P Q more (before ++ x ∷ []) xs each.1)
+
 jobs-as : (k : Known) (jobs : List (List Request)) (event : Event) → DoesJobs k jobs event → SendsJobs k jobs event
 jobs-as k jobs (events.Send number range request) is = λ none. (is none).next
 jobs-as k jobs event is = tt
@@ -115,7 +125,7 @@ module _ (work : Workload) (rules : ActorId → ℕ → ℕ → Bool) (head : He
   one = follows.sessions ∙ of.one
 
   abbrev held : ActorId → Sent → Bool
-  held = holds_up work.limit head history
+  held = holds_up work.limit head history (verdicts_in work)
 
   abbrev list : List (Pair Event)
   list = own (protocol head) the_session history
@@ -123,20 +133,30 @@ module _ (work : Workload) (rules : ActorId → ℕ → ℕ → Bool) (head : He
   by-itself : FollowsByItself work session (rules the_session) (held the_session) the_session list history
   by-itself = follows.each 1 session (omega arith) (ap (λ (l : List SessionWork). slice_get l (1 - 1)) sessions-are)
 
+  -- its wire delivers each message
+  delivers : session.wire ≡ Quiet
+  delivers = All-contains (λ (w : SessionWork). w.wire ≡ Quiet) work.sessions session of.quiet (subst (λ ws. Contains ws session) (sym sessions-are) (contains_head session []))
+
+  lossless : LosesNothing (wire_rule session.wire)
+  lossless number = ap (λ (w : WireWork). is_losing (wire_rule w number)) delivers
+
   -- what its own list keeps of an entry
   abbrev Keeps : List (Pair Event) → Pair Event → Type 0
-  Keeps before p = KeepsNext the_session work.splits work.pipelining before p.entry.event p.named
+  Keeps before p = KeepsOverQuiet work.splits work.pipelining before p.entry.event (heard_by p.entry.event p.named (known_of before).sent)
+
+  all-keep : EachAfter Keeps [] list
+  all-keep = each-weaker (λ before p. KeepsNext the_session work.splits (terms_in work session) before p.entry.event p.named) Keeps (λ before p step. step.quiet lossless) [] list by-itself.keeps
 
   keeps : (before : List (Entry Event)) (e : Entry Event) (later : List (Entry Event)) → history ≡ before ++ e ∷ later → e.actor ≡ the_session
       → Keeps (own (protocol head) the_session before) (pair e (named_in (protocol head) before e.event))
   keeps before e later split me =
       let w = own-at head before e later me in
       each-at Keeps [] (own (protocol head) the_session before) (pair e (named_in (protocol head) before e.event)) w.0
-      (subst (EachAfter Keeps []) (ap (own (protocol head) the_session) split ∙ w.1) by-itself.keeps)
+      (subst (EachAfter Keeps []) (ap (own (protocol head) the_session) split ∙ w.1) all-keep)
 
   tells-heard : TellsHeard list
   tells-heard before p later answer split tells m there =
-      let k = each-at Keeps [] before p later (subst (EachAfter Keeps []) split by-itself.keeps) in
+      let k = each-at Keeps [] before p later (subst (EachAfter Keeps []) split all-keep) in
       let heard = subst (HearsAll false (known_of before)) tells (subst (λ b. HearsAll b (known_of before) p.entry.event) of.unpipelined k.wire) in
       elim (All-contains (λ m. IsTrue (is_heard (known_of before).heard_now m) ⊎ MayStayUnheard false (known_of before) m) (known_of before).sent_now m heard there) [
         | inl now ↦ heard_ever before m now
@@ -245,7 +265,8 @@ module _ (work : Workload) (rules : ActorId → ℕ → ℕ → Bool) (head : He
       let here : Contains history e = subst (λ h. Contains h e) (sym split) (contains_split before e (between ++ other ∷ later)) in
       let s = evaluated-of e here actor number first in
       let m = s.1 in
-      let once_there : evaluations_of the_session m.0.number history ≤ 1 = (All-contains (IsServedOnce (held the_session) the_session history (known_of list)) (known_at head the_session history).sent m.0 by-itself.wire m.1).most in
+      let most = (All-contains (IsServedByVerdict (wire_rule session.wire) (held the_session) the_session history (known_of list)) (known_at head the_session history).sent m.0 by-itself.wire m.1).most in
+      let once_there : evaluations_of the_session m.0.number history ≤ 1 = subst (λ (w : WireWork). evaluations_of the_session m.0.number history ≤ uses_by (wire_rule w m.0.number)) delivers most in
       let p : Entry Event → Bool = λ x. is_evaluation_of the_session number x.event in
       let total : count_by p history ≤ 1 = subst (λ n. evaluations_of the_session n history ≤ 1) m.2 once_there in
       let a = count-append p before (e ∷ (between ++ other ∷ later)) in

@@ -1,5 +1,5 @@
 -- Sessions, and recoverers, finish one after another.
-use Rattle.std.proofs.Common.{◌≡◌, ℕ, zero, suc, ◌+◌, ◌<◌, inl, inr, Bool, All, Contains, List, [], ◌∷◌, ◌++◌, length, slice_get, Some, refl, sym, ap, subst, ◌∙◌, arith, length-append}
+use Rattle.std.proofs.Common.{◌≡◌, ℕ, suc, ◌+◌, inl, inr, Bool, Contains, List, [], ◌∷◌, ◌++◌, length, slice_get, Some, refl, sym, ap, subst, ◌∙◌, arith, length-append}
 use Rattle.std.proofs.lemmas.List.{append-nil, append_assoc}
 use Rattle.std.proofs.lemmas.Option.{slice_get_within}
 use Rattle.pc_closing.specs.Leaving.{Leaver}
@@ -8,7 +8,6 @@ use Rattle.pc_lists.proofs.Lists.{get_append, get_contains, get_push, get_push_c
 use Rattle.pc_rounds.specs.Counted.{CountedMeaning}
 use Rattle.pc_runs.proofs.Finished.{there}
 use Rattle.pc_runs.specs.Laws.{HaveFinished}
-use Rattle.pc_runs.specs.Together.{ClientsMeaning}
 use Rattle.pc_scripted.specs.Scripted.{ScriptedMeaning}
 
 same_some : {X : Type 0} (x y : X) → Some x ≡ Some y → x ≡ y

@@ -13,7 +13,7 @@ use Rattle.pc_base.specs.Span.{same_key}
 use Rattle.pc_base.specs.Transaction.{same_txn}
 use Rattle.pc_desk.proofs.Counting.{said_more}
 use Rattle.pc_base.specs.declared.actor.ActorId.TheVariants as actors
-use Rattle.pc_desk.specs.Keeping.{EachAfter, KeepsNext}
+use Rattle.pc_desk.specs.Keeping.{EachAfter, KeepsOverQuiet}
 use Rattle.pc_follows.specs.CallMessages.{IsFor, IsForCall, IsOfRound, IsPutAgain, SendsForCall, ShowsLife}
 use Rattle.pc_history.specs.declared.pair.Pair.{Pair}
 use Rattle.pc_implicit.proofs.Turns.{some-there}
@@ -43,10 +43,10 @@ abbrev pub SendsAsMay : List (List ℕ) → ℕ → Known → Event → Type 0
 SendsAsMay splits session k (events.Send number range request) = MaySend splits (actors.Session session) k number range request
 SendsAsMay splits session k _ = ⊤
 
--- The next entry of a session whose writes are pipelined keeps what its workload asks, and what it sends may be sent.
+-- The next entry of a session whose writes are pipelined, and whose messages are not lost, keeps what its workload asks, and what it sends may be sent.
 abbrev pub MayBeNext : List (List ℕ) → ℕ → List (Pair Event) → Pair Event → Type 0
 MayBeNext splits session before p =
-    KeepsNext (actors.Session session) splits true before p.entry.event p.named × SendsAsMay splits session (known_of before) p.entry.event
+    KeepsOverQuiet splits true before p.entry.event (heard_by p.entry.event p.named (known_of before).sent) × SendsAsMay splits session (known_of before) p.entry.event
 
 -- The entry asks no call, and tells no answer.
 abbrev pub IsWithin : Event → Type 0

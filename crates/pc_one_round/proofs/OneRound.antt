@@ -11,7 +11,7 @@ use Rattle.pc_base.specs.declared.actor.ActorId.TheVariants as actors
 use Rattle.pc_base.specs.declared.entry.Entry.{Entry}
 use Rattle.pc_base.specs.declared.transaction.TxnId.{TxnId}
 use Rattle.pc_base.specs.Transaction.{same_txn}
-use Rattle.pc_desk.specs.Keeping.{EachAfter, KeepsSessionStep}
+use Rattle.pc_desk.specs.Keeping.{EachAfter, KeepsOverQuiet}
 use Rattle.pc_follows.specs.EarlyProof.{ProvesNothingEarly}
 use Rattle.pc_follows.specs.EarlyTell.{IsCommitDecided, TellsEarly}
 use Rattle.pc_follows.specs.OwnStages.{AreAllOnWay, IsBesidePuts, IsPutStaged, IsStillOut, ListsUnrefused, StagesBesidePuts}
@@ -161,7 +161,7 @@ module _ (splits : List (List ℕ)) (session : ℕ) (base back : List (Pair Even
     abbrev k1 : Known
     k1 = known_of (base ++ hearing.before)
 
-    rules : KeepsSessionStep splits true (base ++ hearing.before) hearing.p.entry.event (heard_by hearing.p.entry.event hearing.p.named k1.sent)
+    rules : KeepsOverQuiet splits true (base ++ hearing.before) hearing.p.entry.event (heard_by hearing.p.entry.event hearing.p.named k1.sent)
     rules = (each_rest hearing.before (hearing.p ∷ hearing.later) hearing.whole).0.0
 
     said : request_sent h.number k1.sent ≡ Some h.request

@@ -5,7 +5,7 @@ use Rattle.std.proofs.lemmas.List.Elements.{Contains-append_cases, Contains-appe
 use Rattle.pc_base.specs.declared.actor.ActorId.{ActorId}
 use Rattle.pc_base.specs.declared.actor.ActorId.TheVariants as actors
 use Rattle.pc_base.specs.declared.entry.Entry.{Entry}
-use Rattle.pc_desk.specs.Keeping.{EachAfter, KeepsEach, KeepsNext}
+use Rattle.pc_desk.specs.Keeping.{EachAfter, KeepsEach, KeepsNext, KeepsOverQuiet, LosesNothing, Terms}
 use Rattle.pc_history.specs.declared.pair.Pair.{Pair}
 use Rattle.pc_history.specs.Own.{own}
 use Rattle.pc_implicit.proofs.Agreed.{agreed, open_there, owned}
@@ -29,7 +29,7 @@ use Rattle.pc_world.proofs.Knowing.{known_push}
 use Rattle.pc_world.proofs.Prefixes.{run_front, run_may}
 use Rattle.pc_world.specs.After.{known_at}
 use Rattle.pc_world.specs.Known.{Known, known_of, open_txn}
-use Rattle.pc_world.specs.Known.Traffic.{Sent, sent_by}
+use Rattle.pc_world.specs.Known.Traffic.{Sent, heard_by, sent_by}
 use Rattle.pc_world.specs.Known.Transactions.{Txn}
 use Rattle.pc_world.specs.Known.Writes.{Write}
 use Rattle.pc_world.specs.Local.{Head}
@@ -112,19 +112,21 @@ module _ (head : Head) (history : List (Entry Event)) (run : IsRun head history)
       as_may (known_of front) p.entry.event
       (subst (λ l. Does head me (known_of l) p.entry.event) at.mine (subst (λ a. Does head a (known_at head a at.front) p.entry.event) at.actor does_it))
 
-  abbrev Keeps : List (Pair Event) → Pair Event → Type 0
-  Keeps before p = KeepsNext me head.splits true before p.entry.event p.named
+  -- What each entry keeps, by these terms, which lose nothing and have its writes pipelined.
+  abbrev Keeps : Terms → List (Pair Event) → Pair Event → Type 0
+  Keeps terms before p = KeepsNext me head.splits terms before p.entry.event p.named
 
-  each_by : (before ps rest : List (Pair Event)) → own (protocol head) me history ≡ before ++ (ps ++ rest) → EachAfter Keeps before ps → EachAfter (MayBeNext head.splits session) before ps
-  each_by before [] rest whole keeps = tt
-  each_by before (p ∷ ps) rest whole keeps =
-      ((keeps.0, may_at before p (ps ++ rest) whole), each_by (before ++ p ∷ []) ps rest (whole ∙ sym (append_assoc before (p ∷ []) (ps ++ rest))) keeps.1)
+  each_by : (terms : Terms) → terms.pipelining ≡ true → LosesNothing terms.verdict → (before ps rest : List (Pair Event)) → own (protocol head) me history ≡ before ++ (ps ++ rest) → EachAfter (Keeps terms) before ps → EachAfter (MayBeNext head.splits session) before ps
+  each_by terms piped lossless before [] rest whole keeps = tt
+  each_by terms piped lossless before (p ∷ ps) rest whole keeps =
+      let step = subst (λ b. KeepsOverQuiet head.splits b before p.entry.event (heard_by p.entry.event p.named (known_of before).sent)) piped (keeps.0.quiet lossless) in
+      ((step, may_at before p (ps ++ rest) whole), each_by terms piped lossless (before ++ p ∷ []) ps rest (whole ∙ sym (append_assoc before (p ∷ []) (ps ++ rest))) keeps.1)
 
-  module _ (before later : List (Pair Event)) (next : Pair Event) (t : Txn) (keeps : KeepsEach me head.splits true (own (protocol head) me history)) (whole : own (protocol head) me history ≡ before ++ next ∷ later) (opened : open_txn (known_of before) ≡ Some t) where
+  module _ (before later : List (Pair Event)) (next : Pair Event) (t : Txn) (terms : Terms) (piped : terms.pipelining ≡ true) (lossless : LosesNothing terms.verdict) (keeps : KeepsEach me head.splits terms (own (protocol head) me history)) (whole : own (protocol head) me history ≡ before ++ next ∷ later) (opened : open_txn (known_of before) ≡ Some t) where
     pub each_now : EachAfter (MayBeNext head.splits session) [] (before ++ next ∷ [])
     each_now =
         let so : own (protocol head) me history ≡ (before ++ next ∷ []) ++ later = whole ∙ sym (append_assoc before (next ∷ []) later) in
-        each_by [] (before ++ next ∷ []) later so (each_front Keeps [] (before ++ next ∷ []) later (subst (EachAfter Keeps []) so keeps))
+        each_by terms piped lossless [] (before ++ next ∷ []) later so (each_front (Keeps terms) [] (before ++ next ∷ []) later (subst (EachAfter (Keeps terms) []) so keeps))
 
     -- a put of the open transaction is of the key of its write
     pub keyed_now : (m : Sent) → Contains (known_of before).sent m → (meta : TxnMeta) (seq at : ℕ) (key : List ℕ) (value : Option (List ℕ)) → m.request ≡ requests.Put meta seq at key value → meta.id ≡ t.id → meta.epoch ≡ t.epoch → (w : Write) → Contains t.writes w → w.seq ≡ seq → w.key ≡ key
@@ -145,10 +147,10 @@ module _ (head : Head) (history : List (Entry Event)) (run : IsRun head history)
 
 -- the law
 pub one_round : CommitsInOneRound
-one_round head history session before later next t ts run keeps whole c =
+one_round head history session terms before later next t ts piped lossless run keeps whole c =
     by next.entry.event
     (λ number range request sends.
-    never head.splits session before next t ts (each_now head history run session before later next t keeps whole c.opened) c (keyed_now head history run session before later next t keeps whole c.opened) number range request sends)
+    never head.splits session before next t ts (each_now head history run session before later next t terms piped lossless keeps whole c.opened) c (keyed_now head history run session before later next t terms piped lossless keeps whole c.opened) number range request sends)
   where
     by : (event : Event) → ((number range : ℕ) (request : Request) → event ≡ events.Send number range request → ⊥) → SendsNothing event
     by (events.Send number range request) none = none number range request refl
