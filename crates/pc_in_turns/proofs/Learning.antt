@@ -157,7 +157,7 @@ module _ {C : Type 0} (s now : ScriptedMeaning C) (scripted : IsScripted s) wher
       by false e is = absurd cc
 
   closed : s.session.desk.log.stopped ≡ false → IsNoLearnOpen (known_of (own_list s)).statement
-  closed going = subst IsNoLearnOpen (sym (scripted.goes going).rest.closed) tt
+  closed going = subst IsNoLearnOpen (sym (scripted.goes going).rest.any.closed) tt
 
   -- a job
   job-quiet : (jobs : List (List Request)) (part : List (Pair Event)) → FinishesIfLeft next ended (own_number s) jobs (own_list s) part → (part ≡ []) ⊎ Each (λ p. AsksNoLearn p.entry.event) part

@@ -74,7 +74,7 @@ module _ {C : Type 0} (work : Workload) (rule : C → ℕ → ℕ → Bool) (c :
     where
       by : (b : Bool) → s.session.desk.log.stopped ≡ b → MayLeave s.session.desk.range_limit (verdict_of s.session.desk.log) s.session.desk.log.part l.1
       by true stopped = ended-may-leave s.session.desk l f.posted scripted.given (scripted.ends stopped)
-      by false going = going_may_leave s.session.desk l.1 f.posted scripted.given (scripted.goes going).rest.track
+      by false going = going_may_leave s.session.desk l.1 f.posted scripted.given (scripted.goes going).rest.any.track
 
   may-leave-rounds : (r : CountedMeaning C) (l : Leaver) → GoesInRounds r → HasFinishedInRounds rule r l → MayLeave r.recoverer.desk.range_limit (verdict_of r.recoverer.desk.log) r.recoverer.desk.log.part l.1
   may-leave-rounds r l counted f = by r.recoverer.desk.log.stopped refl

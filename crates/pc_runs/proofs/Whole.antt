@@ -61,7 +61,7 @@ ends_so s held scripted out says = by s.session.desk.log.stopped refl
   where
     by : (b : Bool) → s.session.desk.log.stopped ≡ b → IsScriptEnd (script_position s.at.reruns s.script (own_list s)) (own_list s) ⊎ (list_has_ended s.session.desk.log.limit s.session.desk.log.stop held (own_list s) ≡ true)
     by true stopped = inr (has_ended_now s.session.desk held says (scripted.ends stopped))
-    by false going = inl (record { no_next = ap next_call (sym (scripted.goes going).place) ∙ out.over going; none_open = (scripted.goes going).rest.closed })
+    by false going = inl (record { no_next = ap next_call (sym (scripted.goes going).place) ∙ out.over going; none_open = (scripted.goes going).rest.any.closed })
 
 -- terms with the same verdicts, tries and pipelining are the same
 same_terms : (one other : Terms) → ((n : ℕ) → one.verdict n ≡ other.verdict n) → one.tries ≡ other.tries → one.pipelining ≡ other.pipelining → one ≡ other

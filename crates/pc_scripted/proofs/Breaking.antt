@@ -27,6 +27,10 @@ use Rattle.pc_session.specs.Session.{SessionMeaning}
 use Rattle.pc_turns.specs.Order.{AsksAfter, FinishesAfter, IsInBetween, events_of}
 use Rattle.pc_follows.specs.FinishingJobs.{jobs_of}
 use Rattle.pc_world.specs.Known.Traffic.{Sent}
+use Rattle.pc_scripted.proofs.Quiet.{all_heard, jobs_left, some_left}
+use Rattle.pc_desk.specs.OwnLog.{verdict_of}
+use Rattle.pc_wire.specs.declared.verdict.Verdict.TheVariants as verdicts
+use Rattle.pc_wire.specs.Verdicts.{verdict_by}
 
 -- what ended the list, where memory was not wanted
 ended_off : (halt : Halt) (So : Type 0) → (halt ≡ halts.NoMemory → ⊥) → IsEndedBy halt So → So
@@ -94,6 +98,9 @@ module _ {C : Type 0} (Are : List Event → Type 0) (old : ScriptedMeaning C) (n
   stop-then : new.desk.log.stop ≡ old.session.desk.log.stop
   stop-then = log-is (λ l. l.stop ≡ old.session.desk.log.stop) refl
 
+  wire-then : new.desk.log.wire ≡ old.session.desk.log.wire
+  wire-then = log-is (λ l. l.wire ≡ old.session.desk.log.wire) refl
+
   scripted-then : IsScripted broken_then
   scripted-then = record {
     id = log-is (λ l. l.part.id ≡ old.session.desk.log.part.id) refl ∙ (scripted.id ∙ ap actors.Session (sym same-number));
@@ -119,6 +126,8 @@ module _ {C : Type 0} (Are : List Event → Type 0) (old : ScriptedMeaning C) (n
       beside = log-is (λ l. l.beside ≡ old.session.desk.log.beside) refl;
       limit = limit-then;
       stop = stop-then;
+      wire = wire-then;
+      tries = log-is (λ l. l.tries ≡ old.session.desk.log.tries) refl;
       range_limit = b.limit;
     };
     own = b.own;
@@ -136,9 +145,12 @@ module _ {C : Type 0} (Are : List Event → Type 0) (old : ScriptedMeaning C) (n
       (subst (λ o. list_has_ended new.desk.log.limit o held new.desk.log.part.own ≡ true) stop-then (has_ended_now new.desk held says b.end)))
 
   -- and if it had before, nothing was made
-  nothing-made : (held : Sent → Bool) → list_has_ended old.session.desk.log.limit old.session.desk.log.stop held (own_list old) ≡ true → b.part ≡ []
-  nothing-made held before =
-      no_room old.session.desk.log.limit (own_list old) b.part (only_at_limit old.session.desk.log.limit old.session.desk.log.stop held (own_list old) (goes.rest.track.log.before_stop going) goes.rest.closed goes.rest.heard before)
+  delivers-then : (held : Sent → Bool) → SaysHeldUp held new.desk → (n : ℕ) → verdict_of old.session.desk.log n ≡ verdicts.Deliver
+  delivers-then held says n = sym (ap (λ w. verdict_by w n) wire-then) ∙ says.delivers n
+
+  nothing-made : (held : Sent → Bool) → SaysHeldUp held new.desk → list_has_ended old.session.desk.log.limit old.session.desk.log.stop held (own_list old) ≡ true → b.part ≡ []
+  nothing-made held says before =
+      no_room old.session.desk.log.limit (own_list old) b.part (only_at_limit old.session.desk.log.limit old.session.desk.log.stop held (own_list old) (goes.rest.any.track.log.before_stop going) goes.rest.any.closed (all_heard old.session (delivers-then held says) goes.rest) before)
       (subst (λ own. length own ≤ old.session.desk.log.limit) b.own (subst (λ n. length new.desk.log.part.own ≤ n) limit-then b.within))
 
   -- if it had not, something was made
@@ -189,7 +201,7 @@ module _ {C : Type 0} (Are : List Event → Type 0) (old : ScriptedMeaning C) (n
 
   asks-so : (held : Sent → Bool) → SaysHeldUp held new.desk → (e : Bool) → ended-by held (own_number old) (own_list old) ≡ e → AsksAfter next-by (ended-by held) (own_number old) (own_list old) b.part
   asks-so held says true is =
-      asks_ended next-by (ended-by held) (own_number old) (own_list old) b.part is (nothing-made Are old new scripted going b orders held is)
+      asks_ended next-by (ended-by held) (own_number old) (own_list old) b.part is (nothing-made Are old new scripted going b orders held says is)
   asks-so held says false is = partly held says is made
 
   pub moved_broken_call : HasMoved (AsksInTurn old) old (record { session = new; script = old.script; at = old.at })
@@ -212,21 +224,19 @@ module _ {C : Type 0} (old : ScriptedMeaning C) (new : SessionMeaning C) (script
   finishes-so : (held : Sent → Bool) → SaysHeldUp held new.desk → (job : List Request) (jobs : List (List Request)) → jobs_of (own_list old) ≡ job ∷ jobs → (e : Bool) → ended-at held (own_number old) (own_list old) ≡ e
       → FinishesAfter next-at (ended-at held) (own_number old) (own_list old) b.part
   finishes-so held says job jobs waits true is =
-      finishes_ended next-at (ended-at held) (own_number old) (own_list old) b.part is (nothing-made (All IsInBetween) old new scripted going b orders-then held is)
+      finishes_ended next-at (ended-at held) (own_number old) (own_list old) b.part is (nothing-made (All IsInBetween) old new scripted going b orders-then held says is)
   finishes-so held says job jobs waits false is =
       finishes_partly next-at (ended-at held) (own_number old) (own_list old) b.part is job jobs waits
       (record { whose = whose-part (All IsInBetween) old new scripted going b orders-then; within = b.are })
       (ended-then (All IsInBetween) old new scripted going b orders-then held says)
 
-  pub moved_broken_job : (job : List Request) (jobs : List (List Request)) → jobs_of (own_list old) ≡ job ∷ jobs → HasMoved (FinishesInTurn old) old (record { session = new; script = old.script; at = old.at })
-  moved_broken_job job jobs waits =
-      moved-so (All IsInBetween) old new scripted going b orders-then (FinishesInTurn old)
-      (λ held says. finishes-so held says job jobs waits (ended-at held (own_number old) (own_list old)) refl)
+  job-so : (held : Sent → Bool) → SaysHeldUp held new.desk → (jobs : List (List Request)) → jobs_of (own_list old) ≡ jobs → (jobs ≡ [] → ⊥) → FinishesAfter next-at (ended-at held) (own_number old) (own_list old) b.part
+  job-so held says [] waits some = absurd (some refl)
+  job-so held says (job ∷ jobs) waits some = finishes-so held says job jobs waits (ended-at held (own_number old) (own_list old)) refl
 
   -- where a job waited
-  pub moved_broken_step : (jobs_of (own_list old) ≡ [] → ⊥) → HasMoved (FinishesInTurn old) old (record { session = new; script = old.script; at = old.at })
-  moved_broken_step some = by (jobs_of (own_list old)) refl
-    where
-      by : (jobs : List (List Request)) → jobs_of (own_list old) ≡ jobs → HasMoved (FinishesInTurn old) old (record { session = new; script = old.script; at = old.at })
-      by [] none = absurd (some none)
-      by (job ∷ jobs) waits = moved_broken_job job jobs waits
+  pub moved_broken_step : (old.session.jobs ≡ [] → ⊥) → HasMoved (FinishesInTurn old) old (record { session = new; script = old.script; at = old.at })
+  moved_broken_step some =
+      moved-so (All IsInBetween) old new scripted going b orders-then (FinishesInTurn old)
+      (λ held says. job-so held says (jobs_of (own_list old)) refl
+      (some_left old.session.jobs (jobs_of (own_list old)) (jobs_left old.session (delivers-then (All IsInBetween) old new scripted going b orders-then held says) (scripted.goes going).rest) some))

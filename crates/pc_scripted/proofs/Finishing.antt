@@ -20,6 +20,11 @@ use Rattle.pc_session.specs.Session.{SessionMeaning}
 use Rattle.pc_session.specs.Steps.{HasMadeStep}
 use Rattle.pc_turns.specs.Order.{FinishesWhole}
 use Rattle.pc_follows.specs.FinishingJobs.{jobs_of}
+use Rattle.pc_scripted.proofs.Quiet.{all_behind, all_heard, jobs_left, loses_none}
+use Rattle.pc_scripted.specs.Ended.{SaysHeldUp}
+use Rattle.pc_desk.specs.OwnLog.{verdict_of}
+use Rattle.pc_wire.specs.declared.verdict.Verdict.TheVariants as verdicts
+use Rattle.pc_wire.specs.Verdicts.{verdict_by}
 
 module _ {C : Type 0} (old : ScriptedMeaning C) (new : SessionMeaning C) (scripted : IsScripted old) (going : old.session.desk.log.stopped ≡ false) (step : HasMadeStep old.session new) where
   abbrev then : ScriptedMeaning C
@@ -39,48 +44,63 @@ module _ {C : Type 0} (old : ScriptedMeaning C) (new : SessionMeaning C) (script
   same-number = log-is (λ l. session_number l.part.id ≡ own_number old) refl
 
   piped-same : new.coordinator.pipelining ≡ old.session.coordinator.pipelining
-  piped-same = sym step.rest.one.piped ∙ (log-is (λ l. l.pipelining ≡ old.session.desk.log.pipelining) refl ∙ goes.rest.one.piped)
+  piped-same = sym step.rest.any.one.piped ∙ (log-is (λ l. l.pipelining ≡ old.session.desk.log.pipelining) refl ∙ goes.rest.any.one.piped)
 
-  whole-job : FinishesWhole (own_number old) (own_list old) step.part
-  whole-job = subst (λ n. FinishesWhole n (own_list old) step.part) (sym (ap session_number goes.rest.one.whose)) step.whole
+  -- where the wire delivers each message
+  wire-then : new.desk.log.wire ≡ old.session.desk.log.wire
+  wire-then = log-is (λ l. l.wire ≡ old.session.desk.log.wire) refl
+
+  abbrev Delivers : Type 0
+  Delivers = (n : ℕ) → verdict_of old.session.desk.log n ≡ verdicts.Deliver
+
+  delivers-then : (held : Sent → Bool) → SaysHeldUp held new.desk → Delivers
+  delivers-then held says n = sym (ap (λ w. verdict_by w n) wire-then) ∙ says.delivers n
+
+  whole-job : Delivers → FinishesWhole (own_number old) (own_list old) step.part
+  whole-job delivers = subst (λ n. FinishesWhole n (own_list old) step.part) (sym (ap session_number goes.rest.any.one.whose)) (step.whole (loses_none old.session delivers))
+
+  whose-part : All (λ p. p.entry.actor ≡ actors.Session (own_number old)) step.part
+  whose-part =
+      subst (λ (i : ActorId). All (λ p. p.entry.actor ≡ i) step.part) (log-is (λ l. l.part.id ≡ old.session.desk.log.part.id) refl ∙ scripted.id)
+      (all_behind (λ p. p.entry.actor ≡ new.desk.log.part.id) (own_list old) step.part (subst (All (λ p. p.entry.actor ≡ new.desk.log.part.id)) step.grown.own step.rest.any.track.log.whose))
 
   -- the oldest job by its messages
   abbrev waiting : List (List Request)
   waiting = map messages_of_job new.jobs
 
-  oldest-is : jobs_of (own_list old) ≡ messages_of_job step.job ∷ waiting
-  oldest-is = goes.rest.waiting.left ∙ ap (map messages_of_job) step.oldest
+  oldest-is : Delivers → jobs_of (own_list old) ≡ messages_of_job step.job ∷ waiting
+  oldest-is delivers = jobs_left old.session delivers goes.rest ∙ ap (map messages_of_job) step.oldest
 
-  some-part : step.part ≡ [] → ⊥
-  some-part none =
+  some-part : Delivers → step.part ≡ [] → ⊥
+  some-part delivers none =
       let e : jobs_of (own_list old) ≡ drop 1 (jobs_of (own_list old)) =
-      ap jobs_of (sym (append-nil (own_list old)) ∙ ap (λ p. own_list old ++ p) (sym none)) ∙ step.whole.done in
-      let f : messages_of_job step.job ∷ waiting ≡ waiting = sym oldest-is ∙ (e ∙ ap (drop 1) oldest-is) in
+      ap jobs_of (sym (append-nil (own_list old)) ∙ ap (λ p. own_list old ++ p) (sym none)) ∙ (whole-job delivers).done in
+      let f : messages_of_job step.job ∷ waiting ≡ waiting = sym (oldest-is delivers) ∙ (e ∙ ap (drop 1) (oldest-is delivers)) in
       let n : suc (length waiting) ≡ length waiting = ap length f in
       omega arith
 
   limit-then : new.desk.log.limit ≡ old.session.desk.log.limit
   limit-then = log-is (λ l. l.limit ≡ old.session.desk.log.limit) refl
 
-  room : length (own_list old) < old.session.desk.log.limit
-  room =
-      some_room old.session.desk.log.limit (own_list old) step.part some-part
-      (subst (λ own. length own ≤ old.session.desk.log.limit) step.grown.own (subst (λ n. length new.desk.log.part.own ≤ n) limit-then step.rest.track.log.within))
+  room : Delivers → length (own_list old) < old.session.desk.log.limit
+  room delivers =
+      some_room old.session.desk.log.limit (own_list old) step.part (some-part delivers)
+      (subst (λ own. length own ≤ old.session.desk.log.limit) step.grown.own (subst (λ n. length new.desk.log.part.own ≤ n) limit-then step.rest.any.track.log.within))
 
   scripted-then : IsScripted then
   scripted-then = record {
     id = log-is (λ l. l.part.id ≡ old.session.desk.log.part.id) refl ∙ (scripted.id ∙ ap actors.Session (sym same-number));
     whose = subst (λ n. All (λ p. p.entry.actor ≡ actors.Session n) new.desk.log.part.own) (sym same-number)
         (subst (All (λ p. p.entry.actor ≡ actors.Session (own_number old))) (sym step.grown.own)
-        (All-append (λ (p : Pair Event). p.entry.actor ≡ actors.Session (own_number old)) (own_list old) step.part scripted.whose whole-job.whose));
-    within = step.rest.track.log.within;
-    given = step.rest.track.given;
-    asks = subst (AskInOrder old.at.reruns old.script) (sym step.grown.own) (order_between old.at.reruns old.script (own_list old) step.part scripted.asks step.whole.within);
+        (All-append (λ (p : Pair Event). p.entry.actor ≡ actors.Session (own_number old)) (own_list old) step.part scripted.whose whose-part));
+    within = step.rest.any.track.log.within;
+    given = step.rest.any.track.given;
+    asks = subst (AskInOrder old.at.reruns old.script) (sym step.grown.own) (order_between old.at.reruns old.script (own_list old) step.part scripted.asks step.within);
     goes = λ still. record {
       rest = step.rest;
       place =
           goes.place
-          ∙ (sym (position_between (own_list old) step.part old.at.reruns old.script step.whole.within)
+          ∙ (sym (position_between (own_list old) step.part old.at.reruns old.script step.within)
           ∙ ap (script_position old.at.reruns old.script) (sym step.grown.own));
       fits = subst (λ b. FitsCalls b old.at new.coordinator.txn) (sym piped-same) (subst (FitsCalls old.session.coordinator.pipelining old.at) (sym step.txn) goes.fits);
     };
@@ -101,14 +121,16 @@ module _ {C : Type 0} (old : ScriptedMeaning C) (new : SessionMeaning C) (script
         piped = log-is (λ l. l.pipelining ≡ old.session.desk.log.pipelining) refl;
         beside = log-is (λ l. l.beside ≡ old.session.desk.log.beside) refl;
         stop = log-is (λ l. l.stop ≡ old.session.desk.log.stop) refl;
+        wire = wire-then;
+        tries = log-is (λ l. l.tries ≡ old.session.desk.log.tries) refl;
         range_limit = step.limit;
       };
       own = step.grown.own;
-      whose = whole-job.whose;
+      whose = whose-part;
       rises = step.grown.rises;
       above = step.grown.above;
       known = step.grown.known;
     };
     is = λ held says. finishes_whole (next_in_script old.at.reruns old.script) (ended_in_script old.session.desk.log.limit old.session.desk.log.stop held) (own_number old) (own_list old) step.part
-        (not_ended old.session.desk.log.limit old.session.desk.log.stop held (own_list old) (goes.rest.track.log.before_stop going) goes.rest.closed goes.rest.heard room) (messages_of_job step.job) waiting oldest-is whole-job;
+        (not_ended old.session.desk.log.limit old.session.desk.log.stop held (own_list old) (goes.rest.any.track.log.before_stop going) goes.rest.any.closed (all_heard old.session (delivers-then held says) goes.rest) (room (delivers-then held says))) (messages_of_job step.job) waiting (oldest-is (delivers-then held says)) (whole-job (delivers-then held says));
   }

@@ -27,6 +27,11 @@ use Rattle.pc_turns.specs.Order.GoesByItself.{Ended, Onwards, Passed}
 use Rattle.pc_work.specs.declared.item.Item.{Item}
 use Rattle.pc_follows.specs.FinishingJobs.{jobs_of}
 use Rattle.pc_world.specs.Known.Traffic.{Sent}
+use Rattle.pc_coord.specs.Knows.{messages_of_job}
+use Rattle.pc_desk.specs.OwnLog.{verdict_of}
+use Rattle.pc_scripted.proofs.Quiet.{jobs_left, none_waits, some_left}
+use Rattle.pc_wire.specs.declared.verdict.Verdict.TheVariants as verdicts
+use Rattle.pc_wire.specs.Verdicts.{verdict_by}
 
 -- whose entries are all one session's
 pub all_mine : (number : ℕ) (own : List (Pair Event)) → All (λ p. p.entry.actor ≡ actors.Session number) own → entries_by number own ≡ own
@@ -37,9 +42,12 @@ all_mine number (p ∷ ps) whose =
     ∙ ap (λ qs. p ∷ qs) (all_mine number ps (All-tail (λ (q : Pair Event). q.entry.actor ≡ actors.Session number) p ps whose))
 
 -- it forgot no message that was refused
-pub says_before : {C : Type 0} (held : Sent → Bool) (old new : DeskMeaning C) → new.range_limit ≡ old.range_limit → new.log.part.id ≡ old.log.part.id → ((k : KnownEntry Event) → Contains old.log.part.known k → Contains new.log.part.known k) → SaysHeldUp held new
+pub says_before : {C : Type 0} (held : Sent → Bool) (old new : DeskMeaning C) → new.range_limit ≡ old.range_limit → new.log.wire ≡ old.log.wire → new.log.part.id ≡ old.log.part.id → ((k : KnownEntry Event) → Contains old.log.part.known k → Contains new.log.part.known k) → SaysHeldUp held new
     → SaysHeldUp held old
-says_before held old new same id more says m refused = says m (refused_still new.range_limit old.range_limit old.log.part new.log.part m same id more refused)
+says_before held old new same wire id more says = record {
+  delivers = λ n. sym (ap (λ w. verdict_by w n) wire) ∙ says.delivers n;
+  refused = λ m refused. says.refused m (refused_still new.range_limit old.range_limit old.log.part new.log.part m same id more refused);
+}
 
 -- a session that has moved has its number still
 pub same_actor : {C : Type 0} (old new : ScriptedMeaning C) (part : List (Pair Event)) → IsScripted old → HasMovedBy old new part → new.session.desk.log.part.id ≡ old.session.desk.log.part.id
@@ -67,6 +75,8 @@ module _ {C : Type 0} (old mid new : ScriptedMeaning C) (p q : List (Pair Event)
       beside = b.same.beside ∙ a.same.beside;
       limit = b.same.limit ∙ a.same.limit;
       stop = b.same.stop ∙ a.same.stop;
+      wire = b.same.wire ∙ a.same.wire;
+      tries = b.same.tries ∙ a.same.tries;
       range_limit = b.same.range_limit ∙ a.same.range_limit;
     };
     own = both.own;
@@ -121,8 +131,13 @@ module _ {C : Type 0} (test : List (Pair Event) → Bool) (old mid : ScriptedMea
     taken : (held : Sent → Bool) → SaysHeldUp held new.session.desk → TakesOne next (ended held) number (jobs_of (entries_by number before)) (entries_by number before) more.part
     taken held says = subst (λ own. TakesOne next (ended held) number (jobs_of own) own more.part) (sym mine) (takes-as held says)
 
-    still : jobs_of (entries_by number before) ≡ [] → test (entries_by number before) ≡ true → ⊥
-    still none passed = not_yet.1 (ap jobs_of (sym mine) ∙ none) (ap test (sym mine) ∙ passed)
+    says-then : (held : Sent → Bool) → SaysHeldUp held new.session.desk → SaysHeldUp held mid.session.desk
+    says-then held says = says_before held mid.session.desk new.session.desk more.by.same.range_limit more.by.same.wire (same_actor mid new more.part gone.by.scripted more.by) more.by.known says
+
+    still : (held : Sent → Bool) → SaysHeldUp held mid.session.desk → jobs_of (entries_by number before) ≡ [] → test (entries_by number before) ≡ true → ⊥
+    still held says none passed =
+        let left = jobs_left mid.session says.delivers (gone.by.scripted.goes not_yet.0).rest in
+        not_yet.1 (none_waits mid.session.jobs (sym left ∙ (ap jobs_of (sym mine) ∙ none))) (ap test (sym mine) ∙ passed)
 
     -- one more turn
     pub gone_on : HasGoneSoFar test old new
@@ -131,17 +146,25 @@ module _ {C : Type 0} (test : List (Pair Event) → Bool) (old mid : ScriptedMea
       by = moved_both old mid new gone.part more.part gone.by more.by;
       on = λ held says rest goes.
           subst (λ part. GoesUntil old test (ended held) (own_list old) part) (sym (append_assoc gone.part more.part rest))
-          (gone.on held (says_before held mid.session.desk new.session.desk more.by.same.range_limit (same_actor mid new more.part gone.by.scripted more.by) more.by.known says) (more.part ++ rest)
-          (Onwards before more.part rest still (taken held says) (subst (λ b. GoesUntil old test (ended held) b rest) (sym (append_assoc (own_list old) gone.part more.part)) goes)));
+          (gone.on held (says-then held says) (more.part ++ rest)
+          (Onwards before more.part rest (still held (says-then held says)) (taken held says) (subst (λ b. GoesUntil old test (ended held) b rest) (sym (append_assoc (own_list old) gone.part more.part)) goes)));
     }
 
-  over-by : (held : Sent → Bool) → SaysHeldUp held mid.session.desk → SaysWhetherDone test mid true → GoesUntil old test (ended held) before []
-  over-by held says (inl stopped) =
+  ended-by : (held : Sent → Bool) → SaysHeldUp held mid.session.desk → mid.session.desk.log.stopped ≡ true → GoesUntil old test (ended held) before []
+  ended-by held says stopped =
       Ended before
       (subst (λ own. list_has_ended old.session.desk.log.limit old.session.desk.log.stop held own ≡ true) (sym mine)
       (subst (λ l. list_has_ended l old.session.desk.log.stop held (own_list mid) ≡ true) gone.by.same.limit
       (subst (λ o. list_has_ended mid.session.desk.log.limit o held (own_list mid) ≡ true) gone.by.same.stop (has_ended_now mid.session.desk held says (gone.by.scripted.ends stopped)))))
-  over-by held says (inr done) = Passed before (ap jobs_of mine ∙ done.0) (ap test mine ∙ done.1)
+
+  over-by : (held : Sent → Bool) → SaysHeldUp held mid.session.desk → SaysWhetherDone test mid true → GoesUntil old test (ended held) before []
+  over-by held says done = by mid.session.desk.log.stopped refl done
+    where
+      by : (b : Bool) → mid.session.desk.log.stopped ≡ b → SaysWhetherDone test mid true → GoesUntil old test (ended held) before []
+      by true stopped done = ended-by held says stopped
+      by false going (inl stopped) = absurd (let no : true ≡ false = sym stopped ∙ going in cc no)
+      by false going (inr done) =
+          Passed before (ap jobs_of mine ∙ (jobs_left mid.session says.delivers (gone.by.scripted.goes going).rest ∙ ap (map messages_of_job) done.0)) (ap test mine ∙ done.1)
 
   -- there is nothing more to do
   pub gone_all : SaysWhetherDone test mid true → HasMoved (GoesUntil old test) old mid
@@ -163,27 +186,32 @@ takes_call x e n [] own part none asks = asks
 takes_call x e n (job ∷ jobs) own part none asks = absurd cc
 
 module _ {C : Type 0} (old new : ScriptedMeaning C) where
-  pub alone_by_job : (jobs_of (own_list old) ≡ [] → ⊥) → HasMoved (FinishesInTurn old) old new → HasMoved (TakesNextAlone old) old new
-  alone_by_job some moved = record {
+  delivers-then : (part : List (Pair Event)) → HasMovedBy old new part → (held : Sent → Bool) → SaysHeldUp held new.session.desk → (n : ℕ) → verdict_of old.session.desk.log n ≡ verdicts.Deliver
+  delivers-then part by held says n = sym (ap (λ w. verdict_by w n) by.same.wire) ∙ says.delivers n
+
+  pub alone_by_job : IsScripted old → old.session.desk.log.stopped ≡ false → (old.session.jobs ≡ [] → ⊥) → HasMoved (FinishesInTurn old) old new → HasMoved (TakesNextAlone old) old new
+  alone_by_job scripted going some moved = record {
     part = moved.part;
     by = moved.by;
-    is = λ held says. takes_job (next_in_script old.at.reruns old.script) (ended_in_script old.session.desk.log.limit old.session.desk.log.stop held) (own_number old) (jobs_of (own_list old)) (own_list old) moved.part some (moved.is held says);
+    is = λ held says. takes_job (next_in_script old.at.reruns old.script) (ended_in_script old.session.desk.log.limit old.session.desk.log.stop held) (own_number old) (jobs_of (own_list old)) (own_list old) moved.part
+        (some_left old.session.jobs (jobs_of (own_list old)) (jobs_left old.session (delivers-then moved.part moved.by held says) (scripted.goes going).rest) some) (moved.is held says);
   }
 
-  pub alone_by_call : jobs_of (own_list old) ≡ [] → HasMoved (AsksInTurn old) old new → HasMoved (TakesNextAlone old) old new
-  alone_by_call none moved = record {
+  pub alone_by_call : IsScripted old → old.session.desk.log.stopped ≡ false → old.session.jobs ≡ [] → HasMoved (AsksInTurn old) old new → HasMoved (TakesNextAlone old) old new
+  alone_by_call scripted going none moved = record {
     part = moved.part;
     by = moved.by;
-    is = λ held says. takes_call (next_in_script old.at.reruns old.script) (ended_in_script old.session.desk.log.limit old.session.desk.log.stop held) (own_number old) (jobs_of (own_list old)) (own_list old) moved.part none (moved.is held says);
+    is = λ held says. takes_call (next_in_script old.at.reruns old.script) (ended_in_script old.session.desk.log.limit old.session.desk.log.stop held) (own_number old) (jobs_of (own_list old)) (own_list old) moved.part
+        (jobs_left old.session (delivers-then moved.part moved.by held says) (scripted.goes going).rest ∙ ap (map messages_of_job) none) (moved.is held says);
   }
 
 -- what is done, and what is not
-pub is_done : {C : Type 0} (test : List (Pair Event) → Bool) (s : ScriptedMeaning C) (job passed : Bool) → s.session.desk.log.stopped ≡ false → IsTrue (not job) ↔ (jobs_of (own_list s) ≡ []) → test (own_list s) ≡ passed → job ≡ false
+pub is_done : {C : Type 0} (test : List (Pair Event) → Bool) (s : ScriptedMeaning C) (job passed : Bool) → s.session.desk.log.stopped ≡ false → IsTrue (not job) ↔ (s.session.jobs ≡ []) → test (own_list s) ≡ passed → job ≡ false
     → SaysWhetherDone test s passed
 is_done test s job true going jobs says none = inr (jobs.0 (ap not none), says)
 is_done test s job false going jobs says none = (going, λ no is. absurd (false≢true (sym says ∙ is)))
 
-pub some_job : (job : Bool) (jobs : List (List Request)) → IsTrue (not job) ↔ (jobs ≡ []) → job ≡ true → jobs ≡ [] → ⊥
+pub some_job : {X : Type 0} (job : Bool) (jobs : List X) → IsTrue (not job) ↔ (jobs ≡ []) → job ≡ true → jobs ≡ [] → ⊥
 some_job job jobs tells some none = absurd (false≢true (sym (ap not some) ∙ tells.1 none))
 
 -- the script's place is what the own list says

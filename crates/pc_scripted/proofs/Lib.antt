@@ -1,4 +1,5 @@
 pub mod Passing
+pub mod Quiet
 pub mod Tests
 pub mod Turning
 pub mod Telling

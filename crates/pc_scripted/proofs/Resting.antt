@@ -13,12 +13,13 @@ use Rattle.pc_scripted.specs.Ended.{SaysHeldUp, ended_in_script, list_has_ended}
 use Rattle.pc_scripted.specs.Scripted.{IsScripted, ScriptedMeaning, next_in_script, own_number, own_list}
 use Rattle.pc_scripted.specs.Taking.{AsksInTurn, FinishesInTurn, HasMoved, HasMovedBy, IsSameScripted}
 use Rattle.pc_script.specs.Script.{next_call}
-use Rattle.pc_follows.specs.FinishingJobs.{jobs_of}
 use Rattle.pc_world.specs.Known.Traffic.{Sent}
+use Rattle.pc_coord.specs.Knows.{messages_of_job}
+use Rattle.pc_scripted.proofs.Quiet.{jobs_left}
 
 module _ {C : Type 0} (s : ScriptedMeaning C) (scripted : IsScripted s) where
   pub same_scripted : IsSameScripted s s
-  same_scripted = record { number = refl; script = refl; reruns = refl; head = refl; piped = refl; beside = refl; limit = refl; stop = refl; range_limit = refl }
+  same_scripted = record { number = refl; script = refl; reruns = refl; head = refl; piped = refl; beside = refl; limit = refl; stop = refl; wire = refl; tries = refl; range_limit = refl }
 
   -- nothing
   pub moved_by_none : HasMovedBy s s []
@@ -56,9 +57,10 @@ module _ {C : Type 0} (s : ScriptedMeaning C) (scripted : IsScripted s) where
     is = λ held says. asks_none (next_in_script s.at.reruns s.script) (ended_in_script s.session.desk.log.limit s.session.desk.log.stop held) (own_number s) (own_list s) (ap next_call (sym (scripted.goes going).place) ∙ none);
   }
 
-  pub idle_finishes : jobs_of (own_list s) ≡ [] → HasMoved (FinishesInTurn s) s s
-  idle_finishes none = record {
+  pub idle_finishes : s.session.desk.log.stopped ≡ false → s.session.jobs ≡ [] → HasMoved (FinishesInTurn s) s s
+  idle_finishes going none = record {
     part = [];
     by = moved_by_none;
-    is = λ held says. finishes_none (next_in_script s.at.reruns s.script) (ended_in_script s.session.desk.log.limit s.session.desk.log.stop held) (own_number s) (own_list s) none;
+    is = λ held says. finishes_none (next_in_script s.at.reruns s.script) (ended_in_script s.session.desk.log.limit s.session.desk.log.stop held) (own_number s) (own_list s)
+        (jobs_left s.session says.delivers (scripted.goes going).rest ∙ ap (map messages_of_job) none);
   }

@@ -67,7 +67,7 @@ was_told_by l session own part call answer whole told log whose grown =
 -- the script's call may be asked
 pub may_be_called : {C : Type 0} (s : SessionMeaning C) (at : Position) (call : Call) → IsAtRest s → FitsCalls s.coordinator.pipelining at s.coordinator.txn → next_call at ≡ Some call → MayBeCalled s call
 may_be_called s at call rest fits next =
-    let held = (rests false s.coordinator (session_knows s) rest.one.knows rest.closed).held in
+    let held = (rests true s.coordinator (session_knows s) rest.any.one.knows rest.any.closed).held in
     record {
       no_round = (first_of (coming at) call (fits_course s.coordinator.pipelining (coming at) s.coordinator.txn fits.now) next).round;
       outside = fits_outside s.coordinator.pipelining (coming at) s.coordinator.txn (session_knows s) call fits.now held next;
@@ -84,7 +84,7 @@ pub fits_told : {C : Type 0} (old new : SessionMeaning C) (at : Position) (call 
     → SuitsNext new.coordinator.pipelining answer call new.coordinator.txn → FitsCalls new.coordinator.pipelining (after_told answer at) new.coordinator.txn
 fits_told old new at call answer part whole told rest after whose grown fits next suits =
     let own = old.desk.log.part.own in
-    let w = was_told_by new.desk.log old.coordinator.session own part call answer whole told after.track.log whose grown in
+    let w = was_told_by new.desk.log old.coordinator.session own part call answer whole told after.any.track.log whose grown in
     let may = may_be_called old at call rest fits next in
     let opens : (session_knows new).is_open ≡ is_open_told answer w.k.is_open =
     ap (λ own. (known_of own).is_open) grown ∙ (open_told own part call whole.reading whole.between answer (whole.whole ∙ ap (λ a. events.Ask call whole.reading ∷ (whole.between ++ events.Tell a ∷ [])) told) whole.within ∙ ap (is_open_told answer) (sym w.open_then)) in
@@ -94,7 +94,7 @@ fits_told old new at call answer part whole told rest after whose grown fits nex
       next = next ∙ ap Some (sym w.asked);
       outside = λ out. w.open_then ∙ may.outside (sym (ap is_outside w.asked) ∙ out);
       suits = subst (λ c. SuitsNext new.coordinator.pipelining answer c new.coordinator.txn) (sym w.asked) suits;
-      closed = λ none. none_is new.coordinator.txn (after.holds ∙ (opens ∙ none));
+      closed = λ none. none_is new.coordinator.txn (after.any.holds ∙ (opens ∙ none));
     }) w.may
 
 pub opened_reruns : (items : List Item) (reruns : ℕ) → (opened items reruns).reruns ≡ reruns

@@ -1,15 +1,17 @@
 -- When a session's list has ended.
-use Rattle.std.proofs.Common.{◌≡◌, ℕ, ◌<◌, ◌≤◌, ◌⊎◌, inl, inr, Bool, true, false, ◌&&◌, ◌||◌, ◌==◌, not, is_some, All, Contains, IfSome, IsTrue, List, [], ◌∷◌, ◌++◌, length, length-append, Option, None, Some, refl, sym, ap, subst, ◌∙◌, arith}
-use Rattle.std.proofs.lemmas.List.Elements.{All-cons, All-head, All-nil, All-tail, All-weaker}
+use Rattle.std.proofs.Common.{◌≡◌, ℕ, ◌<◌, ◌≤◌, inl, inr, Bool, true, false, ◌&&◌, ◌||◌, ◌==◌, not, is_some, All, Contains, IfSome, List, [], ◌∷◌, ◌++◌, length, length-append, Option, None, Some, refl, sym, ap, subst, ◌∙◌, arith}
+use Rattle.std.proofs.lemmas.List.Elements.{All-head, All-tail, All-weaker}
 use Rattle.std.specs.List.{list_any}
 use Rattle.pc_desk.specs.Desk.{DeskMeaning}
 use Rattle.pc_desk.specs.Ending.{EndsEarly}
+use Rattle.pc_desk.specs.OwnLog.{verdict_of}
 use Rattle.pc_history.specs.declared.pair.Pair.{Pair}
 use Rattle.pc_follows.specs.WaveOrder.{IsHeardOrPut}
 use Rattle.pc_lists.proofs.Lists.{contains_cons, contains_nil}
 use Rattle.pc_proto.specs.declared.event.Event.{Event}
 use Rattle.pc_proto.specs.Requests.{is_put}
 use Rattle.pc_scripted.specs.Ended.{SaysHeldUp, holds_its_actor, list_has_ended, reaches_stop, waits_for_one_of}
+use Rattle.pc_wire.specs.Verdicts.{is_late}
 use Rattle.pc_world.specs.Known.{Known, known_of}
 use Rattle.pc_world.specs.Known.Traffic.{Sent}
 use Rattle.pc_world.specs.Tell.Refusal.{is_heard}
@@ -96,10 +98,11 @@ has_ended_now d held says (inl own) =
     ap (λ b. b || reaches_stop d.log.stop (length d.log.part.own) || waits_for_one_of held (known_of d.log.part.own)) (eqb_same (length d.log.part.own) d.log.limit own.long)
 has_ended_now d held says (inr (inl range)) =
     let k = known_of d.log.part.own in
+    let plain : is_late (verdict_of d.log range.message.number) ≡ false = ap is_late (says.delivers range.message.number) in
     let waits : waits_for_one_of held k ≡ true =
     any_there (λ m. held m && not (is_heard k.heard m) && holds_its_actor k m) k.sent range.message range.sent
-    (ap (λ b. b && not (is_heard k.heard range.message) && holds_its_actor k range.message) (says range.message range.spent.refused)
-    ∙ (ap (λ b. not b && holds_its_actor k range.message) range.spent.unheard ∙ in_call-or (is_some k.statement) (is_put range.message.request) range.in_call)) in
+    (ap (λ b. b && not (is_heard k.heard range.message) && holds_its_actor k range.message) (says.refused range.message range.spent.refused)
+    ∙ (ap (λ b. not b && holds_its_actor k range.message) (range.unheard plain) ∙ in_call-or (is_some k.statement) (is_put range.message.request) (range.in_call plain))) in
     ap (λ b. length d.log.part.own == d.log.limit || reaches_stop d.log.stop (length d.log.part.own) || b) waits
     ∙ or_true (length d.log.part.own == d.log.limit || reaches_stop d.log.stop (length d.log.part.own))
 has_ended_now d held says (inr (inr stop)) =

@@ -3,10 +3,12 @@
 use Rattle.std.specs.Prelude.{◌≡◌, ℕ, Bool, true, false, ◌&&◌, ◌||◌, ◌==◌, not, is_some, Option, None, Some, List, length}
 use Rattle.std.specs.List.{list_any}
 use Rattle.pc_desk.specs.Desk.{DeskMeaning}
+use Rattle.pc_desk.specs.OwnLog.{verdict_of}
 use Rattle.pc_desk.specs.Refused.{WasGivenBack}
 use Rattle.pc_history.specs.declared.pair.Pair.{Pair}
 use Rattle.pc_proto.specs.declared.event.Event.{Event}
 use Rattle.pc_proto.specs.Requests.{is_put}
+use Rattle.pc_wire.specs.declared.verdict.Verdict.TheVariants as verdicts
 use Rattle.pc_world.specs.Known.{Known, known_of}
 use Rattle.pc_world.specs.Known.Traffic.{Sent}
 use Rattle.pc_world.specs.Tell.Refusal.{is_heard}
@@ -33,6 +35,7 @@ list_has_ended limit stop held own = length own == limit || reaches_stop stop (l
 abbrev pub ended_in_script : ℕ → Option ℕ → (Sent → Bool) → ℕ → List (Pair Event) → Bool
 ended_in_script limit stop held number own = list_has_ended limit stop held own
 
--- Where the actor knows that its message was refused by a full range, this says that it is held up.
-abbrev pub SaysHeldUp : {C : Type 0} → (Sent → Bool) → DeskMeaning C → Type 0
-SaysHeldUp held d = (m : Sent) → WasGivenBack d.range_limit d.log.part m → held m ≡ true
+-- The actor's wire delivers each message; and where the actor knows that its message was refused by a full range, this says that it is held up.
+pub record SaysHeldUp {C : Type 0} (held : Sent → Bool) (d : DeskMeaning C) : Type 0 where
+  pub delivers : (number : ℕ) → verdict_of d.log number ≡ verdicts.Deliver
+  pub refused : (m : Sent) → WasGivenBack d.range_limit d.log.part m → held m ≡ true

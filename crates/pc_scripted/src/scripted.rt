@@ -162,7 +162,7 @@ impl<'a, N: Named<CommitWorld>, C: Clock + Drop, V: Wire + Drop, G: Gate> Script
     fn step<R: Wait>(&mut self, rt: &R) -> Result<(), NoMemory>
         requires scripted { IsScripted self.old }
         requires going { self.old.session.desk.log.stopped ≡ false }
-        requires some { jobs_of (own_list self.old) ≡ [] → ⊥ }
+        requires some { self.old.session.jobs ≡ [] → ⊥ }
         ensures ok { OnOk result (HasMoved (FinishesInTurn self.old) self.old self.new) }
         ensures rule { C.rule self.new.session.desk.log.clock ≡ C.rule self.old.session.desk.log.clock }
     {
@@ -175,9 +175,7 @@ impl<'a, N: Named<CommitWorld>, C: Clock + Drop, V: Wire + Drop, G: Gate> Script
 
     /// Whether a job waits.
     pub fn has_job(&self) -> bool
-        requires scripted { IsScripted self.now }
-        requires going { self.now.session.desk.log.stopped ≡ false }
-        ensures { IsTrue (not result) ↔ (jobs_of (own_list self.now) ≡ []) }
+        ensures { IsTrue (not result) ↔ (self.now.session.jobs ≡ []) }
     {
         self.session.has_job()
     }
