@@ -232,6 +232,7 @@ impl<'a, N: Named<CommitWorld>, C: Clock, V: Wire, G: Gate> Desk<'a, N, C, V, G>
     pub(crate) fn drop_noted(&mut self, msg: ReplyMsg<N>) -> Result<Note<CommitWorld, N>, Halt>
         ensures told { OnOk result (self.new ≡ record self.old { log = record self.old.log { part = told (without_uses 0 msg.note.known) self.old.log.part } }) }
         ensures log { OnOk result (IsOwnLog self.new.log) }
+        ensures copy { IfOk result (λ n. n.known ≡ with_uses 0 msg.note.known) }
         ensures clock { self.new.log.clock ≡ self.old.log.clock }
         ensures err { IfErr result (HasHalted self.old self.new) }
         ensures memory { IfErr result (λ halt. halt ≡ halts.NoMemory) }

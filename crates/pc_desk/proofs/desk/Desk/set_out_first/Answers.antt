@@ -15,10 +15,11 @@ pub set_out-requires : goal.set_out-requires
 set_out-requires g c =
     let first = c.in-Some.first in
     let m = first.1 in
+    let log = ap (λ d. d.log) c.in-Ok.ensures.ok ∙ ap (λ d. d.log) c.self.view_is in
     record {
       ready =
-          subst (λ d. IsReadyToGo d.log.part.id d.log.head.splits (verdict_of d.log) (waiting_as m.number m.sender first.0 (posted_of m))) (sym c.in-Ok.ensures.ok)
-          (first_ready _ _ _ _ _ _ _ _ refl c.self.invariant.0.same refl (desk_first _ _ _ _ _ _ c.in-Some.ensures.taken.whole c.self.invariant.0));
+          subst (λ l. IsReadyToGo l.part.id l.head.splits (verdict_of l) (waiting_as m.number m.sender first.0 (posted_of m))) (sym log)
+          (first_ready _ c.args.self.now _ m.number _ m.sender first.0 (posted_of m) c.self.view_is c.self.invariant.0.same refl (desk_first _ _ _ _ _ _ c.in-Some.ensures.taken.whole c.self.invariant.0));
     }
 
 pub returns-in-Ok-clause-some : goal.returns-in-Ok-clause-some
@@ -30,7 +31,7 @@ returns-in-Ok-clause-some g c =
 
 pub returns-in-Ok-clause-none : goal.returns-in-Ok-clause-none
 returns-in-Ok-clause-none g c =
-    set_out_none c.args.self.now _ c.note_lost.new.self c.set_out.new.self _ _
+    set_out_none c.args.self.now _ c.note_lost.new.self c.set_out.new.self c.in-Some.first.0 c.in-Some.first.1
     (taken_first _ c.args.self.now _ _ _ _ _ c.self.view_is refl c.in-Some.ensures.taken.whole c.self.invariant.0 c.in-Some.ensures.taken.rises)
     (first_ready _ c.args.self.now _ _ _ _ _ _ c.self.view_is c.self.invariant.0.same refl (desk_first _ _ _ _ _ _ c.in-Some.ensures.taken.whole c.self.invariant.0))
     c.in-Ok.ensures.ok c.set_out.result c.set_out.ensures.none c.set_out.ensures.bag
