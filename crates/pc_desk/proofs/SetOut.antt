@@ -118,3 +118,11 @@ first_ready {C} v old splits number key sender verdict m same at is ready =
       uses = ready.uses;
       below = ready.below;
     }))
+
+-- ---- which of the two it was
+
+pub out_some : {C N : Type 0} {G : Ghosts N CommitWorld} (old mid : DeskMeaning C) (o : Option (Errand N G)) (errand : Errand N G) → o ≡ Some errand → IfSome o (HasSetOutFirst old mid) → HasSetOutFirst old mid errand
+out_some {C} {N} {G} old mid o errand is out = subst (λ (x : Option (Errand N G)). IfSome x (HasSetOutFirst old mid)) is out
+
+pub out_none : {C N : Type 0} {G : Ghosts N CommitWorld} (old mid : DeskMeaning C) (o : Option (Errand N G)) → o ≡ None → IfNone o (HasPassedFirst old mid) → HasPassedFirst old mid
+out_none {C} {N} {G} old mid o is passed = subst (λ (x : Option (Errand N G)). IfNone x (HasPassedFirst old mid)) is passed

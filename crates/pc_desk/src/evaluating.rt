@@ -15,6 +15,7 @@ use crate::desk::Desk;
 use crate::errand::{Errand, Sequel, due_by};
 use crate::halt::Halt;
 use crate::late::Late;
+use crate::wave::use_of;
 use pc_base::{ActorId, NoMemory};
 use pc_clock::Clock;
 use pc_history::{Named, Note};
@@ -328,7 +329,7 @@ impl<'a, N: Named<CommitWorld>, C: Clock, V: Wire, G: Gate> Desk<'a, N, C, V, G>
         ensures { self.new ≡ record self.old { log = record self.old.log { part = told_copy sequel.copy self.old.log.part } } }
     {
         if let Some(Stray { message, .. }) = sequel.copy {
-            self.log.take(message.note);
+            self.log.take(use_of(message));
         }
     }
 }

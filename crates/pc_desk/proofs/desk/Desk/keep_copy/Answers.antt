@@ -6,17 +6,17 @@ use Rattle.pc_desk.proofs.desk.Desk.keep_copy.Goals as goal
 pub invariant_of-self : goal.invariant_of-self
 invariant_of-self g c =
     let i = c.self.inside in
-    let m = c.in-Some.message in (
+    let s = c.in-Some.field-0 in (
       c.self.invariant.0,
       c.self.invariant.1,
-      bag_either i.log m.number _ i.late.bag c.stray.new.self.bag c.stray.result (stray_put c.stray.result i.late c.stray.new.self _ c.stray.ensures.ok) (stray_same c.stray.result i.late c.stray.new.self c.stray.ensures.err) c.self.invariant.2
-          (copy_ready _ c.args.self.now c.args.copy (record { due = c.in-Some.due; message = m }) c.args.first.now.known _ c.self.view_is c.in-Some.is c.in_ok-again.ensures.copy.1 c.requires.copy),
+      bag_either i.log s.message.number _ i.late.bag c.stray.new.self.bag c.stray.result (stray_put c.stray.result i.late c.stray.new.self _ c.stray.ensures.ok) (stray_same c.stray.result i.late c.stray.new.self c.stray.ensures.err) c.self.invariant.2
+          (copy_ready _ c.args.self.now c.args.copy s c.args.first.now.known _ c.self.view_is c.in-Some.is c.in_ok-again.ensures.copy.1 c.requires.copy),
     )
 
 pub returns-in_ok-again-in-Some-clause-ok : goal.returns-in_ok-again-in-Some-clause-ok
 returns-in_ok-again-in-Some-clause-ok g c =
     let i = c.self.inside in
-    let m = c.in-Some.message in
+    let s = c.in-Some.field-0 in
     on_ok_weaker c.stray.result
-    (λ put. copy_held _ c.args.self.now c.args.copy (record { due = c.in-Some.due; message = m }) _ i.late.bag c.stray.new.self.bag c.self.view_is refl put refl c.in-Some.is)
+    (λ put. copy_held _ c.args.self.now c.args.copy s _ i.late.bag c.stray.new.self.bag c.self.view_is refl put refl c.in-Some.is)
     (stray_put c.stray.result i.late c.stray.new.self _ c.stray.ensures.ok)
