@@ -328,8 +328,8 @@ impl<'a, N: Named<CommitWorld>, C: Clock, V: Wire, G: Gate> Desk<'a, N, C, V, G>
     pub(crate) fn have_copy_back(&mut self, sequel: Sequel<N>)
         ensures { self.new ≡ record self.old { log = record self.old.log { part = told_copy sequel.copy self.old.log.part } } }
     {
-        if let Some(Stray { message, .. }) = sequel.copy {
-            self.log.take(use_of(message));
+        if let Some(stray) = sequel.copy {
+            self.log.take(use_of(stray.message));
         }
     }
 }

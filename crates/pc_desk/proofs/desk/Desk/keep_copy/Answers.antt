@@ -10,7 +10,7 @@ invariant_of-self g c =
       c.self.invariant.0,
       c.self.invariant.1,
       bag_either i.log s.message.number _ i.late.bag c.stray.new.self.bag c.stray.result (stray_put c.stray.result i.late c.stray.new.self _ c.stray.ensures.ok) (stray_same c.stray.result i.late c.stray.new.self c.stray.ensures.err) c.self.invariant.2
-          (copy_ready _ c.args.self.now c.args.copy s c.args.first.now.known _ c.self.view_is c.in-Some.is c.in_ok-again.ensures.copy.1 c.requires.copy),
+          (copy_ready _ c.args.self.now c.args.copy s c.args.first.now.known _ c.self.view_is c.in-Some.is c.in_ok-again-in-Some.ensures.copy.1 c.requires.copy),
     )
 
 pub returns-in_ok-again-in-Some-clause-ok : goal.returns-in_ok-again-in-Some-clause-ok
