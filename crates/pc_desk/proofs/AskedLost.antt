@@ -1,5 +1,5 @@
 -- A message that was lost is asked for, before the replies to later messages are heard.
-use Rattle.std.proofs.Common.{◌≡◌, ℕ, ◌+◌, ◌<◌, ◌≤◌, nat_lt, Bool, true, false, ◌==◌, All, Contains, List, [], ◌∷◌, ◌++◌, drop, get_or, length, IfNone, IfSome, Option, None, Some, refl, sym, ap, subst, ◌∙◌, arith, length-drop}
+use Rattle.std.proofs.Common.{◌≡◌, ℕ, ◌+◌, ◌<◌, ◌≤◌, nat_lt, Bool, true, false, ◌==◌, All, Contains, List, [], ◌∷◌, ◌++◌, get_or, IfNone, IfSome, Option, is_some, length, None, Some, refl, sym, ap, subst, ◌∙◌, arith}
 use Rattle.std.proofs.lemmas.Bool.{eqb-true}
 use Rattle.std.proofs.lemmas.Bool.Decides.{nat_tests}
 use Rattle.std.proofs.lemmas.List.{nil_from_length}
@@ -99,33 +99,32 @@ lost_behind d number lost first is = record {
 -- ---- the first of them is taken
 
 -- it is asked for
-pub first_taken : {C : Type 0} (v old : DeskMeaning C) (number : ℕ) (taken : Option ℕ) (lost : List ℕ) → v ≡ old → v.lost ≡ option_to_list taken ++ lost → number ≡ get_or v.lost 0 number → is_behind_first number old.replies ≡ false
+pub first_taken : {C : Type 0} (v old : DeskMeaning C) (number : ℕ) (taken : Option ℕ) (lost : List ℕ) → v ≡ old → v.lost ≡ option_to_list taken ++ lost → number ≡ get_or v.lost 0 number → is_behind_first number v.replies ≡ false
     → IfSome taken (HasTakenLost old (record v { lost = lost }))
 first_taken v old number None lost same items first after = tt
-first_taken {C} v old number (Some one) lost same items first after =
+first_taken v old number (Some one) lost same items first after =
     let is : number ≡ one = first ∙ ap (λ (xs : List ℕ). get_or xs 0 number) items in
-    let here : is_behind_first number v.replies ≡ false = subst (λ (d : DeskMeaning C). is_behind_first number d.replies ≡ false) (sym same) after in
-    taken_lost v old one lost same items (not_behind one v.replies (subst (λ (n : ℕ). is_behind_first n v.replies ≡ false) is here))
+    taken_lost v old one lost same items (not_behind one v.replies (subst (λ (n : ℕ). is_behind_first n v.replies ≡ false) is after))
 
 -- where there is one
-pub none_taken : (P : Type 0) (taken : Option ℕ) (before after : List ℕ) → before ≡ option_to_list taken ++ after → after ≡ drop 1 before → 0 < length before → IfNone taken P
-none_taken P None before after items rest some =
-    let e : length before ≡ length (drop 1 before) = ap length (items ∙ rest) in
-    absurd (omega (arith, e, length-drop 1 before, some))
-none_taken P (Some one) before after items rest some = tt
+pub none_taken : (P : Type 0) (taken : Option ℕ) (n : ℕ) → 0 < n → (0 < n → is_some taken ≡ true) → IfNone taken P
+none_taken P None n some is = absurd (let e : false ≡ true = is some in cc e)
+none_taken P (Some one) n some is = tt
+
+pub if_none : {X : Type 0} (o : Option X) (P : Type 0) → P → IfNone o P
+if_none None P p = p
+if_none (Some x) P p = tt
 
 -- a reply comes before it
-pub first_behind : {C : Type 0} (v old : DeskMeaning C) (number : ℕ) → v ≡ old → number ≡ get_or v.lost 0 number → 0 < length v.lost → is_behind_first number old.replies ≡ true → HasNoneLostFirst old
-first_behind {C} v old number same first some behind = subst HasNoneLostFirst same (by v.lost refl)
+pub first_behind : {C : Type 0} (v old : DeskMeaning C) (number : ℕ) → v ≡ old → number ≡ get_or v.lost 0 number → 0 < length v.lost → is_behind_first number v.replies ≡ true → HasNoneLostFirst old
+first_behind {C} v old number same first some behind = subst (λ (d : DeskMeaning C). HasNoneLostFirst d) same (by v.lost refl)
   where
     by : (lost : List ℕ) → v.lost ≡ lost → HasNoneLostFirst v
-    by [] are = absurd (let none : length v.lost ≡ 0 = ap length are in omega (arith, none, some))
+    by [] are = absurd (let none : length v.lost ≡ 0 = ap length are in omega arith)
     by (one ∷ lost) are =
         let is : number ≡ one = first ∙ ap (λ (xs : List ℕ). get_or xs 0 number) are in
-        let here : is_behind_first number v.replies ≡ true = subst (λ (d : DeskMeaning C). is_behind_first number d.replies ≡ true) (sym same) behind in
-        lost_behind v one lost are (subst (λ (n : ℕ). is_behind_first n v.replies ≡ true) is here)
+        lost_behind v one lost are (subst (λ (n : ℕ). is_behind_first n v.replies ≡ true) is behind)
 
 -- there is none
-pub none_first : {C : Type 0} (v old : DeskMeaning C) (asked : Option ℕ) → v ≡ old → length v.lost ≤ 0 → IfNone asked (HasNoneLostFirst old × ◌≡◌ {A = DeskMeaning C} old old)
-none_first v old None same none = (subst HasNoneLostFirst same (none_lost v (nil_from_length v.lost (omega (arith, none)))), refl)
-none_first v old (Some one) same none = tt
+pub none_first : {C : Type 0} (v old : DeskMeaning C) → v ≡ old → length v.lost ≡ 0 → HasNoneLostFirst old
+none_first {C} v old same none = subst (λ (d : DeskMeaning C). HasNoneLostFirst d) same (none_lost v (nil_from_length v.lost none))
