@@ -7,7 +7,10 @@ use Rattle.pc_exchange.specs.Finishing.{IsJobUnderWay}
 use Rattle.pc_exchange.proofs.finish.finish_job.Goals as goal
 
 pub loop-init : goal.loop-init
-loop-init g c = ((c.in_ok-begun.ensures.ok cc).on c.new-machine.result c.new-machine.ensures.made c.new-machine.ensures.knows, c.in_ok-begun.ensures.clock)
+loop-init g c = ((c.in_ok-begun.ensures.ok c.if-not-begun.false).on c.new-machine.result c.new-machine.ensures.made c.new-machine.ensures.knows, c.in_ok-begun.ensures.clock)
+
+pub returns-then-not-begun-clause-ok : goal.returns-then-not-begun-clause-ok
+returns-then-not-begun-clause-ok g c = c.in_ok-begun.ensures.over c.if-not-begun.true
 
 pub settle_on-requires : goal.settle_on-requires
 settle_on-requires g c =
