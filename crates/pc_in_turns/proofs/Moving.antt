@@ -103,7 +103,7 @@ module _ {C : Type 0} (rule : C → ℕ → ℕ → Bool) (task : Task) (index :
     where
       mine : SaysHeldUp (held (actors.Session (index + 1))) s.session.desk
       mine =
-          says_before (held (actors.Session (index + 1))) s.session.desk now.session.desk moved.by.same.range_limit (same_actor (told_of note s) now moved.part scripted moved.by) (λ k c. moved.by.known k (Contains-append_left s.session.desk.log.part.known note k c))
+          says_before (held (actors.Session (index + 1))) s.session.desk now.session.desk moved.by.same.range_limit moved.by.same.wire (same_actor (told_of note s) now moved.part scripted moved.by) (λ k c. moved.by.known k (Contains-append_left s.session.desk.log.part.known note k c))
           (says index now (get_set_same old.sessions index now within))
 
       by : (other ≡ index) ⊎ (other ≢ index) → SaysHeldUp (held (actors.Session (other + 1))) x.session.desk

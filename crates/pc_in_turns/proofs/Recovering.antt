@@ -129,7 +129,7 @@ module _ {C : Type 0} (rule : C → ℕ → ℕ → Bool) (index : ℕ) (old : T
     where
       mine : SaysHeldUp (held (actors.Recoverer (index + 1))) r.recoverer.desk
       mine =
-          says_before (held (actors.Recoverer (index + 1))) r.recoverer.desk now.recoverer.desk made.by.same.range_limit (made.by.counted.id ∙ (ap actors.Recoverer made.by.same.number ∙ sym counted.id)) (λ k c. made.by.known k (Contains-append_left r.recoverer.desk.log.part.known note k c))
+          says_before (held (actors.Recoverer (index + 1))) r.recoverer.desk now.recoverer.desk made.by.same.range_limit made.by.same.verdict (made.by.counted.id ∙ (ap actors.Recoverer made.by.same.number ∙ sym counted.id)) (λ k c. made.by.known k (Contains-append_left r.recoverer.desk.log.part.known note k c))
           (says index now (get_set_same old.recoverers index now within))
 
       by : (other ≡ index) ⊎ (other ≢ index) → SaysHeldUp (held (actors.Recoverer (other + 1))) x.recoverer.desk
