@@ -1,10 +1,12 @@
 -- A message that was lost is asked for, before the replies to later messages are heard.
-use Rattle.std.proofs.Common.{◌≡◌, ℕ, ◌+◌, ◌<◌, ◌≤◌, nat_lt, Bool, true, false, ◌==◌, All, Contains, List, [], ◌∷◌, Option, None, Some, refl, sym, ap, subst, ◌∙◌, arith}
+use Rattle.std.proofs.Common.{◌≡◌, ℕ, ◌+◌, ◌<◌, ◌≤◌, nat_lt, Bool, true, false, ◌==◌, All, Contains, List, [], ◌∷◌, ◌++◌, get_or, IfNone, IfSome, Option, is_some, length, zero, suc, None, Some, refl, sym, ap, subst, ◌∙◌, arith}
 use Rattle.std.proofs.lemmas.Bool.{eqb-true}
 use Rattle.std.proofs.lemmas.Bool.Decides.{nat_tests}
+use Rattle.std.proofs.lemmas.List.{nil_from_length}
 use Rattle.std.proofs.lemmas.List.Elements.{All-cons, All-head, All-nil, All-tail, All-weaker}
 use Rattle.std.proofs.lemmas.Map.Keys.{sorted_tail}
 use Rattle.std.specs.List.Sorted.{IsStrictlySortedBy}
+use Rattle.std.specs.Option.{option_to_list}
 use Rattle.std.specs.Ordering.{nat_cmp}
 use Rattle.pc_desk.proofs.Staying.{ComesBehind, HasMore, WasLost, answered_on, bag_on, every_repeated, every_unheard}
 use Rattle.pc_desk.specs.declared.answered.Answered.{Answered}
@@ -93,3 +95,41 @@ lost_behind d number lost first is = record {
   none = λ empty. absurd (let e : false ≡ true = subst (λ (rs : List Answered). is_behind_first number rs ≡ true) empty is in cc e);
   behind = λ n ns other. subst (λ (i : ℕ). BehindFirst i d.replies) (first-same number n lost ns (sym first ∙ other)) (behind_is number d.replies is);
 }
+
+-- ---- the first of them is taken
+
+-- it is asked for
+pub first_taken : {C : Type 0} (v old : DeskMeaning C) (number : ℕ) (taken : Option ℕ) (lost : List ℕ) → v ≡ old → v.lost ≡ option_to_list taken ++ lost → number ≡ get_or v.lost 0 number → is_behind_first number v.replies ≡ false
+    → IfSome taken (HasTakenLost old (record v { lost = lost }))
+first_taken v old number None lost same items first after = tt
+first_taken v old number (Some one) lost same items first after =
+    let is : number ≡ one = first ∙ ap (λ (xs : List ℕ). get_or xs 0 number) items in
+    taken_lost v old one lost same items (not_behind one v.replies (subst (λ (n : ℕ). is_behind_first n v.replies ≡ false) is after))
+
+-- where there is one
+pub none_taken : (P : Type 0) (taken : Option ℕ) (n : ℕ) → 0 < n → (0 < n → is_some taken ≡ true) → IfNone taken P
+none_taken P None n some is = absurd (let e : false ≡ true = is some in cc e)
+none_taken P (Some one) n some is = tt
+
+-- where there is none
+pub none_if : (n : ℕ) → (0 < n → false ≡ true) → n ≡ 0
+none_if zero no = refl
+none_if (suc n) no = absurd (let e : false ≡ true = no (omega arith) in cc e)
+
+pub if_none : {X : Type 0} (o : Option X) (P : Type 0) → P → IfNone o P
+if_none None P p = p
+if_none (Some x) P p = tt
+
+-- a reply comes before it
+pub first_behind : {C : Type 0} (v old : DeskMeaning C) (number : ℕ) → v ≡ old → number ≡ get_or v.lost 0 number → 0 < length v.lost → is_behind_first number v.replies ≡ true → HasNoneLostFirst old
+first_behind {C} v old number same first some behind = subst (λ (d : DeskMeaning C). HasNoneLostFirst d) same (by v.lost refl)
+  where
+    by : (lost : List ℕ) → v.lost ≡ lost → HasNoneLostFirst v
+    by [] are = absurd (let none : length v.lost ≡ 0 = ap length are in omega arith)
+    by (one ∷ lost) are =
+        let is : number ≡ one = first ∙ ap (λ (xs : List ℕ). get_or xs 0 number) are in
+        lost_behind v one lost are (subst (λ (n : ℕ). is_behind_first n v.replies ≡ true) is behind)
+
+-- there is none
+pub none_first : {C : Type 0} (v old : DeskMeaning C) → v ≡ old → length v.lost ≡ 0 → HasNoneLostFirst old
+none_first {C} v old same none = subst (λ (d : DeskMeaning C). HasNoneLostFirst d) same (none_lost v (nil_from_length v.lost none))

@@ -146,6 +146,11 @@ learnt_heard old new a note is_heard heard kept = subst (HasLearntReply old new 
 pub learnt_dropped : {C : Type 0} (old new : DeskMeaning C) (a : Answered) (note : List (KnownEntry Event)) (is_heard : Bool) → is_heard ≡ false → new ≡ record old { log = record old.log { part = told note old.log.part } } → IsOwnLog new.log → HasLearntReply old new a note is_heard
 learnt_dropped old new a note is_heard dropped is log = subst (HasLearntReply old new a note) (sym dropped) (record { rest = is; log = log })
 
+pub dropped_either : {C M E : Type 0} (old new : DeskMeaning C) (a : Answered) (note : List (KnownEntry Event)) (is_heard : Bool) (r : Result M E) → is_heard ≡ false → OnOk r (new ≡ record old { log = record old.log { part = told note old.log.part } }) → OnOk r (IsOwnLog new.log)
+    → OnOk r (HasLearntReply old new a note is_heard)
+dropped_either old new a note is_heard (Ok m) dropped is log = learnt_dropped old new a note is_heard dropped is log
+dropped_either old new a note is_heard (Err e) dropped is log = tt
+
 pub taken_reply : {C N : Type 0} {G : Ghosts N CommitWorld} (old mid new : DeskMeaning C) (a : Answered) (note : List (KnownEntry Event)) (sequel : Sequel N G) → HasLearntReply old mid a note sequel.is_heard → new ≡ record mid { bag = with_copy sequel.copy mid.bag } → HasTakenReply old new a note sequel
 taken_reply {C} old mid new a note sequel learnt put = record {
   rest = put ∙ ap (λ (x : DeskMeaning C). record x { bag = with_copy sequel.copy x.bag }) learnt.rest;

@@ -72,7 +72,7 @@ module _ {X : Type 0} (p : ℕ × X → Bool) where
           (subst (Contains (x ∷ xs)) same (contains_head x xs), subst (λ y. p y ≡ true) same is)
       by false is on = let later = on (sym (ap (λ b. cond b (Some x) (find p xs)) is) ∙ found) in (contains_tail x xs e later.0, later.1)
 
-  cut-first : (es : List (ℕ × X)) (e : ℕ × X) → IsStrictlySortedBy nat_cmp (keys_of es) → find p es ≡ Some e → IsCut es (remove_entry (is_at (nat_cmp e.0)) es) e
+  pub cut-first : (es : List (ℕ × X)) (e : ℕ × X) → IsStrictlySortedBy nat_cmp (keys_of es) → find p es ≡ Some e → IsCut es (remove_entry (is_at (nat_cmp e.0)) es) e
   cut-first [] e sorted found = absurd cc
   cut-first (x ∷ xs) e sorted found = by (p x) refl (cut-first xs e (sorted-tail x xs sorted))
     where

@@ -21,11 +21,11 @@ use Rattle.pc_wire.specs.declared.verdict.Verdict.TheVariants as verdicts
 use Rattle.pc_world.specs.Stamps.{AllBelowGreatest}
 
 -- of two uses one is left, and one is the copy's
-use-left : (note : List (KnownEntry Event)) → 2 ≤ uses_left note → 1 ≤ uses_left (without_uses 1 note)
+pub use-left : (note : List (KnownEntry Event)) → 2 ≤ uses_left note → 1 ≤ uses_left (without_uses 1 note)
 use-left [] two = omega (arith, two)
 use-left (k ∷ ks) two = omega (arith, two)
 
-use-given : (note : List (KnownEntry Event)) → 2 ≤ uses_left note → 1 ≤ uses_left (with_uses 1 note)
+pub use-given : (note : List (KnownEntry Event)) → 2 ≤ uses_left note → 1 ≤ uses_left (with_uses 1 note)
 use-given [] two = two-none two
   where
     two-none : 2 ≤ 0 → 1 ≤ 0

@@ -15,6 +15,7 @@ use Rattle.pc_proto.specs.declared.event.Event.{Event}
 use Rattle.pc_range.specs.declared.commit_world.CommitWorld.{CommitWorld}
 use Rattle.pc_range.specs.declared.message.Message.{Message}
 use Rattle.pc_wire.specs.declared.outbox.Stray.{Stray}
+use Rattle.pc_wire.specs.Outbox.{OutboxMeaning}
 
 -- What contracts see of a stray.
 abbrev pub seen_late : {N : Type 0} {G : Ghosts N CommitWorld} → Stray (Late N G) → Stray Posted
@@ -39,6 +40,15 @@ pub bag_either : {C N A E : Type 0} {G : Ghosts N CommitWorld} (l : LogMeaning C
     → IsReadyLate l.part.id l.head.splits (verdict_of l) (kept_late (number, s)) → IsBag l (map kept_late new)
 bag_either l number s es new (Ok u) put same bag one = bag_held l number s es new put bag one
 bag_either l number s es new (Err e) put same bag one = bag_same l es new same bag
+
+-- what a call says of the bag that it put something into, or left as it was
+pub stray_put : {Y A E : Type 0} (r : Result A E) (old new : OutboxMeaning Y) (bag : List (ℕ × Stray Y)) → OnOk r (new ≡ record old { bag = bag }) → OnOk r (new.bag ≡ bag)
+stray_put {Y} (Ok u) old new bag put = ap (λ (o : OutboxMeaning Y). o.bag) put
+stray_put (Err e) old new bag put = tt
+
+pub stray_same : {Y A E : Type 0} (r : Result A E) (old new : OutboxMeaning Y) → OnErr r (new ≡ old) → OnErr r (new.bag ≡ old.bag)
+stray_same (Ok u) old new same = tt
+stray_same {Y} (Err e) old new same = ap (λ (o : OutboxMeaning Y). o.bag) same
 
 -- so the desk has the message in its bag
 pub desk_held : {C N : Type 0} {G : Ghosts N CommitWorld} (v old : DeskMeaning C) (number due : ℕ) (late : Late N G) (es new : List (ℕ × Stray (Late N G))) → v ≡ old → v.bag ≡ map (λ (e : ℕ × Stray (Late N G)). (e.0, seen_late e.1)) es → new ≡ insert_entry nat_cmp es number (record { due = due; message = late })

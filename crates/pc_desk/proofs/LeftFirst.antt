@@ -46,7 +46,7 @@ module _ {X : Type 0} where
   above-head : (n : ℕ) (e : ℕ × X) (es : List (ℕ × X)) → n ≤ e.0 → IsStrictlySortedBy nat_cmp (keys_of (e ∷ es)) → NoneBelow n (e ∷ es)
   above-head n e es low sorted = All-cons (λ (x : ℕ × X). n ≤ x.0) e es low (All-weaker (λ (x : ℕ × X). e.0 < x.0) (λ (x : ℕ × X). n ≤ x.0) (λ x above. omega (arith, low, above)) es (sorted_head e es sorted))
 
-  behind-it : (n : ℕ) (es : List (ℕ × X)) → All (λ (e : ℕ × X). n < e.0) es → NoneBelow n es
+  pub behind-it : (n : ℕ) (es : List (ℕ × X)) → All (λ (e : ℕ × X). n < e.0) es → NoneBelow n es
   behind-it n es rises = All-weaker (λ (e : ℕ × X). n < e.0) (λ (e : ℕ × X). n ≤ e.0) (λ e low. omega (arith, low)) es rises
 
   -- it comes before these, or it does not, and then none comes before their first

@@ -1,11 +1,13 @@
 -- An actor that has a message of its own evaluated behind its last entry, and takes the note of that.
-use Rattle.std.proofs.Common.{◌≡◌, ℕ, ◌<◌, ◌≤◌, All, Contains, List, [], ◌∷◌, ◌++◌, Option, None, Some, IfSome, refl, sym, ap, subst, ◌∙◌, ◌+◌, zero, suc, arith}
+use Rattle.std.proofs.Common.{◌≡◌, ℕ, ◌<◌, ◌≤◌, All, Contains, List, [], ◌∷◌, ◌++◌, length, Option, None, Some, IfSome, refl, sym, ap, subst, ◌∙◌, ◌+◌, zero, suc, arith}
 use Rattle.std.proofs.lemmas.List.Elements.{All-head, Contains-append_left, Contains-push}
 use Rattle.pc_base.specs.declared.actor.ActorId.{ActorId}
 use Rattle.pc_desk.proofs.Leaving.{knows_at_on}
 use Rattle.pc_desk.specs.declared.left.Left.{Left}
-use Rattle.pc_desk.specs.Desk.{ComesAfterFirst, Posted, TellsFirst, first_told, times_first}
+use Rattle.pc_desk.specs.Desk.{ComesAfterFirst, Posted, TellsFirst, first_told, posting, times_first}
+use Rattle.pc_desk.specs.Errand.{IsAlike}
 use Rattle.pc_desk.specs.Left.{left_of}
+use Rattle.pc_desk.specs.Refused.{GivesBack}
 use Rattle.pc_desk.specs.Rest.{HasOnlyLearnt, IsOnceMore, IsReadyLeft, KnowsAt, KnowsTimes, MayBeServedFor, WasEvaluatedNow, times_known}
 use Rattle.pc_desk.specs.Wave.{posted_of}
 use Rattle.pc_history.specs.declared.named.Named.{Ghosts}
@@ -15,10 +17,14 @@ use Rattle.pc_history.specs.Meanings.{ActorMeaning, NoteMeaning}
 use Rattle.pc_history.specs.Parts.{known_entry, told, uses_left, with_uses, without_uses}
 use Rattle.pc_proto.specs.declared.event.Event.{Event}
 use Rattle.pc_proto.specs.declared.reply.Reply.{Reply}
+use Rattle.pc_proto.specs.Stamps.{request_stamps}
 use Rattle.pc_range.specs.declared.commit_world.CommitWorld.{CommitWorld}
 use Rattle.pc_range.specs.declared.message.Message.{Message}
-use Rattle.pc_range.specs.Message.{ComesAfter, IsEvalNote, evaluation}
+use Rattle.pc_range.specs.declared.message.ServeFault.{ServeFault}
+use Rattle.pc_range.specs.declared.message.ServeFault.TheVariants as faults
+use Rattle.pc_range.specs.Message.{ComesAfter, IsEvalNote, IsFullNote, evaluation}
 use Rattle.pc_world.specs.Local.{Head}
+use Rattle.pc_world.specs.Stamps.{AllBelowGreatest}
 
 -- who takes a note only learns
 pub learnt_note : (old new : ActorMeaning Head Event) (note : List (KnownEntry Event)) → new ≡ record old { part = told note old.part } → HasOnlyLearnt old new
@@ -121,3 +127,44 @@ module _ {N : Type 0} {G : Ghosts N CommitWorld} (left : Left N G) where
       let first : times_first (first_told left.first) ≡ 0 = ap (λ f. times_first (first_told f)) is in
       let all : times_first (first_told left.first) + left.times ≡ n = omega (arith, first, times) in
       subst (KnowsTimes part (posted_of left.message)) (sym all) knows
+
+-- ---- a message that says the same
+
+module _ {N : Type 0} {G : Ghosts N CommitWorld} (message other : Message N G) (alike : IsAlike message other) where
+  -- it may go too, if it has a use
+  pub alike_may : (id : ActorId) (splits : List (List ℕ)) → 1 ≤ uses_left other.note.known → MayBeServedFor id splits message → MayBeServedFor id splits other
+  alike_may id splits left may = record {
+    whose = alike.sender ∙ may.whose;
+    there = subst (λ r. r ≤ length splits) (sym alike.range) may.there;
+    use_left = left;
+    below = subst (λ r. AllBelowGreatest (request_stamps r)) (sym alike.request) may.below;
+  }
+
+  -- its evaluation is one of the message
+  pub alike_now : (part : Part Event) (after : Option (List (KnownEntry Event))) (note : List (KnownEntry Event)) → WasEvaluatedNow part (posted_of other) after note → WasEvaluatedNow part (posted_of message) after note
+  alike_now part after note now = record {
+    step = now.step;
+    knows = record {
+      reply = now.knows.reply;
+      place = now.knows.place;
+      knows = subst (λ n. Contains part.known (known_entry (evaluation now.step message.range part.id n now.knows.reply) now.knows.place 0)) alike.number
+          (subst (λ r. Contains part.known (known_entry (evaluation now.step r part.id other.number now.knows.reply) now.knows.place 0)) alike.range now.knows.knows);
+    };
+    behind = now.behind;
+    before = now.before;
+  }
+
+  same-posting : (uses : ℕ) → posting other.number other.range other.request uses ≡ posting message.number message.range message.request uses
+  same-posting uses = ap (λ n. posting n other.range other.request uses) alike.number ∙ (ap (λ r. posting message.number r other.request uses) alike.range ∙ ap (λ r. posting message.number message.range r uses) alike.request)
+
+  -- a fault that gives it back gives back what the message says
+  pub alike_back : (limit : ℕ) (id : ActorId) (fault : ServeFault N G) → GivesBack limit id (posted_of other) fault → GivesBack limit id (posted_of message) fault
+  alike_back limit id (faults.Full at last m) gives =
+      let uses = uses_left message.note.known in (
+        gives.0 ∙ alike.range,
+        subst (λ r. IsFullNote r limit last.known) alike.range gives.1,
+        gives.2,
+        ap (λ (p : Posted). posting p.number p.range p.request uses) gives.3 ∙ same-posting uses,
+        gives.4,
+      )
+  alike_back limit id faults.NoMemory gives = tt

@@ -40,3 +40,6 @@ pub mod Copies
 pub mod Finishing
 pub mod SetOut
 pub mod Holding
+pub mod LateEvaluated
+pub mod DueSteps
+pub mod StrayTaken

@@ -133,6 +133,20 @@ refused_at {C} {N} {G} v old new errand (faults.Full at last back) halt same ful
 refused_at {C} v old new errand faults.NoMemory halt same full ends =
     subst (IsRefusedErrand old new errand) (sym ends.0) (subst (λ (x : DeskMeaning C). HasHalted x new halts.NoMemory) same ends.1)
 
+-- the actor has a copy back
+pub copy_back : {C N : Type 0} {G : Ghosts N CommitWorld} (v old : DeskMeaning C) (log : LogMeaning C) (o : Option (Stray (Message N G))) (stray : Stray (Message N G)) (note : List (KnownEntry Event)) → v ≡ old → o ≡ Some stray → note ≡ stray.message.note.known → log ≡ record v.log { part = told note v.log.part }
+    → ◌≡◌ {A = DeskMeaning C} (record v { log = log }) (record old { log = record old.log { part = told_copy o old.log.part } })
+copy_back {C} {N} {G} v old log o stray note same there is took =
+    ap (λ (l : LogMeaning C). record v { log = l }) took
+    ∙ (ap (λ (ks : List (KnownEntry Event)). record v { log = record v.log { part = told ks v.log.part } }) is
+    ∙ (ap (λ (d : DeskMeaning C). record d { log = record d.log { part = told stray.message.note.known d.log.part } }) same
+    ∙ ap (λ (x : Option (Stray (Message N G))). record old { log = record old.log { part = told_copy x old.log.part } }) (sym there)))
+
+-- behind what a range gave back
+pub back_then : {C N : Type 0} {G : Ghosts N CommitWorld} (old mid new : DeskMeaning C) (o : Option (Stray (Message N G))) (note back : List (KnownEntry Event)) → new ≡ record mid { log = record mid.log { part = told_copy o mid.log.part } }
+    → mid ≡ record old { log = record old.log { part = told back (told note old.log.part); stopped = true } } → new ≡ record old { log = record old.log { part = told_copy o (told back (told note old.log.part)); stopped = true } }
+back_then {C} old mid new o note back copy gave = copy ∙ ap (λ (d : DeskMeaning C). record d { log = record d.log { part = told_copy o d.log.part } }) gave
+
 -- the list has stopped at a range that is full
 pub halted_back : {C N : Type 0} {G : Ghosts N CommitWorld} (old new : DeskMeaning C) (at : ℕ) (note back : List (KnownEntry Event)) (copy : Option (Stray (Message N G))) → IsFullNote at old.range_limit note
     → new ≡ record old { log = record old.log { part = told_copy copy (told back (told note old.log.part)); stopped = true } } → HasHalted old new (halts.Full (actors.Range at))

@@ -10,7 +10,7 @@ use Rattle.pc_desk.specs.declared.errand.Sequel.{Sequel}
 use Rattle.pc_desk.specs.Desk.{DeskMeaning, Posted}
 use Rattle.pc_desk.specs.Errand.{HasPassedFirst, HasSetOutFirst, IsErrandOf, MayBeKept, with_copy}
 use Rattle.pc_desk.specs.Evaluating.{HasTakenReply, kept_by, told_copy}
-use Rattle.pc_desk.specs.OwnLog.{IsOwnLog, LogMeaning, verdict_of}
+use Rattle.pc_desk.specs.OwnLog.{IsOwnLog, LogMeaning, Took, verdict_of}
 use Rattle.pc_desk.specs.TakenWave.{HasKeptAll, HasStoppedFor, HasTakenAllIn, HasTakenIn, HasTakenWave, KnowsOutcome, MayBeTakenIn, NoneYet, OnePassed, OneSetOut, SetsOut, answers_in, bag_with, copy_note}
 use Rattle.pc_desk.specs.Waiting.{IsBehindAll}
 use Rattle.pc_desk.specs.Wave.{AreRisingMessages, GoesOut, HasJoined, IsReply, MayGo, answered_by, posted_in, posted_of}
@@ -193,6 +193,10 @@ zip-next {X} {Y} R all beside left left_beside done done_beside zips part = drop
     drop-front (x ∷ xs) [] same zips = absurd cc
     drop-front (x ∷ xs) (y ∷ ys) same zips = drop-front xs ys (let e = same in omega (arith, e)) zips.1
 
+-- beside one that is left one is
+pub next_there : {X Y : Type 0} (R : X → Y → Type 0) (all : List X) (beside : List Y) (x : X) (left : List X) (left_beside : List Y) (done : List X) (done_beside : List Y) → AllZip R all beside → IsPart all beside (x ∷ left) left_beside done done_beside → left_beside ≡ [] → ⊥
+next_there R all beside x left left_beside done done_beside zips part none = subst (AllZip R (x ∷ left)) none (zip-next R all beside (x ∷ left) left_beside done done_beside zips part)
+
 none-left : {X : Type 0} (done left : List X) → left ≡ [] → done ++ left ≡ done
 none-left done left none = ap (λ l. done ++ l) none ∙ append-nil done
 
@@ -314,6 +318,10 @@ zip_long R (x ∷ xs) [] zips = absurd zips
 zip_long R (x ∷ xs) (y ∷ ys) zips = ap suc (zip_long R xs ys zips.1)
 
 -- ---- one outcome
+
+-- the actor took this note
+pub took_note : {C : Type 0} (v mid : DeskMeaning C) (after : LogMeaning C) (note : List (KnownEntry Event)) → v ≡ mid → Took note v.log after → ◌≡◌ {A = DeskMeaning C} (record v { log = after }) (record mid { log = record mid.log { part = told note mid.log.part } })
+took_note {C} v mid after note same took = ap (λ l. record v { log = l }) took.told_this ∙ ap (λ (d : DeskMeaning C). record d { log = record d.log { part = told note d.log.part } }) same
 
 module _ {C N : Type 0} {G : Ghosts N CommitWorld} where
   -- the actor took a note, and a copy went into the bag, if there was one

@@ -15,6 +15,7 @@ use crate::desk::Desk;
 use crate::errand::{Errand, Sequel, due_by};
 use crate::halt::Halt;
 use crate::late::Late;
+use crate::wave::use_of;
 use pc_base::{ActorId, NoMemory};
 use pc_clock::Clock;
 use pc_history::{Named, Note};
@@ -232,6 +233,7 @@ impl<'a, N: Named<CommitWorld>, C: Clock, V: Wire, G: Gate> Desk<'a, N, C, V, G>
     pub(crate) fn drop_noted(&mut self, msg: ReplyMsg<N>) -> Result<Note<CommitWorld, N>, Halt>
         ensures told { OnOk result (self.new ≡ record self.old { log = record self.old.log { part = told (without_uses 0 msg.note.known) self.old.log.part } }) }
         ensures log { OnOk result (IsOwnLog self.new.log) }
+        ensures copy { IfOk result (λ n. n.known ≡ with_uses 0 msg.note.known) }
         ensures clock { self.new.log.clock ≡ self.old.log.clock }
         ensures err { IfErr result (HasHalted self.old self.new) }
         ensures memory { IfErr result (λ halt. halt ≡ halts.NoMemory) }
@@ -326,8 +328,8 @@ impl<'a, N: Named<CommitWorld>, C: Clock, V: Wire, G: Gate> Desk<'a, N, C, V, G>
     pub(crate) fn have_copy_back(&mut self, sequel: Sequel<N>)
         ensures { self.new ≡ record self.old { log = record self.old.log { part = told_copy sequel.copy self.old.log.part } } }
     {
-        if let Some(Stray { message, .. }) = sequel.copy {
-            self.log.take(message.note);
+        if let Some(stray) = sequel.copy {
+            self.log.take(use_of(stray.message));
         }
     }
 }

@@ -23,3 +23,12 @@ none-taken (Some x) p none = absurd (none x refl)
 
 pub returns-clause-all : goal.returns-clause-all
 returns-clause-all g c = left_none c.args.ranges.now.splits c.args.rest c.loop-left.rest c.args.actor.now c.loop-left.actor (none-taken c.take_first.result c.take_first.ensures.none c.in_default.not-Some) c.loop-left.invariant
+
+pub returns-in_err-evaluate-clause-same : goal.returns-in_err-evaluate-clause-same
+returns-in_err-evaluate-clause-same g c = learnt_both c.args.actor.now c.loop-left.actor c.evaluate.new.actor c.loop-left.invariant.learnt c.evaluate.ensures.same
+
+pub returns-in_err-evaluate-clause-stopped : goal.returns-in_err-evaluate-clause-stopped
+returns-in_err-evaluate-clause-stopped g c =
+    let p = err_from_is_err_and c.from_residual.result c.from_residual.ensures.1 in
+    rw (p.1, p.2)
+    (stopped_at c.args.ranges.now.splits c.args.ranges.now.limit c.args.rest c.loop-left.rest c.take_first.new.self c.args.actor.now c.loop-left.actor c.evaluate.new.actor (left_of c.in-Some.left) c.in_err-evaluate.field-0.0 c.loop-left.invariant c.in-Some.ensures.first c.evaluate.ensures.same c.in_err-evaluate.ensures.err)
