@@ -1,5 +1,5 @@
 -- The bag's strays that are due are taken one after another.
-use Rattle.std.proofs.Common.{◌≡◌, ℕ, ◌<◌, ◌≤◌, find, List, [], ◌∷◌, ◌++◌, length, length-append, map, None, Option, Some, refl, sym, ap, subst, ◌∙◌, arith}
+use Rattle.std.proofs.Common.{◌≡◌, ℕ, ◌<◌, ◌≤◌, Bool, true, false, find, is_some, not, slice_get, List, [], ◌∷◌, ◌++◌, length, length-append, map, None, Option, Some, refl, sym, ap, subst, ◌∙◌, arith}
 use Rattle.std.proofs.lemmas.List.{length-map}
 use Rattle.std.specs.BTreeMap.{is_at}
 use Rattle.std.specs.List.Sorted.{IsStrictlySortedBy}
@@ -11,7 +11,7 @@ use Rattle.pc_desk.specs.declared.halt.Halt.{Halt}
 use Rattle.pc_desk.specs.declared.late.Late.{Late}
 use Rattle.pc_desk.specs.Desk.{DeskMeaning, IsBag, IsReadyLate, KeepsTrack}
 use Rattle.pc_desk.specs.Ending.{EndsOnly}
-use Rattle.pc_desk.specs.Late.{HasDeliveredDue, HasEvaluatedLate, IsRefusedLate}
+use Rattle.pc_desk.specs.Late.{HasDeliveredDue, HasEvaluatedLate, IsRefusedLate, not_due}
 use Rattle.pc_desk.specs.OwnLog.{LogMeaning, verdict_of}
 use Rattle.pc_desk.specs.Wave.{MayGo}
 use Rattle.pc_history.specs.declared.named.Named.{Ghosts}
@@ -73,3 +73,14 @@ module _ {C N : Type 0} {G : Ghosts N CommitWorld} (mid v : DeskMeaning C) (bag 
       let left-all : after ≡ bag = left ∙ ap (λ o. without_stray o bag) none in
       subst (HasDeliveredDue old) (sym same ∙ (ap (λ b. record v { bag = b }) was ∙ ap (λ b. record v { bag = map seen b }) (sym left-all)))
       (gone_all old mid bag gone (ap (λ (d : DeskMeaning C). d.bag) (sym same) ∙ was) (subst (λ n. find (is_due_by n) bag ≡ None) sends none))
+
+-- the bag has no first stray
+pub no_stray : {X : Type 0} (bag : List (ℕ × X)) (first : Option ℕ) (none : Bool) → first ≡ slice_get (map (λ e. e.0) bag) 0 → is_some first ≡ not none → none ≡ true → bag ≡ []
+no_stray [] first none at is so = refl
+no_stray (e ∷ bag) first none at is so = absurd (let bad : true ≡ false = sym (ap is_some at) ∙ (is ∙ ap not so) in cc)
+
+-- where the bag is empty nothing is due
+pub due_nothing : {C N : Type 0} {G : Ghosts N CommitWorld} (old v : DeskMeaning C) (bag : List (ℕ × Stray (Late N G))) → v ≡ old → v.bag ≡ map seen bag → bag ≡ [] → KeepsTrack old → HasDeliveredDue old old
+due_nothing {C} {N} {G} old v bag same was none track =
+    let empty : old.bag ≡ [] = ap (λ (d : DeskMeaning C). d.bag) (sym same) ∙ (was ∙ ap (λ (es : List (ℕ × Stray (Late N G))). map seen es) none) in
+    record { own = refl; rest = ap (λ b. record old { bag = b }) (empty ∙ sym (ap (not_due old.sends) empty)); more = λ k there. there; track = track }

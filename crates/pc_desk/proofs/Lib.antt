@@ -42,3 +42,4 @@ pub mod SetOut
 pub mod Holding
 pub mod LateEvaluated
 pub mod DueSteps
+pub mod StrayTaken

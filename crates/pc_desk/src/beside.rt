@@ -93,6 +93,7 @@ impl<'a, N: Named<CommitWorld>, C: Clock, V: Wire, G: Gate> Desk<'a, N, C, V, G>
     fn take_in(&mut self, outcome: Outcome<N>, sequel: Sequel<N>) -> Result<(), NoMemory>
         requires copy { MayBeTakenIn self.old.log outcome sequel }
         ensures ok { OnOk result (HasTakenIn self.old self.new outcome sequel) }
+        ensures refused { OnErr result (self.new ≡ self.old) }
         ensures clock { self.new.log.clock ≡ self.old.log.clock }
     {
         match outcome {

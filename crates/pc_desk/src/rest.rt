@@ -4,11 +4,14 @@ ghost use Rattle.pc_desk.specs.Left.{IsFirstOf, left_of};
 ghost use Rattle.pc_desk.specs.Refused.{GivesBack};
 ghost use Rattle.pc_desk.specs.Rest.{AreServedLeft, HasOnlyLearnt, IsReadyLeft, KnowsTimes, MayBeServedFor, StopsAt, WasEvaluatedNow, comes_before, left_as, stray_left_as, times_known};
 ghost use Rattle.pc_desk.specs.Wave.{posted_of};
-ghost use Rattle.pc_history.specs.Parts.{told, uses_left};
+ghost use Rattle.pc_desk.specs.Errand.{IsAlike, IsCopyOf};
+ghost use Rattle.pc_history.specs.Parts.{told, uses_left, with_uses, without_uses};
+ghost use Rattle.pc_range.specs.declared.message.ServeFault.TheVariants as faults;
 
 use crate::errand::copied;
 use crate::late::Late;
 use crate::left::Left;
+use pc_base::NoMemory;
 use pc_history::{Actor, Named, Note};
 use pc_range::{CommitWorld, Gate, Message, Ranges, ReplyMsg, ServeFault};
 use pc_wire::Outbox;
@@ -159,7 +162,7 @@ fn evaluate_once<N: Named<CommitWorld>, G: Gate, R: Wait>(
     ensures err { IfErr result (GivesBack ranges.now.limit actor.old.part.id (posted_of message)) }
 {
     let mut reply = ranges.serve(rt, message, after)?;
-    let note = reply.note.again(0)?;
+    let note = copy_of(&mut reply.note)?;
     learn(actor, reply);
     Ok(note)
 }
@@ -179,7 +182,7 @@ fn evaluate_again<N: Named<CommitWorld>, G: Gate, R: Wait>(
     ensures err { IfErr result (GivesBack ranges.now.limit actor.old.part.id (posted_of message)) }
 {
     let mut first = first;
-    let copy = first.again(0)?;
+    let copy = copy_of(&mut first)?;
     actor.take(first);
     evaluate_once(rt, message, Some(copy), actor, ranges)?;
     Ok(())
@@ -198,7 +201,7 @@ fn evaluate_twice<N: Named<CommitWorld>, G: Gate, R: Wait>(
     ensures all { OnOk result (KnowsTimes actor.new.part (posted_of message) 2) }
     ensures err { IfErr result (GivesBack ranges.now.limit actor.old.part.id (posted_of message)) }
 {
-    let (message, copy) = copied(message)?;
+    let (message, copy) = both_of(message)?;
     match evaluate_once(rt, copy, None, actor, ranges) {
         Ok(first) => {
             evaluate_once(rt, message, Some(first), actor, ranges)?;
@@ -208,6 +211,36 @@ fn evaluate_twice<N: Named<CommitWorld>, G: Gate, R: Wait>(
             actor.take(message.note);
             Err(fault)
         }
+    }
+}
+
+/// A copy of a note, without uses.
+fn copy_of<N: Named<CommitWorld>>(
+    note: &mut Note<CommitWorld, N>,
+) -> Result<Note<CommitWorld, N>, ServeFault<N>>
+    ensures copy { IfOk result (λ n. n.known ≡ with_uses 0 note.old.known) }
+    ensures rest { OnOk result (note.new.known ≡ without_uses 0 note.old.known) }
+    ensures err { IfErr result (λ fault. fault ≡ faults.NoMemory) }
+{
+    match note.again(0) {
+        Ok(copy) => Ok(copy),
+        Err(NoMemory) => Err(ServeFault::NoMemory),
+    }
+}
+
+/// The message, and a copy of it, which gets one of its uses.
+fn both_of<N: Named<CommitWorld>>(
+    message: Message<N>,
+) -> Result<(Message<N>, Message<N>), ServeFault<N>>
+    requires { 1 ≤ uses_left message.note.known }
+    ensures rest { IfOk result (λ both. IsAlike message both.0) }
+    ensures uses { IfOk result (λ both. both.0.note.known ≡ without_uses 1 message.note.known) }
+    ensures copy { IfOk result (λ both. IsCopyOf message both.1) }
+    ensures err { IfErr result (λ fault. fault ≡ faults.NoMemory) }
+{
+    match copied(message) {
+        Ok(both) => Ok(both),
+        Err(NoMemory) => Err(ServeFault::NoMemory),
     }
 }
 

@@ -1,7 +1,11 @@
-use Rattle.std.proofs.Common.{sym, ap, subst, ◌∙◌}
+use Rattle.std.proofs.Common.{◌≡◌, zero, suc, Option, None, Some, refl, sym, ap, subst, ◌∙◌}
 use Rattle.std.proofs.lemmas.Result.{on_ok_weaker}
 use Rattle.pc_desk.proofs.LeftServed.{again_known, again_may, again_tells, first_known, more_known, once_may, twice_left}
 use Rattle.pc_desk.proofs.rest.evaluate.Goals as goal
+
+none-there : {X : Type 0} (o : Option X) → ((x : X) → o ≡ Some x → ⊥) → o ≡ None
+none-there None none = refl
+none-there (Some x) none = absurd (none x refl)
 
 pub evaluate_again-requires-clause-may : goal.evaluate_again-requires-clause-may
 evaluate_again-requires-clause-may g c = again_may c.args.left c.args.actor.now.part.id c.args.ranges.now.splits c.requires.ready c.in-Some.first c.in-Some.is

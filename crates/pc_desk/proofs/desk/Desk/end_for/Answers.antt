@@ -12,3 +12,18 @@ loop-outcome-init g c =
           (subst (LearntSoFar s s outcomes outcomes sequels) (sym c.into_iter-sequels.ensures.rest) (learnt_none s outcomes sequels)),
       refl,
     )
+
+pub unreachable-requires : goal.unreachable-requires
+unreachable-requires g c = ?
+
+pub take_in-requires : goal.take_in-requires
+take_in-requires g c = ?
+
+pub loop-outcome-preserved : goal.loop-outcome-preserved
+loop-outcome-preserved g c = ?
+
+pub returns-in-Err-clause-ends : goal.returns-in-Err-clause-ends
+returns-in-Err-clause-ends g c = ?
+
+pub returns-clause-ends : goal.returns-clause-ends
+returns-clause-ends g c = ?

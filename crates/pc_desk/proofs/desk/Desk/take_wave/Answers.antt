@@ -1,4 +1,4 @@
-use Rattle.std.proofs.Common.{[], length, sym, ap, subst, ◌∙◌}
+use Rattle.std.proofs.Common.{◌≡◌, [], IfNone, None, Option, Some, refl, sym, subst, ◌∙◌}
 use Rattle.pc_desk.proofs.WaveSteps.{plain_rest, plain_still, taken_none, taken_one, taken_passed}
 use Rattle.pc_desk.specs.TakenWave.{HasTakenWave}
 use Rattle.pc_desk.specs.Waiting.{IsBehindAll}
@@ -13,3 +13,29 @@ loop-self-init g c =
       c.in_ok-last.ensures.plain,
       c.note_last.ensures.clock,
     )
+
+pub loop-self-preserved : goal.loop-self-preserved
+loop-self-preserved g c =
+    let s = c.args.self.now in
+    let last = c.loop-self.last.known in
+    let plain = c.loop-self.invariant.2 in
+    let out = rw c.in-Some.is at c.in_ok-errand.ensures.some in
+    let errand = c.in-Some.errand in (
+      subst (HasTakenWave {G = g.N.Named} s c.set_out_first.new.self c.join_wave.new.wave.items) (sym c.in-Ok.ensures.sequels)
+          (taken_one s c.loop-self.self c.set_out_first.new.self c.loop-self.wave.items c.join_wave.new.wave.items c.loop-self.sequels.items errand last c.loop-self.invariant.0 out c.loop-self.invariant.1 plain c.in-Ok.ensures.put),
+      subst (IsBehindAll s.log.part.own) (sym (c.in-Ok.ensures.note ∙ plain_rest last plain)) c.loop-self.invariant.1,
+      plain_still last c.join_wave.new.last.known plain c.in-Ok.ensures.note,
+      c.set_out_first.ensures.clock ∙ c.loop-self.invariant.3,
+    )
+
+none-taken : {X P : Type 0} (o : Option X) → IfNone o P → ((x : X) → o ≡ Some x → ⊥) → P
+none-taken None p none = p
+none-taken (Some x) p none = absurd (none x refl)
+
+pub loop-self-preserved-in_default : goal.loop-self-preserved-in_default
+loop-self-preserved-in_default g c = (
+  taken_passed c.args.self.now c.loop-self.self c.set_out_first.new.self c.loop-self.wave.items c.loop-self.sequels.items c.loop-self.invariant.0 (none-taken c.in_ok-errand.field-0 c.in_ok-errand.ensures.none c.in_default.not-Some),
+  c.loop-self.invariant.1,
+  c.loop-self.invariant.2,
+  c.set_out_first.ensures.clock ∙ c.loop-self.invariant.3,
+)

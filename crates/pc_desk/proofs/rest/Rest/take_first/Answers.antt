@@ -1,4 +1,4 @@
-use Rattle.std.proofs.Common.{◌≡◌, ℕ, ◌<◌, ◌&&◌, Bool, true, false, All, List, [], ◌∷◌, ◌++◌, map, Option, None, Some, IfNone, refl, sym, ap, subst, ◌∙◌}
+use Rattle.std.proofs.Common.{◌≡◌, ℕ, ◌≤◌, ◌&&◌, Bool, true, false, All, List, [], ◌∷◌, ◌++◌, map, Option, None, Some, IfNone, refl, sym, ap, subst, ◌∙◌}
 use Rattle.std.proofs.lemmas.List.Elements.{All-append}
 use Rattle.pc_desk.proofs.LeftFirst.{aside_bag, aside_waiting, behind-it, first_stray, first_waiting, none_aside, none_stray, stray_aside, stray_waiting, waiting_aside, waiting_bag}
 use Rattle.pc_desk.specs.Left.{left_of}
@@ -33,7 +33,7 @@ returns-then-comes_first-clause-first g c =
     let sorted-bag = c.first_stray-stray.ensures.in_order in
     let first = first-is c.comes_first.result true c.first_stray-stray.result c.first_from-waiting.result c.first_from-aside.result _ _ _ c.comes_first.ensures c.first_stray-stray.ensures.first c.first_from-waiting.ensures.first c.first_from-aside.ensures.first c.if-comes_first.true in
     first_stray _ _ _ (λ e. refl) (λ e. refl) (ws ++ aside) bag rest (taken.number, _) (left_of c.stray.result) c.self.view_is taken.whole (ap (λ l. record (left_of l) { key = taken.number }) (sym c.stray.ensures))
-    (All-append _ ws aside (stray_waiting ws aside bag sorted-ws sorted-aside sorted-bag taken.number _ rest taken.whole first) (stray_aside ws aside bag sorted-ws sorted-aside sorted-bag taken.number _ rest taken.whole first))
+    (All-append (λ e. taken.number ≤ e.0) ws aside (stray_waiting ws aside bag sorted-ws sorted-aside sorted-bag taken.number _ rest taken.whole first) (stray_aside ws aside bag sorted-ws sorted-aside sorted-bag taken.number _ rest taken.whole first))
     (behind-it taken.number rest taken.rises)
 
 pub returns-then-comes_before-clause-first : goal.returns-then-comes_before-clause-first
@@ -50,7 +50,7 @@ returns-then-comes_before-clause-first g c =
     let never = first-is c.comes_first.result false c.first_stray-stray.result c.first_from-waiting.result c.first_from-aside.result _ _ _ c.comes_first.ensures c.first_stray-stray.ensures.first c.first_from-waiting.ensures.first c.first_from-aside.ensures.first c.if-comes_first.false in
     let first = before-is c.comes_before.result true c.first_from-aside.result c.first_from-waiting.result _ _ c.comes_before.ensures c.first_from-aside.ensures.first c.first_from-waiting.ensures.first c.if-comes_before.true in
     first_waiting _ _ _ (λ e. refl) (λ e. refl) (ws ++ aside) ws rest bag (taken.number, _) (left_of c.waiting.result) c.self.view_is (ap (λ l. ws ++ l) taken.whole) (ap (λ l. record (left_of l) { key = taken.number }) (sym c.waiting.ensures))
-    (All-append _ ws rest (aside_waiting ws aside bag sorted-ws sorted-aside sorted-bag never taken.number _ rest taken.whole first) (behind-it taken.number rest taken.rises))
+    (All-append (λ e. taken.number ≤ e.0) ws rest (aside_waiting ws aside bag sorted-ws sorted-aside sorted-bag never taken.number _ rest taken.whole first) (behind-it taken.number rest taken.rises))
     (aside_bag ws aside bag sorted-ws sorted-aside sorted-bag never taken.number _ rest taken.whole first)
 
 pub returns-clause-first : goal.returns-clause-first
@@ -67,7 +67,7 @@ returns-clause-first g c =
     let never = first-is c.comes_first.result false c.first_stray-stray.result c.first_from-waiting.result c.first_from-aside.result _ _ _ c.comes_first.ensures c.first_stray-stray.ensures.first c.first_from-waiting.ensures.first c.first_from-aside.ensures.first c.if-comes_first.false in
     let first = before-is c.comes_before.result false c.first_from-aside.result c.first_from-waiting.result _ _ c.comes_before.ensures c.first_from-aside.ensures.first c.first_from-waiting.ensures.first c.if-comes_before.false in
     first_waiting _ _ _ (λ e. refl) (λ e. refl) (ws ++ aside) [] (rest ++ aside) bag (taken.number, _) (left_of c.waiting-2.result) c.self.view_is (ap (λ l. l ++ aside) taken.whole) (ap (λ l. record (left_of l) { key = taken.number }) (sym c.waiting-2.ensures))
-    (All-append _ rest aside (behind-it taken.number rest taken.rises) (waiting_aside ws aside bag sorted-ws sorted-aside sorted-bag never taken.number _ rest taken.whole first))
+    (All-append (λ e. taken.number ≤ e.0) rest aside (behind-it taken.number rest taken.rises) (waiting_aside ws aside bag sorted-ws sorted-aside sorted-bag never taken.number _ rest taken.whole first))
     (waiting_bag ws aside bag sorted-ws sorted-aside sorted-bag never taken.number _ rest taken.whole first)
 
 pub returns-in_err-verdict-2-clause-none : goal.returns-in_err-verdict-2-clause-none
