@@ -18,7 +18,7 @@ use Rattle.pc_implicit.proofs.Evals.{range_evaluates}
 use Rattle.pc_implicit.proofs.Fronts.{split_there}
 use Rattle.pc_implicit.proofs.Shown.{shown}
 use Rattle.pc_lists.proofs.Counts.{count-append, count-cons, one_if}
-use Rattle.pc_lists.proofs.Lists.{all_from_contains, contains_head, contains_map, contains_tail}
+use Rattle.pc_lists.proofs.Lists.{all_from_contains, contains_head, contains_map, contains_tail, get_contains}
 use Rattle.pc_proto.specs.declared.answer.Answer.{Answer}
 use Rattle.pc_proto.specs.declared.call.Call.{Call}
 use Rattle.pc_proto.specs.declared.event.Event.{Event}
@@ -54,7 +54,10 @@ use Rattle.pc_world.specs.Local.{Head, IsActorOf}
 use Rattle.pc_world.specs.Named.{is_send_of, request_in}
 use Rattle.pc_world.specs.Run.{IsRun, protocol}
 use Rattle.pc_world.specs.Tell.Refusal.{is_heard}
-use Rattle.pc_runs.specs.Wires.{verdicts_in}
+use Rattle.std.specs.Option.{option_map_or}
+use Rattle.pc_runs.specs.Wires.{DeliversAll, verdicts_in}
+use Rattle.pc_wire.specs.declared.verdict.Verdict.TheVariants as verdicts
+use Rattle.pc_work.specs.declared.recoverer.RecovererWork.{RecovererWork}
 use Rattle.pc_wire.specs.Verdicts.{is_losing}
 use Rattle.pc_work.specs.Wire.{wire_rule}
 use Rattle.pc_work.specs.declared.wire.WireWork.{WireWork}
@@ -137,6 +140,15 @@ module _ (work : Workload) (rules : ActorId → ℕ → ℕ → Bool) (head : He
   delivers : session.wire ≡ Quiet
   delivers = All-contains (λ (w : SessionWork). w.wire ≡ Quiet) work.sessions session of.quiet (subst (λ ws. Contains ws session) (sym sessions-are) (contains_head session []))
 
+  one-delivers : (n : ℕ) (sessions : List SessionWork) (found : Option SessionWork) → All (λ (w : SessionWork). w.wire ≡ Quiet) sessions → (index : ℕ) → slice_get sessions index ≡ found → option_map_or (λ w. wire_rule w.wire n) found verdicts.Deliver ≡ verdicts.Deliver
+  one-delivers n sessions None quiet index at = refl
+  one-delivers n sessions (Some w) quiet index at = ap (λ (wire : WireWork). wire_rule wire n) (All-contains (λ (x : SessionWork). x.wire ≡ Quiet) sessions w quiet (get_contains sessions index w at))
+
+  all-deliver : DeliversAll work
+  all-deliver (actors.Session number) n = one-delivers n work.sessions (slice_get work.sessions (number - 1)) of.quiet (number - 1) refl
+  all-deliver (actors.Recoverer number) n = ap (λ (rs : List RecovererWork). option_map_or (λ r. wire_rule r.wire n) (slice_get rs (number - 1)) verdicts.Deliver) of.unaided
+  all-deliver (actors.Range range) n = refl
+
   lossless : LosesNothing (wire_rule session.wire)
   lossless number = ap (λ (w : WireWork). is_losing (wire_rule w number)) delivers
 
@@ -204,7 +216,7 @@ module _ (work : Workload) (rules : ActorId → ℕ → ℕ → Bool) (head : He
 
   -- each call and answer of its list is at a good place
   good : AllGood [] list
-  good = stated work.turns of.no_turns (subst (GoAsStated work held work.turns 1) clients-own (subst (λ n. GoAsStated work held work.turns n (client_pairs head history)) of.one follows.order))
+  good = stated work.turns of.no_turns (subst (GoAsStated work held work.turns 1) clients-own (subst (λ n. GoAsStated work held work.turns n (client_pairs head history)) of.one (follows.order all-deliver)))
     where
       stated : (turns : Option (List Turn)) → (turns ≡ None) ⊎ (turns ≡ Some []) → GoAsStated work held turns 1 list → AllGood [] list
       stated None none goes = on-threads list tells-heard (next_in_work work) (ended_in_work work held) mine (is_work_opened work) goes

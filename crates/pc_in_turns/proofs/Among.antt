@@ -1,12 +1,11 @@
 -- What one session makes of its task, among the entries of all.
-use Rattle.std.proofs.Common.{◌≡◌, ℕ, ◌+◌, ◌-◌, Bool, true, false, not, is_some, List, Option, Some, slice_get, refl, sym, ap, subst, ◌∙◌, arith}
+use Rattle.std.proofs.Common.{◌≡◌, ℕ, ◌+◌, ◌-◌, Bool, not, is_some, List, Option, Some, slice_get, sym, ap, subst, ◌∙◌, arith}
 use Rattle.pc_history.specs.declared.pair.Pair.{Pair}
 use Rattle.pc_in_turns.specs.declared.task.Task.{Task}
 use Rattle.pc_in_turns.specs.declared.task.Task.TheVariants as tasks
 use Rattle.pc_in_turns.specs.Moving.{IsTask}
 use Rattle.pc_in_turns.specs.Task.{DoesTask}
 use Rattle.pc_in_turns.proofs.Places.{same_some}
-use Rattle.pc_proto.specs.declared.call.Call.{Call}
 use Rattle.pc_proto.specs.declared.event.Event.{Event}
 use Rattle.pc_runs.specs.Order.{ended_in_work, next_in_work, next_of_work, stop_of_work}
 use Rattle.pc_runs.specs.Runners.{IsRunnerIn}

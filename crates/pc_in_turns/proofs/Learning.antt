@@ -1,23 +1,21 @@
 -- The sessions of a workload learn in the order of their entries.
-use Rattle.std.proofs.Common.{◌≡◌, ◌≢◌, ℕ, zero, suc, ◌+◌, ◌-◌, ◌<◌, ◌≤◌, ◌⊎◌, inl, inr, Bool, true, false, cond, All, Any, Contains, List, [], ◌∷◌, ◌++◌, filter, length, map, slice_get, slice_set, Option, Some, None, refl, sym, ap, subst, ◌∙◌, arith}
+use Rattle.std.proofs.Common.{◌≡◌, ◌≢◌, ℕ, ◌+◌, ◌-◌, ◌<◌, ◌≤◌, ◌⊎◌, inl, inr, Bool, true, false, cond, All, List, [], ◌∷◌, ◌++◌, length, slice_get, slice_set, Option, Some, None, refl, sym, ap, subst, ◌∙◌, arith}
 use Rattle.std.proofs.lemmas.Bool.{cases_eq}
 use Rattle.std.proofs.lemmas.List.{append-nil, append_assoc, append_cancel_left}
 use Rattle.std.proofs.lemmas.List.Elements.{All-append, All-contains, All-from_recursion, All-weaker, Contains-push_cases, filter-append, recursion_from_All}
 use Rattle.std.specs.List.{AllByRecursion as Each}
-use Rattle.pc_base.specs.declared.actor.ActorId.{ActorId}
 use Rattle.pc_base.specs.declared.actor.ActorId.TheVariants as actors
 use Rattle.pc_base.specs.declared.entry.Entry.{Entry}
 use Rattle.pc_base.specs.declared.transaction.TxnId.{TxnId}
 use Rattle.pc_desk.specs.Commits.{WasTold}
 use Rattle.pc_desk.specs.Keeping.{EachAfter}
-use Rattle.pc_history.proofs.Ids.{same_id-differ, same_id-equal, same_id-true}
+use Rattle.pc_history.proofs.Ids.{same_id-differ, same_id-true}
 use Rattle.pc_history.specs.declared.pair.Pair.{Pair}
 use Rattle.pc_history.specs.Own.{entries_of, same_id}
 use Rattle.pc_in_turns.proofs.Places.{get_set_other, get_set_same, get_some, same_some}
 use Rattle.pc_in_turns.specs.Learning.{AreEntriesOf, IsNoOtherSession, OwnerWasUntold, LearnsBehind}
 use Rattle.pc_lists.proofs.Each.{each-append, each-unmap, each-weaker}
 use Rattle.pc_lists.proofs.Lists.{contains_filter, contains_in_filter, contains_in_map, contains_map, length_set}
-use Rattle.pc_proto.specs.declared.answer.Answer.{Answer}
 use Rattle.pc_proto.specs.declared.answer.Answer.TheVariants as answers
 use Rattle.pc_proto.specs.declared.call.Call.{Call}
 use Rattle.pc_proto.specs.declared.call.Call.TheVariants as calls
@@ -41,7 +39,7 @@ use Rattle.pc_world.proofs.Knowing.{known_push}
 use Rattle.pc_world.specs.Caused.{TellsCommitted}
 use Rattle.pc_follows.specs.FinishingJobs.{jobs_of}
 use Rattle.pc_world.specs.Known.{Known, call_in, call_of, known_of, learn}
-use Rattle.pc_world.specs.Known.Statements.{Statement, met_now_after, statement_after}
+use Rattle.pc_world.specs.Known.Statements.{met_now_after, statement_after}
 use Rattle.pc_world.specs.Known.Traffic.{Sent}
 
 -- The entry is one of the session of this number.

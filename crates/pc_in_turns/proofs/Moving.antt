@@ -1,12 +1,11 @@
 -- One session moves, behind the last entry that was made.
-use Rattle.std.proofs.Common.{◌≡◌, ◌≢◌, ℕ, zero, suc, ◌+◌, ◌<◌, ◌≤◌, ◌⊎◌, inl, inr, Bool, All, Contains, List, [], ◌∷◌, ◌++◌, length, map, slice_get, slice_set, Some, Option, refl, sym, ap, subst, ◌∙◌, arith, length-append}
+use Rattle.std.proofs.Common.{◌≡◌, ◌≢◌, ℕ, ◌+◌, ◌<◌, ◌≤◌, ◌⊎◌, inl, inr, Bool, All, List, [], ◌++◌, length, map, slice_get, slice_set, Some, refl, sym, ap, subst, ◌∙◌, arith, length-append}
 use Rattle.std.proofs.lemmas.Bool.{cases_eq}
 use Rattle.std.proofs.lemmas.List.{length-map, map-set}
 use Rattle.std.proofs.lemmas.List.Elements.{All-weaker, Contains-append_left}
 use Rattle.std.proofs.lemmas.Option.{slice_get_within}
 use Rattle.pc_base.specs.declared.actor.ActorId.{ActorId}
 use Rattle.pc_base.specs.declared.actor.ActorId.TheVariants as actors
-use Rattle.pc_base.specs.declared.entry.Entry.{Entry}
 use Rattle.pc_history.specs.declared.pair.Pair.{Pair}
 use Rattle.pc_history.specs.declared.view.Known.{Known as KnownEntry}
 use Rattle.pc_history.specs.Parts.{knowledge}
@@ -22,19 +21,17 @@ use Rattle.pc_in_turns.specs.Task.{DoesTask, EndsWithTask}
 use Rattle.pc_lists.proofs.Lists.{get_append, length_set}
 use Rattle.pc_proto.specs.declared.event.Event.{Event}
 use Rattle.pc_runs.specs.Learning.{LearnInOrder, LearnsNext}
-use Rattle.pc_rounds.specs.Counted.{CountedMeaning, entries_made}
+use Rattle.pc_rounds.specs.Counted.{entries_made}
 use Rattle.pc_runs.specs.Runners.{AreRunners, HaveClocks, IsRunnerIn, SaysAllHeldUp, head_in_work}
 use Rattle.pc_script.specs.Clocks.{clock_rule}
 use Rattle.pc_scripted.proofs.Going.{same_actor, says_before}
 use Rattle.pc_scripted.proofs.Passing.{each_join}
 use Rattle.pc_scripted.specs.Ended.{SaysHeldUp}
-use Rattle.pc_scripted.specs.Scripted.{IsScripted, ScriptedMeaning, own_list, own_number}
+use Rattle.pc_scripted.specs.Scripted.{IsScripted, ScriptedMeaning, own_list}
 use Rattle.pc_scripted.specs.Taking.{HasMoved}
 use Rattle.pc_turns.proofs.Shares.{session_at}
 use Rattle.pc_turns.specs.Clients.{share_of}
 use Rattle.pc_turns.specs.Shares.{AreShares, IsClientOf, client_at}
-use Rattle.pc_work.specs.declared.session.SessionWork.{SessionWork}
-use Rattle.pc_work.specs.declared.workload.Workload.{Workload}
 use Rattle.pc_world.specs.Local.{Head}
 use Rattle.pc_world.specs.Known.Traffic.{Sent}
 
@@ -103,7 +100,7 @@ module _ {C : Type 0} (rule : C → ℕ → ℕ → Bool) (task : Task) (index :
     where
       mine : SaysHeldUp (held (actors.Session (index + 1))) s.session.desk
       mine =
-          says_before (held (actors.Session (index + 1))) s.session.desk now.session.desk moved.by.same.range_limit (same_actor (told_of note s) now moved.part scripted moved.by) (λ k c. moved.by.known k (Contains-append_left s.session.desk.log.part.known note k c))
+          says_before (held (actors.Session (index + 1))) s.session.desk now.session.desk moved.by.same.range_limit moved.by.same.wire (same_actor (told_of note s) now moved.part scripted moved.by) (λ k c. moved.by.known k (Contains-append_left s.session.desk.log.part.known note k c))
           (says index now (get_set_same old.sessions index now within))
 
       by : (other ≡ index) ⊎ (other ≢ index) → SaysHeldUp (held (actors.Session (other + 1))) x.session.desk

@@ -1,5 +1,5 @@
 -- Clients that go on further.
-use Rattle.std.proofs.Common.{◌≡◌, ℕ, Bool, List, [], ◌++◌, refl, sym, subst, ◌∙◌}
+use Rattle.std.proofs.Common.{ℕ, Bool, List, [], ◌++◌, refl, sym, subst, ◌∙◌}
 use Rattle.std.proofs.lemmas.List.{append-nil, append_assoc}
 use Rattle.pc_base.specs.declared.actor.ActorId.{ActorId}
 use Rattle.pc_history.specs.declared.pair.Pair.{Pair}

@@ -1,5 +1,5 @@
 -- One recoverer makes its next round, behind the last entry that was made.
-use Rattle.std.proofs.Common.{◌≡◌, ◌≢◌, ℕ, ◌+◌, ◌-◌, ◌<◌, ◌≤◌, ◌⊎◌, inl, inr, Bool, false, All, Contains, List, [], ◌∷◌, ◌++◌, length, map, get_or, slice_get, slice_set, Option, Some, refl, sym, ap, subst, ◌∙◌, arith}
+use Rattle.std.proofs.Common.{◌≡◌, ◌≢◌, ℕ, ◌+◌, ◌-◌, ◌<◌, ◌≤◌, ◌⊎◌, inl, inr, Bool, false, All, List, [], ◌++◌, length, map, get_or, slice_get, slice_set, Option, Some, refl, sym, ap, subst, ◌∙◌, arith}
 use Rattle.std.proofs.lemmas.Bool.{cases_eq}
 use Rattle.std.proofs.lemmas.List.{append-nil, length-map, map-set}
 use Rattle.std.proofs.lemmas.List.Elements.{Contains-append_left}
@@ -25,15 +25,16 @@ use Rattle.pc_script.specs.Clocks.{clock_rule}
 use Rattle.pc_scripted.proofs.Going.{says_before}
 use Rattle.pc_scripted.proofs.Passing.{each_join}
 use Rattle.pc_scripted.specs.Ended.{SaysHeldUp, list_has_ended}
-use Rattle.pc_scripted.specs.Scripted.{ScriptedMeaning, own_list}
+use Rattle.pc_scripted.specs.Scripted.{own_list}
 use Rattle.pc_turns.proofs.Shares.{recoverer_at}
 use Rattle.pc_turns.specs.Clients.{share_of}
-use Rattle.pc_turns.specs.Order.{MakesRoundAfter, entries_by_recoverer}
+use Rattle.pc_turns.specs.Order.{MakesRoundAfter}
 use Rattle.pc_turns.specs.Shares.{AreShares, client_at}
 use Rattle.pc_work.specs.declared.recoverer.RecovererWork.{RecovererWork}
 use Rattle.pc_work.specs.declared.turn.Turn.TheVariants as turns
 use Rattle.pc_work.specs.declared.workload.Workload.{Workload}
 use Rattle.pc_world.specs.Known.Traffic.{Sent}
+use Rattle.pc_wire.specs.Verdicts.{verdict_by}
 
 -- it has made a round
 recoverer_moved : {C : Type 0} (work : Workload) (index : ℕ) (r now : CountedMeaning C) (part : List (Pair Event)) → IsRecovererIn work index r → HasGoneInRounds r now part → IsRecovererIn work index now
@@ -48,6 +49,8 @@ recoverer_moved work index r now part runner by =
       head = same.head ∙ runner.head;
       limit = same.limit ∙ runner.limit;
       stop = same.stop ∙ runner.stop;
+      wire = λ n. ap (λ w. verdict_by w n) same.verdict ∙ runner.wire n;
+      tries = same.tries ∙ runner.tries;
       range_limit = same.range_limit ∙ runner.range_limit;
     }
 
@@ -63,6 +66,8 @@ recoverer_taught work index r note runner counted = record {
   head = runner.head;
   limit = runner.limit;
   stop = runner.stop;
+  wire = runner.wire;
+  tries = runner.tries;
   range_limit = runner.range_limit;
 }
 
@@ -129,7 +134,7 @@ module _ {C : Type 0} (rule : C → ℕ → ℕ → Bool) (index : ℕ) (old : T
     where
       mine : SaysHeldUp (held (actors.Recoverer (index + 1))) r.recoverer.desk
       mine =
-          says_before (held (actors.Recoverer (index + 1))) r.recoverer.desk now.recoverer.desk made.by.same.range_limit (made.by.counted.id ∙ (ap actors.Recoverer made.by.same.number ∙ sym counted.id)) (λ k c. made.by.known k (Contains-append_left r.recoverer.desk.log.part.known note k c))
+          says_before (held (actors.Recoverer (index + 1))) r.recoverer.desk now.recoverer.desk made.by.same.range_limit made.by.same.verdict (made.by.counted.id ∙ (ap actors.Recoverer made.by.same.number ∙ sym counted.id)) (λ k c. made.by.known k (Contains-append_left r.recoverer.desk.log.part.known note k c))
           (says index now (get_set_same old.recoverers index now within))
 
       by : (other ≡ index) ⊎ (other ≢ index) → SaysHeldUp (held (actors.Recoverer (other + 1))) x.recoverer.desk

@@ -1,5 +1,5 @@
 -- The sessions of a workload, where one of them has moved or was told something.
-use Rattle.std.proofs.Common.{◌≡◌, ◌≢◌, ℕ, ◌+◌, ◌<◌, ◌⊎◌, inl, inr, List, length, slice_get, slice_set, Some, refl, sym, ap, subst, ◌∙◌}
+use Rattle.std.proofs.Common.{◌≡◌, ◌≢◌, ℕ, ◌+◌, ◌<◌, ◌⊎◌, inl, inr, List, length, slice_get, slice_set, Some, sym, ap, subst, ◌∙◌}
 use Rattle.std.proofs.lemmas.Bool.{cases_eq}
 use Rattle.std.proofs.lemmas.Option.{slice_get_within}
 use Rattle.pc_history.specs.declared.pair.Pair.{Pair}
@@ -12,6 +12,7 @@ use Rattle.pc_runs.specs.Runners.{AreRunners, IsRunnerIn}
 use Rattle.pc_scripted.specs.Scripted.{IsScripted, ScriptedMeaning}
 use Rattle.pc_scripted.specs.Taking.{HasMovedBy}
 use Rattle.pc_work.specs.declared.workload.Workload.{Workload}
+use Rattle.pc_wire.specs.Verdicts.{verdict_by}
 
 module _ {C : Type 0} (work : Workload) (index : ℕ) (s now : ScriptedMeaning C) (runner : IsRunnerIn work index s) where
   -- it has moved
@@ -29,6 +30,8 @@ module _ {C : Type 0} (work : Workload) (index : ℕ) (s now : ScriptedMeaning C
         beside = same.beside ∙ runner.beside;
         limit = same.limit ∙ runner.limit;
         stop = same.stop ∙ runner.stop;
+        wire = λ n. ap (λ w. verdict_by w n) same.wire ∙ runner.wire n;
+        tries = same.tries ∙ runner.tries;
         range_limit = same.range_limit ∙ runner.range_limit;
       }
 
@@ -46,6 +49,8 @@ runner_told work index s note runner scripted = record {
   beside = runner.beside;
   limit = runner.limit;
   stop = runner.stop;
+  wire = runner.wire;
+  tries = runner.tries;
   range_limit = runner.range_limit;
 }
 

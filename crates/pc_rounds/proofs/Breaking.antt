@@ -8,7 +8,7 @@ use Rattle.pc_base.specs.declared.actor.ActorId.TheVariants as actors
 use Rattle.pc_base.specs.declared.transaction.Priority.{Priority}
 use Rattle.pc_desk.specs.declared.halt.Halt.{Halt}
 use Rattle.pc_desk.specs.declared.halt.Halt.TheVariants as halts
-use Rattle.pc_desk.specs.OwnLog.{LogMeaning}
+use Rattle.pc_desk.specs.OwnLog.{LogMeaning, verdict_of}
 use Rattle.pc_exchange.proofs.Called.{all_heard_ever}
 use Rattle.pc_exchange.specs.Ending.{HasBrokenOff, IsEndedBy}
 use Rattle.pc_history.specs.declared.pair.Pair.{Pair}
@@ -26,6 +26,8 @@ use Rattle.pc_scripted.proofs.Tests.{has_ended_now, no_room, only_at_limit}
 use Rattle.pc_scripted.specs.Ended.{SaysHeldUp, list_has_ended}
 use Rattle.pc_turns.specs.Order.{MakesRoundAfter, MakesRoundIfLeft, UnlessEnded, rounds_asked}
 use Rattle.pc_world.specs.Known.Traffic.{Sent}
+use Rattle.pc_desk.specs.Keeping.{LosesNothing}
+use Rattle.pc_wire.specs.Verdicts.{is_losing}
 
 -- what ended the list, where memory was not wanted
 ended_off : (halt : Halt) (So : Type 0) → (halt ≡ halts.NoMemory → ⊥) → IsEndedBy halt So → So
@@ -126,12 +128,15 @@ module _ {C : Type 0} (old : CountedMeaning C) (new : RecovererMeaning C) (count
       (subst (λ n. list_has_ended n old.recoverer.desk.log.stop held new.desk.log.part.own ≡ true) limit-then
       (subst (λ stop. list_has_ended new.desk.log.limit stop held new.desk.log.part.own ≡ true) stop-then (has_ended_now new.desk held says broke.end)))
 
+  lossless : (held : Sent → Bool) → SaysHeldUp held new.desk → LosesNothing (verdict_of old.recoverer.desk.log)
+  lossless held says n = ap is_losing (sym (log-is (λ l. verdict_of l n ≡ verdict_of old.recoverer.desk.log n) refl) ∙ says.delivers n)
+
   makes-so : (held : Sent → Bool) → SaysHeldUp held new.desk → (b : Bool) → list_has_ended old.recoverer.desk.log.limit old.recoverer.desk.log.stop held (entries_made old) ≡ b
       → MakesRoundAfter (list_has_ended old.recoverer.desk.log.limit old.recoverer.desk.log.stop held) old.rounds old.recoverer.number (entries_made old) part
   makes-so held says true is =
       let ended = list_has_ended old.recoverer.desk.log.limit old.recoverer.desk.log.stop held in
       let none : part ≡ [] = no_room old.recoverer.desk.log.limit (entries_made old) part
-      (only_at_limit old.recoverer.desk.log.limit old.recoverer.desk.log.stop held (entries_made old) (goes.between.back.track.log.before_stop going) goes.between.closed (all_heard_ever old.recoverer.desk goes.between.back) is)
+      (only_at_limit old.recoverer.desk.log.limit old.recoverer.desk.log.stop held (entries_made old) (goes.between.back.track.log.before_stop going) goes.between.closed (all_heard_ever old.recoverer.desk goes.between.back (lossless held says)) is)
       (subst (λ own. length own ≤ old.recoverer.desk.log.limit) broke.own (subst (λ n. length new.desk.log.part.own ≤ n) limit-then broke.within)) in
       subst (λ b. UnlessEnded b part (MakesRoundIfLeft ended old.recoverer.number (nat_lt (rounds_asked (entries_made old)) old.rounds) (entries_made old) part)) (sym is) none
   makes-so held says false is =

@@ -2,7 +2,7 @@
 use Rattle.std.proofs.Common.{◌≡◌, ℕ, suc, ◌+◌, ◌<◌, ◌≤◌, inl, Bool, false, true, All, List, [], ◌∷◌, ◌++◌, length, nat_lt, refl, sym, ap, subst, ◌∙◌, arith}
 use Rattle.std.proofs.lemmas.List.Elements.{All-append}
 use Rattle.pc_base.specs.declared.actor.ActorId.TheVariants as actors
-use Rattle.pc_desk.specs.OwnLog.{LogMeaning}
+use Rattle.pc_desk.specs.OwnLog.{LogMeaning, verdict_of}
 use Rattle.pc_exchange.proofs.Called.{all_heard_ever}
 use Rattle.pc_history.specs.declared.pair.Pair.{Pair}
 use Rattle.pc_proto.specs.declared.event.Event.{Event}
@@ -15,6 +15,7 @@ use Rattle.pc_rounds.specs.Made.{AreWholeRounds}
 use Rattle.pc_scripted.proofs.Tests.{not_ended, some_room}
 use Rattle.pc_scripted.specs.Ended.{list_has_ended}
 use Rattle.pc_turns.specs.Order.{MakesRoundAfter, MakesRoundIfLeft, UnlessEnded, rounds_asked}
+use Rattle.pc_wire.specs.Verdicts.{is_losing}
 
 -- a part that is made of a round that was left
 pub made_left : (ended : List (Pair Event) → Bool) (rounds number : ℕ) (mine part : List (Pair Event)) → ended mine ≡ false → rounds_asked mine < rounds → MakesRoundIfLeft ended number true mine part → MakesRoundAfter ended rounds number mine part
@@ -104,7 +105,8 @@ module _ {C : Type 0} (old : CountedMeaning C) (new : RecovererMeaning C) (made 
     is = λ held says.
         let before = goes.counted in
         made_left (list_has_ended old.recoverer.desk.log.limit old.recoverer.desk.log.stop held) old.rounds old.recoverer.number (entries_made old) h.part
-        (not_ended old.recoverer.desk.log.limit old.recoverer.desk.log.stop held (entries_made old) (goes.between.back.track.log.before_stop going) goes.between.closed (all_heard_ever old.recoverer.desk goes.between.back) room) (omega arith)
+        (not_ended old.recoverer.desk.log.limit old.recoverer.desk.log.stop held (entries_made old) (goes.between.back.track.log.before_stop going) goes.between.closed (all_heard_ever old.recoverer.desk goes.between.back
+        (λ n. ap is_losing (sym (log-is (λ l. verdict_of l n ≡ verdict_of old.recoverer.desk.log n) refl) ∙ says.delivers n))) room) (omega arith)
         (inl (whole_events (sending_of old.recoverer.desk.log) old.recoverer.desk.log.head.splits old.recoverer.number old.recoverer.level h.part h.whole));
     onward = λ still more. (going, is);
   }

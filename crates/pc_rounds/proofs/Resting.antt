@@ -36,7 +36,7 @@ begins_counted r rounds id between none going = record {
 
 module _ {C : Type 0} (r : CountedMeaning C) (counted : GoesInRounds r) where
   pub same_counted : IsSameCounted r r
-  same_counted = record { number = refl; level = refl; rounds = refl; head = refl; limit = refl; stop = refl; range_limit = refl }
+  same_counted = record { number = refl; level = refl; rounds = refl; head = refl; limit = refl; stop = refl; verdict = refl; tries = refl; range_limit = refl }
 
   -- nothing
   pub gone_none : HasGoneInRounds r r []
@@ -89,7 +89,7 @@ followed_counted {C} old new note is between counted =
       whose = counted.whose;
       asks = counted.asks;
       within = counted.within;
-      given = record { each = counted.given.each; once = counted.given.once };
+      given = record { each = counted.given.each; within = counted.given.within };
       few = counted.few;
       goes = λ going. record { between = b.between going; counted = (counted.goes going).counted; are = (counted.goes going).are };
       ends = λ stopped. record { end = ends_still old.recoverer.desk note (counted.ends stopped).end; stops = (counted.ends stopped).stops };
@@ -116,6 +116,8 @@ module _ {C : Type 0} (old mid new : CountedMeaning C) (p q : List (Pair Event))
           head = b.same.head ∙ a.same.head;
           limit = b.same.limit ∙ a.same.limit;
           stop = b.same.stop ∙ a.same.stop;
+          verdict = b.same.verdict ∙ a.same.verdict;
+          tries = b.same.tries ∙ a.same.tries;
           range_limit = b.same.range_limit ∙ a.same.range_limit;
         };
         own = both.own;

@@ -27,19 +27,20 @@ use Rattle.pc_work.specs.Accepted.{IsAccepted}
 use Rattle.pc_work.specs.Named.{AreTurnsOf}
 use Rattle.pc_work.specs.declared.turn.Turn.{Turn}
 use Rattle.pc_work.specs.declared.workload.Workload.{Workload}
+use Rattle.pc_runs.specs.Wires.{DeliversAll, verdicts_in}
 
 module _ {C : Type 0} (rule : C → ℕ → ℕ → Bool) (rules : ActorId → ℕ → ℕ → Bool) (work : Workload) (accepted : IsAccepted work) (leavers : List Leaver) where
   module _ (Went : ClientsMeaning C → Type 0) (left : HaveLeft rule rules work Went leavers) where
     -- what may be closed
-    pub leavers_are : AreLeavers work.limit (head_in_work work) leavers
+    pub leavers_are : AreLeavers work.limit (head_in_work work) (verdicts_in work) leavers
     leavers_are = (clients_leave rule work rules left.clients leavers left.are left.finished left.clocks).0
 
     have_left : HaveAllLeft work rules left.clients leavers
     have_left = (clients_leave rule work rules left.clients leavers left.are left.finished left.clocks).1
 
     -- a history whose clients go and learn as they should
-    follows_so : (history : List (Entry Event)) → IsClosedOver work.limit (head_in_work work) leavers history
-        → GoAsStated work (holds_up work.limit (head_in_work work) history) work.turns (length work.sessions) (client_pairs (head_in_work work) history)
+    follows_so : (history : List (Entry Event)) → IsClosedOver work.limit (head_in_work work) (verdicts_in work) leavers history
+        → (DeliversAll work → GoAsStated work (holds_up work.limit (head_in_work work) history (verdicts_in work)) work.turns (length work.sessions) (client_pairs (head_in_work work) history))
         → LearnInOrder (client_pairs (head_in_work work) history) → IsWorkRun work rules history
     follows_so history closed goes learns = record {
       run = closed.run;
@@ -48,22 +49,22 @@ module _ {C : Type 0} (rule : C → ℕ → ℕ → Bool) (rules : ActorId → �
 
   -- the history of sessions that went in turns
   pub follows_turns : (stated : List Turn) → work.turns ≡ Some stated → HaveLeft rule rules work (HaveGoneInTurns work stated) leavers
-      → (history : List (Entry Event)) → IsClosedOver work.limit (head_in_work work) leavers history → IsWorkRun work rules history
+      → (history : List (Entry Event)) → IsClosedOver work.limit (head_in_work work) (verdicts_in work) leavers history → IsWorkRun work rules history
   follows_turns stated is left history closed =
       let went = left.went in
       let all = have_left (HaveGoneInTurns work stated) left in
       let says = say_held_up work rules left.clients leavers history left.are all closed in
       follows_so (HaveGoneInTurns work stated) left history closed
-      (turns_are_as_stated C work rules left.clients leavers history went.order stated all closed went.shares is (went.goes (holds_up work.limit (head_in_work work) history) says))
+      (λ delivers. turns_are_as_stated C work rules left.clients leavers history went.order stated all closed went.shares is (went.goes (holds_up work.limit (head_in_work work) history (verdicts_in work)) (says delivers)))
       (learns_are_kept C work rules left.clients leavers history went.order all closed went.shares went.learns)
 
   -- the history of sessions that went on threads
   pub follows_threads : work.turns ≡ None → HaveLeft rule rules work (HaveGoneOnThreads work) leavers
-      → (history : List (Entry Event)) → IsClosedOver work.limit (head_in_work work) leavers history → IsWorkRun work rules history
+      → (history : List (Entry Event)) → IsClosedOver work.limit (head_in_work work) (verdicts_in work) leavers history → IsWorkRun work rules history
   follows_threads none left history closed =
       let all = have_left (HaveGoneOnThreads work) left in
       follows_so (HaveGoneOnThreads work) left history closed
-      (threads_are_as_stated C work rules left.clients leavers history left.are all closed left.went none)
+      (λ delivers. threads_are_as_stated C work rules left.clients leavers history left.are all closed left.went none delivers)
       (transactions_learn_nothing C work rules left.clients leavers history left.are all closed (accepted.learns none))
 
 -- runners go by their scripts, and in their rounds

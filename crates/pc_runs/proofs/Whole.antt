@@ -29,7 +29,7 @@ use Rattle.pc_runs.specs.Order.{GoAsStated, GoInTurnsOf, ended_in_work, is_work_
 use Rattle.pc_runs.specs.Recoverers.{HasNoRoundLeft, HaveNoRoundLeft}
 use Rattle.pc_runs.specs.Rounds.{FollowsInRounds, sending_in}
 use Rattle.pc_runs.specs.Runners.{AreRunOut, head_in_work}
-use Rattle.pc_runs.specs.Wires.{verdicts_in}
+use Rattle.pc_runs.specs.Wires.{DeliversAll, DeliversEach, verdicts_in}
 use Rattle.pc_runs.specs.Together.{AreAtEnds, AreClients, ClientsMeaning, ClientsSayHeldUp, HaveAllLeft, client_lists}
 use Rattle.pc_script.specs.End.{IsScriptEnd}
 use Rattle.pc_script.specs.Script.{next_call, script_position}
@@ -71,18 +71,19 @@ same_sending : (one other : Sending) → ((n : ℕ) → one.verdict n ≡ other.
 same_sending one other ruled tries = λ i. record { verdict = λ n. ruled n i; tries = tries i }
 
 -- All rounds were made, or fewer, and the list has ended.
-abbrev HasMadeOrEnded : Sending → List (List ℕ) → ℕ → Priority → ℕ → ℕ → Option ℕ → (Sent → Bool) → List (Pair Event) → Type 0
-HasMadeOrEnded sending splits number level rounds limit stop held list = AreWholeRounds sending splits number level rounds list ⊎ (StopsBefore sending splits number level rounds list × (list_has_ended limit stop held list ≡ true))
+abbrev HasMadeOrEnded : Type 0 → Sending → List (List ℕ) → ℕ → Priority → ℕ → ℕ → Option ℕ → (Sent → Bool) → List (Pair Event) → Type 0
+HasMadeOrEnded Quiet sending splits number level rounds limit stop held list =
+    AreWholeRounds sending splits number level rounds list ⊎ (StopsBefore sending splits number level rounds list × (Quiet → list_has_ended limit stop held list ≡ true))
 
 -- a recoverer whose list has ended, or whose rounds are made
-rounds_so : {C : Type 0} (r : CountedMeaning C) (held : Sent → Bool) → GoesInRounds r → HasNoRoundLeft r → SaysHeldUp held r.recoverer.desk
-    → HasMadeOrEnded (sending_of r.recoverer.desk.log) r.recoverer.desk.log.head.splits r.recoverer.number r.recoverer.level r.rounds r.recoverer.desk.log.limit r.recoverer.desk.log.stop held (entries_made r)
-rounds_so r held counted out says = by r.recoverer.desk.log.stopped refl
+rounds_so : {C : Type 0} (Quiet : Type 0) (r : CountedMeaning C) (held : Sent → Bool) → GoesInRounds r → HasNoRoundLeft r → (Quiet → SaysHeldUp held r.recoverer.desk)
+    → HasMadeOrEnded Quiet (sending_of r.recoverer.desk.log) r.recoverer.desk.log.head.splits r.recoverer.number r.recoverer.level r.rounds r.recoverer.desk.log.limit r.recoverer.desk.log.stop held (entries_made r)
+rounds_so Quiet r held counted out says = by r.recoverer.desk.log.stopped refl
   where
-    by : (b : Bool) → r.recoverer.desk.log.stopped ≡ b → HasMadeOrEnded (sending_of r.recoverer.desk.log) r.recoverer.desk.log.head.splits r.recoverer.number r.recoverer.level r.rounds r.recoverer.desk.log.limit r.recoverer.desk.log.stop held (entries_made r)
+    by : (b : Bool) → r.recoverer.desk.log.stopped ≡ b → HasMadeOrEnded Quiet (sending_of r.recoverer.desk.log) r.recoverer.desk.log.head.splits r.recoverer.number r.recoverer.level r.rounds r.recoverer.desk.log.limit r.recoverer.desk.log.stop held (entries_made r)
     by true stopped = elim ((counted.ends stopped).stops) [
       | inl all ↦ inl all
-      | inr stops ↦ inr (stops, has_ended_now r.recoverer.desk held says (counted.ends stopped).end)
+      | inr stops ↦ inr (stops, λ quiet. has_ended_now r.recoverer.desk held (says quiet) (counted.ends stopped).end)
     ]
     by false going =
         let few = counted.few in
@@ -107,22 +108,38 @@ module _ {C : Type 0} (work : Workload) (rules : ActorId → ℕ → ℕ → Boo
   leaver-behind index r at = there leavers (length c.sessions + index) (let n : index < length c.recoverers = slice_get_within c.recoverers index r at in let m = left.many in omega arith)
 
   -- what each knows to be refused is held up
-  pub say_held_up : ClientsSayHeldUp held c
-  say_held_up = record {
-    sessions = λ index s at m refused.
+  say-session : (index : ℕ) (s : ScriptedMeaning C) → slice_get c.sessions index ≡ Some s → DeliversEach (verdict_of s.session.desk.log) → SaysHeldUp (held (actors.Session (index + 1))) s.session.desk
+  say-session index s at delivers = record {
+    delivers = delivers;
+    refused = λ m refused.
         let l = leaver-of index s at in
         let r = clients.runners.each index s at in
         let gone = left.sessions index s l.0 at l.1 in
         let within : index < length work.sessions = (let n : index < length c.sessions = slice_get_within c.sessions index s at in let many = clients.runners.many in omega arith) in
         subst (λ (i : ActorId). held i m ≡ true) (session_at head index within)
         ((closed.each index l.0 l.1).held m (subst (λ n. WasGivenBack n l.0.0.part m) r.range_limit (subst (λ (p : Part Event). WasGivenBack s.session.desk.range_limit p m) (sym gone.part) refused)));
-    recoverers = λ index x at m refused.
+  }
+
+  say-rounds : (index : ℕ) (x : CountedMeaning C) → slice_get c.recoverers index ≡ Some x → DeliversEach (verdict_of x.recoverer.desk.log) → SaysHeldUp (held (actors.Recoverer (index + 1))) x.recoverer.desk
+  say-rounds index x at delivers = record {
+    delivers = delivers;
+    refused = λ m refused.
         let l = leaver-behind index x at in
         let r = clients.recoverers.each index x at in
         let gone = left.recoverers index x l.0 at l.1 in
         let place : client_at head (length c.sessions + index) ≡ actors.Recoverer (index + 1) = ap (λ n. client_at head (n + index)) clients.runners.many ∙ recoverer_at head index in
         subst (λ (i : ActorId). held i m ≡ true) place
         ((closed.each (length c.sessions + index) l.0 l.1).held m (subst (λ n. WasGivenBack n l.0.0.part m) r.range_limit (subst (λ (p : Part Event). WasGivenBack x.recoverer.desk.range_limit p m) (sym gone.part) refused)));
+  }
+
+  pub say_held_up : DeliversAll work → ClientsSayHeldUp held c
+  say_held_up all = record {
+    sessions = λ index s at.
+        let r = clients.runners.each index s at in
+        say-session index s at (λ n. r.wire n ∙ (sym (ap (λ (v : ℕ → Verdict). v n) (session_verdicts work index r.session r.listed)) ∙ all (actors.Session (index + 1)) n));
+    recoverers = λ index x at.
+        let r = clients.recoverers.each index x at in
+        say-rounds index x at (λ n. r.wire n ∙ (sym (ap (λ (v : ℕ → Verdict). v n) (recoverer_verdicts work index r.recoverer r.listed)) ∙ all (actors.Recoverer (index + 1)) n));
   }
 
   pub follows_each : AreRunOut c.sessions → (index : ℕ) (session : SessionWork) → slice_get work.sessions index ≡ Some session
@@ -148,11 +165,11 @@ module _ {C : Type 0} (work : Workload) (rules : ActorId → ℕ → ℕ → Boo
             (subst (λ (p : Part Event). AreServed (verdicts_in work (actors.Session (index + 1))) (held (actors.Session (index + 1))) (actors.Session (index + 1)) history (known_of p.own)) gone.part kept.served);
         within = gone.within;
         no_later = subst (λ (o : Option ℕ). IfSome o (λ stop. length (own_list s.0) ≤ stop)) stop gone.no_later;
-        end = subst (λ n. IsScriptEnd (script_position n session.script (own_list s.0)) (own_list s.0) ⊎ (list_has_ended work.limit session.stop (held (actors.Session (index + 1))) (own_list s.0) ≡ true)) (sym r.reruns)
+        end = λ delivers. subst (λ n. IsScriptEnd (script_position n session.script (own_list s.0)) (own_list s.0) ⊎ (list_has_ended work.limit session.stop (held (actors.Session (index + 1))) (own_list s.0) ≡ true)) (sym r.reruns)
             (subst (λ (sc : List Item). IsScriptEnd (script_position s.0.at.reruns sc (own_list s.0)) (own_list s.0) ⊎ (list_has_ended work.limit session.stop (held (actors.Session (index + 1))) (own_list s.0) ≡ true)) (sym script)
             (subst (λ n. IsScriptEnd (script_position s.0.at.reruns s.0.script (own_list s.0)) (own_list s.0) ⊎ (list_has_ended n session.stop (held (actors.Session (index + 1))) (own_list s.0) ≡ true)) r.limit
             (subst (λ (o : Option ℕ). IsScriptEnd (script_position s.0.at.reruns s.0.script (own_list s.0)) (own_list s.0) ⊎ (list_has_ended s.0.session.desk.log.limit o (held (actors.Session (index + 1))) (own_list s.0) ≡ true)) stop
-            (ends_so s.0 (held (actors.Session (index + 1))) r.scripted (out index s.0 s.1) (say_held_up.sessions index s.0 s.1)))));
+            (ends_so s.0 (held (actors.Session (index + 1))) r.scripted (out index s.0 s.1) (say-session index s.0 s.1 (λ n. ruled n ∙ delivers n))))));
       })
     where
       same_some : (x y : SessionWork) → Some x ≡ Some y → x ≡ y
@@ -174,13 +191,14 @@ module _ {C : Type 0} (work : Workload) (rules : ActorId → ℕ → ℕ → Boo
       let same : recoverer ≡ r.recoverer = same_some recoverer r.recoverer (sym listed ∙ r.listed) in
       let D = x.0.recoverer in
       let stop : D.desk.log.stop ≡ recoverer.stop = r.stop ∙ ap (λ (w : RecovererWork). w.stop) (sym same) in
+      let Q : Type 0 = DeliversEach (wire_rule recoverer.wire) in
       let S : Sending = sending_of D.desk.log in
       let ruled : (n : ℕ) → verdict_of D.desk.log n ≡ wire_rule recoverer.wire n = λ n. r.wire n ∙ ap (λ (w : RecovererWork). wire_rule w.wire n) (sym same) in
       let sends : S ≡ sending_in work recoverer = same_sending S (sending_in work recoverer) ruled r.tries in
-      let R : ℕ → Option ℕ → ℕ → Priority → List (List ℕ) → Type 0 = λ limit stop number level splits. HasMadeOrEnded S splits number level recoverer.rounds limit stop (held (actors.Recoverer (index + 1))) (entries_made x.0) in
-      let made : HasMadeOrEnded S D.desk.log.head.splits D.number D.level x.0.rounds D.desk.log.limit D.desk.log.stop (held (actors.Recoverer (index + 1))) (entries_made x.0) = rounds_so x.0 (held (actors.Recoverer (index + 1))) r.counted (out index x.0 x.1) (say_held_up.recoverers index x.0 x.1) in
+      let R : ℕ → Option ℕ → ℕ → Priority → List (List ℕ) → Type 0 = λ limit stop number level splits. HasMadeOrEnded Q S splits number level recoverer.rounds limit stop (held (actors.Recoverer (index + 1))) (entries_made x.0) in
+      let made : HasMadeOrEnded Q S D.desk.log.head.splits D.number D.level x.0.rounds D.desk.log.limit D.desk.log.stop (held (actors.Recoverer (index + 1))) (entries_made x.0) = rounds_so Q x.0 (held (actors.Recoverer (index + 1))) r.counted (out index x.0 x.1) (λ delivers. say-rounds index x.0 x.1 (λ n. ruled n ∙ delivers n)) in
       let rounds : R D.desk.log.limit D.desk.log.stop D.number D.level D.desk.log.head.splits =
-      subst (λ n. HasMadeOrEnded S D.desk.log.head.splits D.number D.level n D.desk.log.limit D.desk.log.stop (held (actors.Recoverer (index + 1))) (entries_made x.0)) (sym (ap (λ (w : RecovererWork). w.rounds) same ∙ r.rounds)) made in
+      subst (λ n. HasMadeOrEnded Q S D.desk.log.head.splits D.number D.level n D.desk.log.limit D.desk.log.stop (held (actors.Recoverer (index + 1))) (entries_made x.0)) (sym (ap (λ (w : RecovererWork). w.rounds) same ∙ r.rounds)) made in
       let levels : R D.desk.log.limit D.desk.log.stop D.number recoverer.level D.desk.log.head.splits =
       subst (λ v. R D.desk.log.limit D.desk.log.stop D.number v D.desk.log.head.splits) (sym (ap (λ (w : RecovererWork). w.level) same ∙ r.level)) rounds in
       let numbers : R D.desk.log.limit D.desk.log.stop (index + 1) recoverer.level D.desk.log.head.splits = subst (λ n. R D.desk.log.limit D.desk.log.stop n recoverer.level D.desk.log.head.splits) r.number levels in
@@ -193,14 +211,14 @@ module _ {C : Type 0} (work : Workload) (rules : ActorId → ℕ → ℕ → Boo
             (subst (λ (p : Part Event). AreServed (verdicts_in work (actors.Recoverer (index + 1))) (held (actors.Recoverer (index + 1))) (actors.Recoverer (index + 1)) history (known_of p.own)) gone.part kept.served);
         within = gone.within;
         no_later = subst (λ (o : Option ℕ). IfSome o (λ n. length (entries_made x.0) ≤ n)) stop gone.no_later;
-        rounds = subst (λ (t : Sending). HasMadeOrEnded t work.splits (index + 1) recoverer.level recoverer.rounds work.limit recoverer.stop (held (actors.Recoverer (index + 1))) (entries_made x.0)) sends all;
+        rounds = subst (λ (t : Sending). HasMadeOrEnded Q t work.splits (index + 1) recoverer.level recoverer.rounds work.limit recoverer.stop (held (actors.Recoverer (index + 1))) (entries_made x.0)) sends all;
       })
     where
       same_some : (x y : RecovererWork) → Some x ≡ Some y → x ≡ y
       same_some x y e = cc
 
   -- the whole
-  pub follows_whole : AreAtEnds c → GoAsStated work held work.turns (length work.sessions) (client_pairs head history) → LearnInOrder (client_pairs head history) → FollowsWork work rules head history
+  pub follows_whole : AreAtEnds c → (DeliversAll work → GoAsStated work held work.turns (length work.sessions) (client_pairs head history)) → LearnInOrder (client_pairs head history) → FollowsWork work rules head history
   follows_whole out order learns = record {
     splits = refl;
     sessions = refl;

@@ -16,7 +16,7 @@ use Rattle.pc_history.specs.Own.{own}
 use Rattle.pc_proto.specs.declared.event.Event.{Event}
 use Rattle.pc_runs.specs.Order.{GoAsStated}
 use Rattle.pc_runs.specs.Rounds.{FollowsInRounds}
-use Rattle.pc_runs.specs.Wires.{verdicts_in}
+use Rattle.pc_runs.specs.Wires.{DeliversAll, DeliversEach, verdicts_in}
 use Rattle.pc_script.specs.End.{IsScriptEnd}
 use Rattle.pc_script.specs.Learning.{AllLearnTruly}
 use Rattle.pc_script.specs.Script.{script_position}
@@ -36,7 +36,7 @@ use Rattle.pc_world.specs.Known.Traffic.{Sent}
 abbrev pub terms_in : Workload → SessionWork → Terms
 terms_in work session = record { verdict = wire_rule session.wire; tries = work.tries; pipelining = work.pipelining }
 
--- A session's own list follows its work: at each step, in its waves, on the wire, in its length, and at its end; this says which of its messages full ranges
+-- A session's own list follows its work: at each step, in its waves, on the wire, in its length, and, where each message is delivered, at its end; this says which of its messages full ranges
 -- hold up. A session that stops leaves its messages to be evaluated like any other's.
 pub record FollowsByItself (work : Workload) (session : SessionWork) (rule : ℕ → ℕ → Bool) (held : Sent → Bool) (actor : ActorId) (list : List (Pair Event)) (history : List (Entry Event)) : Type 0 where
   pub steps : EachAfter (KeepsWork work session rule) [] list
@@ -45,14 +45,14 @@ pub record FollowsByItself (work : Workload) (session : SessionWork) (rule : ℕ
   pub wire : AreServed (wire_rule session.wire) held actor history (known_of list)
   pub within : length list ≤ work.limit
   pub no_later : IfSome session.stop (λ stop. length list ≤ stop)
-  pub end : IsScriptEnd (script_position work.reruns session.script list) list ⊎ (list_has_ended work.limit session.stop held list ≡ true)
+  pub end : DeliversEach (wire_rule session.wire) → IsScriptEnd (script_position work.reruns session.script list) list ⊎ (list_has_ended work.limit session.stop held list ≡ true)
 
 -- The history follows the workload, where these are the rules of the clocks that were handed in.
 pub record FollowsWork (work : Workload) (rules : ActorId → ℕ → ℕ → Bool) (head : Head) (history : List (Entry Event)) : Type 0 where
   pub splits : head.splits ≡ work.splits
   pub sessions : head.sessions ≡ length work.sessions
   pub recoverers : head.recoverers ≡ length work.recoverers
-  pub order : GoAsStated work (holds_up work.limit head history (verdicts_in work)) work.turns (length work.sessions) (client_pairs head history)
+  pub order : DeliversAll work → GoAsStated work (holds_up work.limit head history (verdicts_in work)) work.turns (length work.sessions) (client_pairs head history)
   pub learns : AllLearnTruly head history
   pub each :
       (number : ℕ) (session : SessionWork) → 1 ≤ number → slice_get work.sessions (number - 1) ≡ Some session

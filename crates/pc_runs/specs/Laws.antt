@@ -16,7 +16,7 @@ use Rattle.pc_runs.specs.Learning.{LearnInOrder}
 use Rattle.pc_runs.specs.Order.{GoAsStated, GoInTurnsOf}
 use Rattle.pc_runs.specs.Runners.{head_in_work}
 use Rattle.pc_runs.specs.Together.{AreAtEnds, AreClients, ClientsMeaning, HaveAllLeft, HaveClientClocks, client_lists}
-use Rattle.pc_runs.specs.Wires.{verdicts_in}
+use Rattle.pc_runs.specs.Wires.{DeliversAll, verdicts_in}
 use Rattle.pc_script.specs.Clocks.{clock_rule}
 use Rattle.pc_script.specs.Steps.{KeepsWork}
 use Rattle.pc_scripted.specs.Scripted.{ScriptedMeaning, own_list}
@@ -81,12 +81,12 @@ TransactionsLearnNothing C =
     → AreClients work clients → HaveAllLeft work rules clients leavers → IsClosedOver work.limit (head_in_work work) (verdicts_in work) leavers history → All HasTransactions work.sessions
     → LearnInOrder (client_pairs (head_in_work work) history)
 
--- The history that sessions and recoverers leave follows their workload, where each of them is at its end, it goes as the workload states, and
+-- The history that sessions and recoverers leave follows their workload, where each of them is at its end, it goes as the workload states if each message is delivered, and
 -- its clients learn in order.
 abbrev pub HistoryFollows : Type 0 → Type 0
 HistoryFollows C =
     (work : Workload) (rules : ActorId → ℕ → ℕ → Bool) (clients : ClientsMeaning C) (leavers : List Leaver) (history : List (Entry Event))
     → AreClients work clients → HaveAllLeft work rules clients leavers → IsClosedOver work.limit (head_in_work work) (verdicts_in work) leavers history → AreAtEnds clients
-    → GoAsStated work (holds_up work.limit (head_in_work work) history (verdicts_in work)) work.turns (length work.sessions) (client_pairs (head_in_work work) history)
+    → (DeliversAll work → GoAsStated work (holds_up work.limit (head_in_work work) history (verdicts_in work)) work.turns (length work.sessions) (client_pairs (head_in_work work) history))
     → LearnInOrder (client_pairs (head_in_work work) history)
     → FollowsWork work rules (head_in_work work) history

@@ -12,6 +12,7 @@ use Rattle.pc_script.specs.Clocks.{clock_rule}
 use Rattle.pc_scripted.specs.Ended.{list_has_ended}
 use Rattle.pc_work.specs.declared.recoverer.RecovererWork.{RecovererWork}
 use Rattle.pc_work.specs.declared.workload.Workload.{Workload}
+use Rattle.pc_runs.specs.Wires.{DeliversEach}
 use Rattle.pc_work.specs.Wire.{wire_rule}
 use Rattle.pc_world.specs.Known.{known_of}
 use Rattle.pc_world.specs.Known.Traffic.{Sent}
@@ -21,7 +22,7 @@ abbrev pub sending_in : Workload → RecovererWork → Sending
 sending_in work recoverer = record { verdict = wire_rule recoverer.wire; tries = work.tries }
 
 -- The recoverer's own list follows its work: in its readings, on the wire, in its length, and in its rounds, which are all that it has to make,
--- or fewer where its list ends early; this says which of its messages full ranges hold up. A recoverer that stops leaves its message to be evaluated
+-- or fewer where its list ends early, as is stated where each message is delivered; this says which of its messages full ranges hold up. A recoverer that stops leaves its message to be evaluated
 -- like any other's.
 pub record FollowsInRounds (work : Workload) (recoverer : RecovererWork) (rule : ℕ → ℕ → Bool) (held : Sent → Bool) (number : ℕ) (list : List (Pair Event)) (history : List (Entry Event)) : Type 0 where
   pub readings : ReadsEach (clock_rule recoverer.clock rule) list
@@ -30,4 +31,4 @@ pub record FollowsInRounds (work : Workload) (recoverer : RecovererWork) (rule :
   pub no_later : IfSome recoverer.stop (λ stop. length list ≤ stop)
   pub rounds :
       AreWholeRounds (sending_in work recoverer) work.splits number recoverer.level recoverer.rounds list
-      ⊎ (StopsBefore (sending_in work recoverer) work.splits number recoverer.level recoverer.rounds list × (list_has_ended work.limit recoverer.stop held list ≡ true))
+      ⊎ (StopsBefore (sending_in work recoverer) work.splits number recoverer.level recoverer.rounds list × (DeliversEach (wire_rule recoverer.wire) → list_has_ended work.limit recoverer.stop held list ≡ true))

@@ -1,8 +1,8 @@
 -- A session that asked its script's next call and was told its answer.
-use Rattle.std.proofs.Common.{◌≡◌, ℕ, ◌<◌, ◌≤◌, false, true, All, [], ◌∷◌, ◌++◌, length, Some, refl, sym, ap, subst, ◌∙◌}
+use Rattle.std.proofs.Common.{◌≡◌, ℕ, ◌<◌, ◌≤◌, Bool, false, true, All, [], ◌∷◌, ◌++◌, length, Some, refl, sym, ap, subst, ◌∙◌}
 use Rattle.std.proofs.lemmas.List.Elements.{All-append}
 use Rattle.pc_base.specs.declared.actor.ActorId.TheVariants as actors
-use Rattle.pc_desk.specs.OwnLog.{LogMeaning}
+use Rattle.pc_desk.specs.OwnLog.{LogMeaning, verdict_of}
 use Rattle.pc_history.specs.declared.pair.Pair.{Pair}
 use Rattle.pc_proto.specs.declared.answer.Answer.{Answer}
 use Rattle.pc_proto.specs.declared.call.Call.{Call}
@@ -14,16 +14,16 @@ use Rattle.pc_scripted.proofs.Passing.{order_told, position_told}
 use Rattle.pc_scripted.proofs.Telling.{fits_told, told_reruns}
 use Rattle.pc_scripted.proofs.Tests.{not_ended, some_room}
 use Rattle.pc_scripted.proofs.Turning.{asks_whole}
-use Rattle.pc_scripted.specs.Ended.{ended_in_script}
+use Rattle.pc_scripted.specs.Ended.{SaysHeldUp, ended_in_script}
 use Rattle.pc_scripted.specs.Scripted.{AskInOrder, GoesOnInScript, IsScripted, ScriptedMeaning, next_in_script, own_number, own_list, session_number}
 use Rattle.pc_scripted.specs.Taking.{AsksInTurn, HasMoved}
 use Rattle.pc_session.specs.Calls.{HasCalled}
 use Rattle.pc_session.specs.Session.{SessionMeaning}
 use Rattle.pc_turns.specs.Order.{AsksWhole, events_of}
 use Rattle.pc_scripted.proofs.Quiet.{all_heard}
-use Rattle.pc_desk.specs.OwnLog.{verdict_of}
 use Rattle.pc_wire.specs.declared.verdict.Verdict.TheVariants as verdicts
 use Rattle.pc_wire.specs.Verdicts.{verdict_by}
+use Rattle.pc_world.specs.Known.Traffic.{Sent}
 
 module _ {C : Type 0} (old : ScriptedMeaning C) (new : SessionMeaning C) (at : Position) (call : Call) (answer : Answer) (scripted : IsScripted old) (going : old.session.desk.log.stopped ≡ false) (next : next_call old.at ≡ Some call)
     (called : HasCalled old.session new call answer) (told : at ≡ after_told answer old.at) where

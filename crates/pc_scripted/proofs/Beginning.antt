@@ -4,7 +4,7 @@ use Rattle.std.proofs.lemmas.List.Elements.{All-nil, All-weaker, Contains-append
 use Rattle.pc_base.specs.declared.actor.ActorId.TheVariants as actors
 use Rattle.pc_desk.specs.Desk.{DeskMeaning}
 use Rattle.pc_desk.proofs.Refusing.{refused_still}
-use Rattle.pc_desk.specs.Ending.{IsSpent, EndsEarly, IsNotLost}
+use Rattle.pc_desk.specs.Ending.{EndsEarly, IsNotLost, IsRepeatedOrWaits, IsSomewhere, IsSpent}
 use Rattle.pc_history.specs.declared.pair.Pair.{Pair}
 use Rattle.pc_history.specs.declared.view.Known.{Known as KnownEntry}
 use Rattle.pc_history.specs.Parts.{told}

@@ -7,7 +7,7 @@ use Rattle.pc_base.specs.declared.actor.ActorId.TheVariants as actors
 use Rattle.pc_desk.specs.declared.halt.Halt.{Halt}
 use Rattle.pc_desk.specs.declared.halt.Halt.TheVariants as halts
 use Rattle.pc_desk.specs.Desk.{DeskMeaning}
-use Rattle.pc_desk.specs.OwnLog.{LogMeaning}
+use Rattle.pc_desk.specs.OwnLog.{LogMeaning, verdict_of}
 use Rattle.pc_exchange.specs.Ending.{BreaksOff, HasBrokenOff, IsEndedBy}
 use Rattle.pc_history.specs.declared.pair.Pair.{Pair}
 use Rattle.pc_proto.specs.declared.call.Call.{Call}
@@ -28,7 +28,6 @@ use Rattle.pc_turns.specs.Order.{AsksAfter, FinishesAfter, IsInBetween, events_o
 use Rattle.pc_follows.specs.FinishingJobs.{jobs_of}
 use Rattle.pc_world.specs.Known.Traffic.{Sent}
 use Rattle.pc_scripted.proofs.Quiet.{all_heard, jobs_left, some_left}
-use Rattle.pc_desk.specs.OwnLog.{verdict_of}
 use Rattle.pc_wire.specs.declared.verdict.Verdict.TheVariants as verdicts
 use Rattle.pc_wire.specs.Verdicts.{verdict_by}
 

@@ -1,10 +1,11 @@
 -- A session that did its oldest job.
-use Rattle.std.proofs.Common.{◌≡◌, suc, ◌<◌, ◌≤◌, false, true, All, List, [], ◌∷◌, ◌++◌, drop, length, map, refl, sym, ap, subst, ◌∙◌, arith}
+use Rattle.std.proofs.Common.{◌≡◌, ℕ, suc, ◌<◌, ◌≤◌, Bool, false, true, All, List, [], ◌∷◌, ◌++◌, drop, length, map, refl, sym, ap, subst, ◌∙◌, arith}
 use Rattle.std.proofs.lemmas.List.{append-nil}
 use Rattle.std.proofs.lemmas.List.Elements.{All-append}
+use Rattle.pc_base.specs.declared.actor.ActorId.{ActorId}
 use Rattle.pc_base.specs.declared.actor.ActorId.TheVariants as actors
 use Rattle.pc_coord.specs.Knows.{messages_of_job}
-use Rattle.pc_desk.specs.OwnLog.{LogMeaning}
+use Rattle.pc_desk.specs.OwnLog.{LogMeaning, verdict_of}
 use Rattle.pc_history.specs.declared.pair.Pair.{Pair}
 use Rattle.pc_proto.specs.declared.event.Event.{Event}
 use Rattle.pc_proto.specs.declared.request.Request.{Request}
@@ -13,7 +14,7 @@ use Rattle.pc_script.specs.Suiting.{FitsCalls}
 use Rattle.pc_scripted.proofs.Passing.{order_between, position_between}
 use Rattle.pc_scripted.proofs.Tests.{not_ended, some_room}
 use Rattle.pc_scripted.proofs.Turning.{finishes_whole}
-use Rattle.pc_scripted.specs.Ended.{ended_in_script}
+use Rattle.pc_scripted.specs.Ended.{SaysHeldUp, ended_in_script}
 use Rattle.pc_scripted.specs.Scripted.{AskInOrder, GoesOnInScript, IsScripted, ScriptedMeaning, next_in_script, own_number, own_list, session_number}
 use Rattle.pc_scripted.specs.Taking.{FinishesInTurn, HasMoved}
 use Rattle.pc_session.specs.Session.{SessionMeaning}
@@ -21,10 +22,9 @@ use Rattle.pc_session.specs.Steps.{HasMadeStep}
 use Rattle.pc_turns.specs.Order.{FinishesWhole}
 use Rattle.pc_follows.specs.FinishingJobs.{jobs_of}
 use Rattle.pc_scripted.proofs.Quiet.{all_behind, all_heard, jobs_left, loses_none}
-use Rattle.pc_scripted.specs.Ended.{SaysHeldUp}
-use Rattle.pc_desk.specs.OwnLog.{verdict_of}
 use Rattle.pc_wire.specs.declared.verdict.Verdict.TheVariants as verdicts
 use Rattle.pc_wire.specs.Verdicts.{verdict_by}
+use Rattle.pc_world.specs.Known.Traffic.{Sent}
 
 module _ {C : Type 0} (old : ScriptedMeaning C) (new : SessionMeaning C) (scripted : IsScripted old) (going : old.session.desk.log.stopped ≡ false) (step : HasMadeStep old.session new) where
   abbrev then : ScriptedMeaning C

@@ -1,5 +1,5 @@
 -- A session that made nothing, or took a note.
-use Rattle.std.proofs.Common.{◌≡◌, ◌<◌, Bool, true, false, All, [], None, refl, sym, ap, ◌∙◌}
+use Rattle.std.proofs.Common.{◌≡◌, ◌<◌, Bool, true, false, All, [], map, None, refl, sym, ap, ◌∙◌}
 use Rattle.std.proofs.lemmas.List.{append-nil}
 use Rattle.std.proofs.lemmas.List.Elements.{All-nil}
 use Rattle.pc_base.specs.declared.actor.ActorId.TheVariants as actors

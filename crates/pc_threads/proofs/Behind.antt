@@ -49,7 +49,7 @@ module _ {C : Type 0} (first other : ScriptedMeaning C) where
     behind-so scripted = record {
       by = record {
         scripted = scripted;
-        same = record { number = refl; script = refl; reruns = refl; head = refl; piped = refl; beside = refl; limit = refl; stop = refl; range_limit = refl };
+        same = record { number = refl; script = refl; reruns = refl; head = refl; piped = refl; beside = refl; limit = refl; stop = refl; wire = refl; tries = refl; range_limit = refl };
         own = sym (append-nil (own_list other));
         whose = All-nil (λ (p : Pair Event). p.entry.actor ≡ actors.Session (own_number other));
         rises = tt;

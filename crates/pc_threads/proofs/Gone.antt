@@ -27,6 +27,7 @@ use Rattle.pc_work.specs.declared.session.SessionWork.{SessionWork}
 use Rattle.pc_work.specs.declared.workload.Workload.{Workload}
 use Rattle.pc_world.specs.Known.Traffic.{Sent}
 use Rattle.pc_base.specs.declared.actor.ActorId.{ActorId}
+use Rattle.pc_wire.specs.Verdicts.{verdict_by}
 
 -- it is the workload's session still
 pub runner_went : {C : Type 0} (work : Workload) (index : ℕ) (old new : ScriptedMeaning C) (part : List (Pair Event)) → IsRunnerIn work index old → HasMovedBy old new part → IsRunnerIn work index new
@@ -43,6 +44,8 @@ runner_went work index old new part runner by =
       beside = same.beside ∙ runner.beside;
       limit = same.limit ∙ runner.limit;
       stop = same.stop ∙ runner.stop;
+      wire = λ n. ap (λ w. verdict_by w n) same.wire ∙ runner.wire n;
+      tries = same.tries ∙ runner.tries;
       range_limit = same.range_limit ∙ runner.range_limit;
     }
 
@@ -68,7 +71,7 @@ moved_on items old mid new a b = (
     by = moved_both old mid new a.part b.part a.by b.by;
     is = λ held says.
         goes_then (next_in_script old.at.reruns old.script) (ended_in_script old.session.desk.log.limit old.session.desk.log.stop held) (own_number old) (λ o. are_items_over items old.at.reruns old.script (entries_by (own_number old) o)) (λ o. is_script_over old.at.reruns old.script (entries_by (own_number old) o))
-        (λ o over. over_is_past items old.at.reruns old.script (entries_by (own_number old) o) over) (a.is held (says_before held mid.session.desk new.session.desk b.by.same.range_limit (same_actor mid new b.part a.by.scripted b.by) b.by.known says)) b.part
+        (λ o over. over_is_past items old.at.reruns old.script (entries_by (own_number old) o) over) (a.is held (says_before held mid.session.desk new.session.desk b.by.same.range_limit b.by.same.wire (same_actor mid new b.part a.by.scripted b.by) b.by.known says)) b.part
         (subst (λ before. GoesUntil old (is_script_over old.at.reruns old.script) (ended_in_script old.session.desk.log.limit old.session.desk.log.stop held) before b.part) a.by.own (goes-as old mid a.by.same held (own_list mid) b.part (b.is held says)));
   },
   refl,

@@ -32,6 +32,7 @@ use Rattle.pc_world.specs.Local.{Head}
 use Rattle.pc_work.specs.declared.turn.Turn.{Turn}
 use Rattle.pc_work.specs.declared.workload.Workload.{Workload}
 use Rattle.pc_world.specs.Known.Traffic.{Sent}
+use Rattle.pc_runs.specs.Wires.{DeliversAll, verdicts_in}
 
 leaver-at : (leavers : List Leaver) (index : ℕ) (list : List (Pair Event)) → slice_get (lists_of leavers) index ≡ Some list → (l : Leaver) × (slice_get leavers index ≡ Some l) × (l.0.part.own ≡ list)
 leaver-at [] index list at = absurd cc
@@ -49,9 +50,9 @@ no-session : (i j : ℕ) → actors.Recoverer i ≡ actors.Session j → ⊥
 no-session i j e = cc
 
 module _ {C : Type 0} (work : Workload) (rules : ActorId → ℕ → ℕ → Bool) (c : ClientsMeaning C) (leavers : List Leaver) (history : List (Entry Event)) (clients : AreClients work c) (left : HaveAllLeft work rules c leavers)
-    (closed : IsClosedOver work.limit (head_in_work work) leavers history) (gone : HaveGoneOnThreads work c) where
+    (closed : IsClosedOver work.limit (head_in_work work) (verdicts_in work) leavers history) (gone : HaveGoneOnThreads work c) where
   abbrev held : ActorId → Sent → Bool
-  held = holds_up work.limit (head_in_work work) history
+  held = holds_up work.limit (head_in_work work) history (verdicts_in work)
 
   abbrev head : Head
   head = head_in_work work
@@ -130,8 +131,8 @@ module _ {C : Type 0} (work : Workload) (rules : ActorId → ℕ → ℕ → Boo
         (λ part is client. continues part (part-of part (is client))) closed.parts closed.handed.theirs;
   }
 
-  gone-alone : (number : ℕ) → 1 ≤ number → number ≤ length work.sessions → HasGoneAlone (next_in_work work) (ended_in_work work held) closed.parts number
-  gone-alone number from to =
+  gone-alone : DeliversAll work → (number : ℕ) → 1 ≤ number → number ≤ length work.sessions → HasGoneAlone (next_in_work work) (ended_in_work work held) closed.parts number
+  gone-alone delivers number from to =
       let handed = contains_in_map (λ (q : Part Event). q.id) closed.parts (actors.Session number) (handed-of number from to) in
       by handed.0 handed.1 handed.2 (part-of handed.0 (All-contains (λ (q : Part Event). is_client q.id ≡ true → IsPartAt head (lists_of leavers) q) closed.parts handed.0 closed.handed.theirs handed.1 (ap is_client handed.2)))
     where
@@ -140,7 +141,7 @@ module _ {C : Type 0} (work : Workload) (rules : ActorId → ℕ → ℕ → Boo
       by part listed id (inl p) =
           let same : p.index + 1 ≡ number = same-number (p.index + 1) number (sym p.whose ∙ id) in
           let alone : GoesByItself (next_in_work work) (ended_in_work work held) (p.index + 1) (is_at_end (next_in_work work) (p.index + 1)) [] (own_list p.s) =
-          gone.alone held (say_held_up work rules c leavers history clients left closed) p.index p.s p.at in (
+          gone.alone held (say_held_up work rules c leavers history clients left closed delivers) p.index p.s p.at in (
             part,
             listed,
             id,
@@ -148,13 +149,13 @@ module _ {C : Type 0} (work : Workload) (rules : ActorId → ℕ → ℕ → Boo
                 (subst (λ list. GoesByItself (next_in_work work) (ended_in_work work held) (p.index + 1) (is_at_end (next_in_work work) (p.index + 1)) [] list) p.list alone),
           )
 
-  on-threads : GoOnThreads (next_in_work work) (ended_in_work work held) (is_work_opened work) (length work.sessions) (client_pairs head history)
-  on-threads =
+  on-threads : DeliversAll work → GoOnThreads (next_in_work work) (ended_in_work work held) (is_work_opened work) (length work.sessions) (client_pairs head history)
+  on-threads delivers =
       threads_go_on head history closed.parts gone.opening (next_in_work work) (ended_in_work work held) (is_work_opened work) closed.stored begins
-      (gone.opens held (say_held_up work rules c leavers history clients left closed)) gone-alone
+      (gone.opens held (say_held_up work rules c leavers history clients left closed delivers)) (gone-alone delivers)
 
-  pub go_as_stated : work.turns ≡ None → GoAsStated work held work.turns (length work.sessions) (client_pairs head history)
-  go_as_stated none = subst (λ (o : Option (List Turn)). GoAsStated work held o (length work.sessions) (client_pairs head history)) (sym none) on-threads
+  pub go_as_stated : work.turns ≡ None → DeliversAll work → GoAsStated work held work.turns (length work.sessions) (client_pairs head history)
+  go_as_stated none delivers = subst (λ (o : Option (List Turn)). GoAsStated work held o (length work.sessions) (client_pairs head history)) (sym none) (on-threads delivers)
 
 pub threads_are_as_stated : (C : Type 0) → ThreadsAreAsStated C
-threads_are_as_stated C work rules c leavers history clients left closed gone none = go_as_stated work rules c leavers history clients left closed gone none
+threads_are_as_stated C work rules c leavers history clients left closed gone none delivers = go_as_stated work rules c leavers history clients left closed gone none delivers

@@ -1,5 +1,5 @@
 -- A recoverer that took a mark of the first session's last entry.
-use Rattle.std.proofs.Common.{◌≡◌, ◌-◌, ◌<◌, All, Contains, List, [], ◌∷◌, ◌++◌, length, map, refl, sym, subst, ◌∙◌}
+use Rattle.std.proofs.Common.{◌≡◌, ◌-◌, ◌<◌, All, Contains, List, [], ◌++◌, length, refl, sym, subst, ◌∙◌}
 use Rattle.std.proofs.lemmas.List.{append-nil, map-append}
 use Rattle.std.proofs.lemmas.List.Elements.{All-nil, Contains-append_left, Contains-append_right}
 use Rattle.pc_base.specs.declared.actor.ActorId.TheVariants as actors
@@ -37,7 +37,7 @@ module _ {C : Type 0} (first : ScriptedMeaning C) (r : CountedMeaning C) where
     waits-so counted = record {
       by = record {
         counted = counted;
-        same = record { number = refl; level = refl; rounds = refl; head = refl; limit = refl; stop = refl; range_limit = refl };
+        same = record { number = refl; level = refl; rounds = refl; head = refl; limit = refl; stop = refl; verdict = refl; tries = refl; range_limit = refl };
         own = sym (append-nil (entries_made r));
         whose = All-nil (λ (p : Pair Event). p.entry.actor ≡ actors.Recoverer r.recoverer.number);
         rises = tt;

@@ -1,6 +1,5 @@
 -- All recoverers have made their rounds on threads.
-use Rattle.std.proofs.Common.{◌≡◌, ℕ, ◌+◌, ◌≤◌, Bool, cond, All, List, [], ◌∷◌, ◌++◌, length, slice_get, Some, Result, OnOk, refl, sym, ap, subst, ◌∙◌, arith}
-use Rattle.std.proofs.lemmas.List.{append-nil}
+use Rattle.std.proofs.Common.{◌≡◌, ℕ, ◌+◌, Bool, cond, All, List, [], ◌∷◌, ◌++◌, slice_get, Some, Result, OnOk, refl, sym, ap, subst, ◌∙◌, arith}
 use Rattle.std.proofs.lemmas.List.Elements.{All-contains, recursion_from_All}
 use Rattle.std.specs.List.{AllByRecursion as Each, AllZip}
 use Rattle.pc_base.specs.declared.actor.ActorId.{ActorId}
@@ -17,8 +16,9 @@ use Rattle.pc_runs.specs.Recoverers.{AreRecoverers, HaveNoRoundLeft, HaveRecover
 use Rattle.pc_threads.proofs.Places.{zip_all, zip_at, zip_long}
 use Rattle.pc_threads.specs.RoundLanes.{HasLeftRoundLane, HasMadeRounds, HasRunRounds, RoundLaneMeaning, WaitInLanes, WaitsBehind, WaitsBehindIn}
 use Rattle.pc_turns.proofs.Moves.{marks_put_after}
-use Rattle.pc_turns.specs.Clients.{Continues, IsAfterAll, RisesFrom, share_of}
+use Rattle.pc_turns.specs.Clients.{Continues, RisesFrom, share_of}
 use Rattle.pc_work.specs.declared.workload.Workload.{Workload}
+use Rattle.pc_wire.specs.Verdicts.{verdict_by}
 
 -- the recoverers go in their rounds, each as it is and in its lane
 pub all_counted : {C : Type 0} (work : Workload) (recoverers : List (CountedMeaning C)) → AreRecoverers work recoverers → All GoesInRounds recoverers
@@ -80,6 +80,8 @@ module _ {C : Type 0} (work : Workload) (rule : C → ℕ → ℕ → Bool) (ord
         head = same.head ∙ is.head;
         limit = same.limit ∙ is.limit;
         stop = same.stop ∙ is.stop;
+        wire = λ n. ap (λ w. verdict_by w n) same.verdict ∙ is.wire n;
+        tries = same.tries ∙ is.tries;
         range_limit = same.range_limit ∙ is.range_limit;
       }
 

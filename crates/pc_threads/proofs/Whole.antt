@@ -1,6 +1,6 @@
 -- All sessions and recoverers have gone on threads.
 use Rattle.std.proofs.Common.{◌≡◌, ℕ, zero, suc, ◌+◌, ◌≤◌, inl, inr, Bool, All, Contains, List, [], ◌∷◌, ◌++◌, length, slice_get, Some, Result, Ok, Err, IfOk, OnOk, sym, ap, subst, ◌∙◌, arith}
-use Rattle.std.proofs.lemmas.List.Elements.{All-contains, All-weaker}
+use Rattle.std.proofs.lemmas.List.Elements.{All-contains}
 use Rattle.std.specs.List.{AllZip}
 use Rattle.pc_base.specs.declared.actor.ActorId.{ActorId}
 use Rattle.pc_base.specs.declared.actor.ActorId.TheVariants as actors
@@ -160,7 +160,7 @@ module _ {C : Type 0} (work : Workload) (rule : C → ℕ → ℕ → Bool) (ses
       let r = zip_at HasLeftLane run gone 0 s.0 back s.1 in
       let l = zip_at (HasRunLane rule) lanes run 0 r.0 ran r.1 in
       let a = ran-front l.0 s.0 (subst (λ ls. slice_get ls 0 ≡ Some l.0) started.leads.whole l.1) (ended-well l.0 r.0 s.0 l.2 r.2) in
-      says_before (held (actors.Session 1)) opened.session.desk s.0.session.desk a.moved.by.same.range_limit (same_actor opened s.0 a.moved.part opens.by.scripted a.moved.by) a.moved.by.known (says 0 s.0 s.1)
+      says_before (held (actors.Session 1)) opened.session.desk s.0.session.desk a.moved.by.same.range_limit a.moved.by.same.wire (same_actor opened s.0 a.moved.part opens.by.scripted a.moved.by) a.moved.by.known (says 0 s.0 s.1)
 
   pub opening_rises : RisesFrom 0 (own_list opened)
   opening_rises = subst (RisesFrom 0) (sym opening-list) opens.by.rises
