@@ -1,5 +1,5 @@
 -- A message that was lost is asked for, before the replies to later messages are heard.
-use Rattle.std.proofs.Common.{◌≡◌, ℕ, ◌+◌, ◌<◌, ◌≤◌, nat_lt, Bool, true, false, ◌==◌, All, Contains, List, [], ◌∷◌, ◌++◌, get_or, IfNone, IfSome, Option, is_some, length, zero, suc, None, Some, refl, sym, ap, subst, ◌∙◌, arith}
+use Rattle.std.proofs.Common.{◌≡◌, ℕ, ◌+◌, ◌<◌, ◌≤◌, nat_lt, Bool, true, false, ◌==◌, All, Contains, List, [], ◌∷◌, ◌++◌, get_or, IfNone, IfSome, Option, is_some, length, None, Some, refl, sym, ap, subst, ◌∙◌, arith}
 use Rattle.std.proofs.lemmas.Bool.{eqb-true}
 use Rattle.std.proofs.lemmas.Bool.Decides.{nat_tests}
 use Rattle.std.proofs.lemmas.List.{nil_from_length}
@@ -110,11 +110,6 @@ first_taken v old number (Some one) lost same items first after =
 pub none_taken : (P : Type 0) (taken : Option ℕ) (n : ℕ) → 0 < n → (0 < n → is_some taken ≡ true) → IfNone taken P
 none_taken P None n some is = absurd (let e : false ≡ true = is some in cc e)
 none_taken P (Some one) n some is = tt
-
--- where there is none
-pub none_if : (n : ℕ) → (0 < n → false ≡ true) → n ≡ 0
-none_if zero no = refl
-none_if (suc n) no = absurd (let e : false ≡ true = no (omega arith) in cc e)
 
 pub if_none : {X : Type 0} (o : Option X) (P : Type 0) → P → IfNone o P
 if_none None P p = p

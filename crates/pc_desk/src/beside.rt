@@ -121,7 +121,7 @@ impl<'a, N: Named<CommitWorld>, C: Clock, V: Wire, G: Gate> Desk<'a, N, C, V, G>
             } => {
                 self.log.take(last);
                 self.log.take(use_of(message));
-                self.have_copy_back(sequel);
+                self.have_copy_back(sequel.copy);
                 Ok(())
             }
             ServeFault::NoMemory => Err(NoMemory),

@@ -306,7 +306,7 @@ impl<'a, N: Named<CommitWorld>, C: Clock, V: Wire, G: Gate> Desk<'a, N, C, V, G>
                 message,
             } => {
                 self.have_back(last, message);
-                self.have_copy_back(sequel);
+                self.have_copy_back(sequel.copy);
                 Halt::Full {
                     actor: ActorId::Range(range),
                 }
@@ -325,11 +325,12 @@ impl<'a, N: Named<CommitWorld>, C: Clock, V: Wire, G: Gate> Desk<'a, N, C, V, G>
     }
 
     /// Has the use back of the copy of a message that is never evaluated.
-    pub(crate) fn have_copy_back(&mut self, sequel: Sequel<N>)
-        ensures { self.new ≡ record self.old { log = record self.old.log { part = told_copy sequel.copy self.old.log.part } } }
+    pub(crate) fn have_copy_back(&mut self, copy: Option<Stray<Message<N>>>)
+        ensures { self.new ≡ record self.old { log = record self.old.log { part = told_copy copy self.old.log.part } } }
     {
-        if let Some(stray) = sequel.copy {
-            self.log.take(use_of(stray.message));
+        match copy {
+            Some(stray) => self.log.take(use_of(stray.message)),
+            None => {}
         }
     }
 }
