@@ -1,14 +1,10 @@
-use Rattle.std.proofs.Common.{◌≡◌, ◌∷◌, None, Option, Some, inl, inr, refl, sym, ap, subst, ◌∙◌}
+use Rattle.std.proofs.Common.{◌∷◌, inl, inr, refl, sym, ap, subst, ◌∙◌}
 use Rattle.std.proofs.lemmas.List.{nil_from_length}
 use Rattle.pc_desk.proofs.Halting.{wants_memory}
 use Rattle.pc_desk.proofs.WaveSteps.{LearntSoFar, learnt_more, learnt_none, next_may, next_there, stopped_for, zip_long, zip-next}
 use Rattle.pc_desk.specs.Desk.{HasHalted}
 use Rattle.pc_desk.specs.TakenWave.{MayBeTakenIn}
 use Rattle.pc_desk.proofs.desk.Desk.end_for.Goals as goal
-
-none-there : {X : Type 0} (o : Option X) → ((x : X) → o ≡ Some x → ⊥) → o ≡ None
-none-there None none = refl
-none-there (Some x) none = absurd (none x refl)
 
 pub loop-outcome-init : goal.loop-outcome-init
 loop-outcome-init g c =
@@ -28,8 +24,7 @@ unreachable-requires g c =
     let left = c.next.new.self.rest.items in
     let q = c.loop-outcome.sequels.rest in
     let one = subst (λ l. LearntSoFar s c.loop-outcome.self outcomes l sequels q.items) c.in-Some.ensures.steps.0 c.loop-outcome.invariant.0 in
-    let none = rw (none-there c.next-in-loop-outcome.result c.in_default.not-Some) at c.next-in-loop-outcome.ensures.cases in
-    next_there (MayBeTakenIn s.log) outcomes sequels c.in-Some.outcome left q.items one.done one.done_sequels c.requires.each one.part (nil_from_length q.items (sym q.ok.0 ∙ none.0))
+    next_there (MayBeTakenIn s.log) outcomes sequels c.in-Some.outcome left q.items one.done one.done_sequels c.requires.each one.part (nil_from_length q.items (sym q.ok.0 ∙ c.in_default.ensures.cases.0))
 
 pub take_in-requires : goal.take_in-requires
 take_in-requires g c =
@@ -40,7 +35,7 @@ take_in-requires g c =
     let left = c.next.new.self.rest.items in
     let beside = c.next-in-loop-outcome.new.self.rest.items in
     let one = subst (λ l. LearntSoFar s now outcomes l sequels c.loop-outcome.sequels.rest.items) c.in-Some.ensures.steps.0 c.loop-outcome.invariant.0 in
-    let here = subst (LearntSoFar s now outcomes (c.in-Some.outcome ∷ left) sequels) c.in-Some-next.ensures.cases.0 one in
+    let here = subst (LearntSoFar s now outcomes (c.in-Some.outcome ∷ left) sequels) c.in-Some-next.ensures.items one in
     record {
       copy = next_may s now outcomes left sequels beside c.in-Some.outcome c.in-Some-next.sequel now.log (ap (λ d. d.log) here.rest)
           (zip-next (MayBeTakenIn s.log) outcomes sequels (c.in-Some.outcome ∷ left) (c.in-Some-next.sequel ∷ beside) here.done here.done_sequels c.requires.each here.part);
@@ -55,7 +50,7 @@ loop-outcome-preserved g c =
     let left = c.next.new.self.rest.items in
     let beside = c.next-in-loop-outcome.new.self.rest.items in
     let one = subst (λ l. LearntSoFar s now outcomes l sequels c.loop-outcome.sequels.rest.items) c.in-Some.ensures.steps.0 c.loop-outcome.invariant.0 in
-    let here = subst (LearntSoFar s now outcomes (c.in-Some.outcome ∷ left) sequels) c.in-Some-next.ensures.cases.0 one in (
+    let here = subst (LearntSoFar s now outcomes (c.in-Some.outcome ∷ left) sequels) c.in-Some-next.ensures.items one in (
       learnt_more s now c.take_in.new.self outcomes left sequels beside c.in-Some.outcome c.in-Some-next.sequel here c.in-Ok.ensures.ok,
       c.take_in.ensures.clock ∙ c.loop-outcome.invariant.1,
     )

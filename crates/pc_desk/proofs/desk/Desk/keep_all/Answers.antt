@@ -38,9 +38,8 @@ take_reply-requires g c =
     let beside = c.next-in-loop-outcome.new.self.rest.items in
     let reply = c.in-Ok-Some.reply in
     let sequel = c.in-Ok-Some.sequel in
-    let next = rw c.in-Ok-Some.is-1 at c.next-in-loop-outcome.ensures.cases in
     let one = subst (λ l. KeptSoFar s now outcomes l sequels c.loop-outcome.sequels.rest.items) c.in-Some.ensures.steps.0 c.loop-outcome.invariant.0 in
-    let both = subst (KeptSoFar s now outcomes (c.in-Some.outcome ∷ left) sequels) next.0 one in
+    let both = subst (KeptSoFar s now outcomes (c.in-Some.outcome ∷ left) sequels) c.in-Ok-Some.ensures.items one in
     let here = subst (λ o. KeptSoFar s now outcomes (o ∷ left) sequels (sequel ∷ beside)) c.in-Ok-Some.is-0 both in
     record {
       copy = next_may s now outcomes left sequels beside (Ok reply) sequel now.log (ap (λ d. d.log) here.kept.rest)
@@ -72,9 +71,8 @@ loop-outcome-preserved g c =
     let beside = c.next-in-loop-outcome.new.self.rest.items in
     let reply = c.in-Ok-Some.reply in
     let sequel = c.in-Ok-Some.sequel in
-    let next = rw c.in-Ok-Some.is-1 at c.next-in-loop-outcome.ensures.cases in
     let one = subst (λ l. KeptSoFar s now outcomes l sequels c.loop-outcome.sequels.rest.items) c.in-Some.ensures.steps.0 c.loop-outcome.invariant.0 in
-    let both = subst (KeptSoFar s now outcomes (c.in-Some.outcome ∷ left) sequels) next.0 one in
+    let both = subst (KeptSoFar s now outcomes (c.in-Some.outcome ∷ left) sequels) c.in-Ok-Some.ensures.items one in
     let here = subst (λ o. KeptSoFar s now outcomes (o ∷ left) sequels (sequel ∷ beside)) c.in-Ok-Some.is-0 both in (
       kept_one s now c.take_reply.new.self outcomes left sequels beside reply sequel here c.in_ok-take_reply-in-Ok-Some.ensures.ok (without_none reply.note.known),
       c.take_reply.ensures.clock ∙ c.loop-outcome.invariant.1,
