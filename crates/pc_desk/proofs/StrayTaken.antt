@@ -61,7 +61,7 @@ module _ {C N : Type 0} {G : Ghosts N CommitWorld} (old v mid : DeskMeaning C) (
 
     -- it was refused
     pub taken_refused : KeepsTrack old → old.posted ≡ [] → is_some (known_of old.log.part.own).statement ≡ true → (new : DeskMeaning C) (halt : Halt) → IsRefusedErrand mid new dropped halt → EndsOnly (λ made. ⊥) old new halt
-    taken_refused track none open new halt refused =
+    taken_refused track none called new halt refused =
         let at = out-old ∙ ap (λ b. record old { later = map waits_as rest; bag = b }) (not_held verdict message errand (posted_of message) old.bag of) in
         stray_refused old new message (map waits_as rest) track first none dropped (subst (λ (e : Errand N G). MayGo old e.message) (sym is) (errand_may old verdict message errand ready of).0)
-        (subst (λ (e : Errand N G). as_sent (posted_of e.message) ≡ as_sent (posted_of message)) (sym is) (errand_sent verdict message errand of)) (λ puts. open) halt (subst (λ (d : DeskMeaning C). IsRefusedErrand d new dropped halt) at refused)
+        (subst (λ (e : Errand N G). as_sent (posted_of e.message) ≡ as_sent (posted_of message)) (sym is) (errand_sent verdict message errand of)) (λ puts. called) halt (subst (λ (d : DeskMeaning C). IsRefusedErrand d new dropped halt) at refused)

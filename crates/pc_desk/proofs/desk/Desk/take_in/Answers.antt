@@ -11,5 +11,5 @@ keep_copy-requires g c =
 pub returns-in_ok-keep_copy-in-Ok-clause-ok : goal.returns-in_ok-keep_copy-in-Ok-clause-ok
 returns-in_ok-keep_copy-in-Ok-clause-ok g c =
     let note = c.keep_copy.new.first.known in
-    taken_in_reply c.args.self.now c.keep_copy.new.self _ c.args.outcome c.in-Ok.reply c.args.sequel note c.in-Ok.is c.in_ok-keep_copy.ensures.ok (c.in_ok-keep_copy.ensures.note ∙ ap (λ n. n.known) c.note_of-note.ensures)
+    taken_in_reply c.args.self.now c.keep_copy.new.self _ c.args.outcome c.in-Ok.reply c.args.sequel note c.in-Ok.is c.in_ok-keep_copy-in-Ok.ensures.ok (c.in_ok-keep_copy-in-Ok.ensures.note ∙ ap (λ n. n.known) c.note_of-note.ensures)
     (took_note _ c.keep_copy.new.self c.take.new.self note c.self.view_is c.take.ensures)
