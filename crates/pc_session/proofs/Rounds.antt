@@ -501,3 +501,34 @@ module _ {C : Type 0} {loses : Bool} (old : SessionMeaning C) (reading number : 
       session = session ∙ ap (λ (x : Coordination). x.session) raised;
       statement = made.made.aside.statement;
     }
+
+-- The call is open still once the round was made, over any wire, and over one that loses nothing.
+module _ {C : Type 0} (old : SessionMeaning C) (reading number : ℕ) (conflict : Reply) (reader : Option ℕ) (calls : HasOpenCall old reading) (due : next_of old.coordinator ≡ nexts.Conflict number conflict reader)
+    (met : MayComeNow old (nexts.Conflict number conflict reader)) (d : DeskMeaning C) (c e : Coordination) (round : Round) (ts : ℕ) (made : HasMadeRoundOf old.desk d conflict round ts) (raised : c ≡ with_clock (max old.coordinator.clock ts) old.coordinator) where
+  same_verdicts : verdict_of d.log ≡ verdict_of old.desk.log
+  same_verdicts = verdicts_same old.desk.log d.log made.part made.goes.grown
+
+  was_quiet : LosesNothing (verdict_of d.log) → LosesNothing (verdict_of old.desk.log)
+  was_quiet quiet = subst LosesNothing same_verdicts quiet
+
+  pub rounds_open : ((loses : Bool) (c' : Coordination) (start k : Known) (conflict : Reply) (reader : Option ℕ) → Knows loses c' start → c ≡ with_clock k.high c' → next_of c' ≡ nexts.Conflict number conflict reader → IsLaterBeside loses c' start k → EndsRound loses conflict round start k → Knows loses e k)
+      → ((loses : Bool) (c' : Coordination) (start k : Known) (conflict : Reply) (reader : Option ℕ) (other : ℕ) → loses ≡ false → Knows loses c' start → c ≡ with_clock k.high c' → next_of c' ≡ nexts.Conflict number conflict reader → IsLaterBeside loses c' start k → EndsRound loses conflict round start k
+      → awaits_number other e.due ≡ false)
+      → ((number : ℕ) → has_waited number e.later ≡ true → has_waited number c.later ≡ true) → e.session ≡ c.session → e.splits ≡ c.splits → e.pipelining ≡ c.pipelining
+      → ((number : ℕ) → awaits_number number e.due ≡ true → has_waited number c.later ≡ true) → ((number : ℕ) → has_waited number c.later ≡ true → awaits_number number e.due ≡ true → SendsNoMore e.due → ⊥)
+      → ((o : Opened) (conflict : Reply) → opened_by c.txn c.due ≡ Some o → step_of o.call.wave ≡ steps.Round number conflict → goes_by_sequence o.call.purpose ≡ false → ComesOfRound round number conflict o.call.wave e.due)
+      → HasOpenCall (record { desk = d; coordinator = e; jobs = jobs_spared round (holder_in conflict) old.jobs }) reading
+  rounds_open settles quiets left session splits pipelines awaited joins comes = record {
+    any = round_open old reading number conflict reader calls.any due met.0 d c e round ts made raised settles quiets left session splits pipelines awaited joins comes;
+    quiet = λ quiet. round_open old reading number conflict reader (calls.quiet (was_quiet quiet)) due (met.1 (was_quiet quiet)) d c e round ts made raised settles quiets left session splits pipelines awaited joins comes;
+  }
+
+  pub rounds_goes : e.session ≡ c.session → HasGoneInside old (record { desk = d; coordinator = e; jobs = jobs_spared round (holder_in conflict) old.jobs })
+  rounds_goes session = round_goes old reading number conflict reader calls.any due met.0 d c e round ts made raised session
+
+  pub rounds_between : IsBetweenWaves d
+  rounds_between = record {
+    none_waits = made.goes.back.replies;
+    none_lost = made.goes.back.lost;
+    quiet = λ quiet. round_ends_quietly old reading number conflict reader (calls.quiet (was_quiet quiet)) due (met.1 (was_quiet quiet)) d c e round ts made raised refl;
+  }
