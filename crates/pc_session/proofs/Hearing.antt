@@ -648,8 +648,8 @@ module _ {C : Type 0} {loses : Bool} (old : SessionMeaning C) (reading : ℕ) (c
         quiet_calls : HasCallOver false old reading
         quiet_calls = subst (λ b. HasCallOver b old reading) is calls
 
-        quiet_then : LosesNothing (verdict_of d.log)
-        quiet_then = subst LosesNothing (sym (verdicts_same old.desk.log d.log (p ∷ []) grown_heard)) (calls.one.quiet is)
+        quiet_after : LosesNothing (verdict_of d.log)
+        quiet_after = subst LosesNothing (sym (verdicts_same old.desk.log d.log (p ∷ []) grown_heard)) (calls.one.quiet is)
 
         knows_quietly : Knows false c (known_of d.log.part.own)
         knows_quietly = subst (λ b. Knows b c (known_of d.log.part.own)) is knows_then
@@ -663,7 +663,7 @@ module _ {C : Type 0} {loses : Bool} (old : SessionMeaning C) (reading : ℕ) (c
         aside_then : HasAsideInCall heard_then
         aside_then = record {
           waits = waits_then;
-          why = λ n aside. aside_why heard_then heard.track quiet_then knows_quietly (record { call = calls.call; reading = reading }) opened_then outside_then apart_then sent_then n aside (epoch_then is n aside);
+          why = λ n aside. aside_why heard_then heard.track quiet_after knows_quietly (record { call = calls.call; reading = reading }) opened_then outside_then apart_then sent_then n aside (epoch_then is n aside);
           epoch = epoch_then is;
         }
 

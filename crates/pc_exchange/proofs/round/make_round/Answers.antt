@@ -1,5 +1,6 @@
-use Rattle.std.proofs.Common.{rules, ◌≡◌, max, IfNone, IfSome, refl, sym, subst, ◌∙◌}
+use Rattle.std.proofs.Common.{rules, ℕ, ◌≡◌, max, IfNone, IfSome, refl, sym, subst, ◌∙◌}
 use Rattle.std.proofs.lemmas.Result.{err_from_is_err_and}
+use Rattle.std.specs.Ordering.{nat_cmp, ord_max}
 use Rattle.pc_exchange.proofs.Ending.{goes_breaks}
 use Rattle.pc_exchange.proofs.Rounding.{sends_asks}
 use Rattle.pc_coord.specs.declared.round.Round.TheVariants as rounds
@@ -9,6 +10,9 @@ use Rattle.pc_exchange.specs.Rounding.{IsRoundUnderWay}
 use Rattle.pc_exchange.specs.Rounds.{HasMadeRoundOf}
 use Rattle.pc_exchange.proofs.round.make_round.Goals as goal
 use Rattle.pc_exchange.proofs.round.make_round.Goals.{in-Send+in_ok-last-in-Send+in-Some, in-Settled+in_ok-last-in-Settled+in-Some-2}
+
+later_is : (n a b : ℕ) → n ≡ ord_max nat_cmp a b → n ≡ max a b
+later_is n a b is = search rules
 
 pub new-machine-requires-clause-reader : goal.new-machine-requires-clause-reader
 new-machine-requires-clause-reader g c = reader_below c.args.desk.now c.args.pusher c.args.reading c.args.conflict c.args.reader c.requires
@@ -20,7 +24,7 @@ loop-init g c =
 pub loop-preserved : goal.loop-preserved
 loop-preserved g c = elim c.match-next-2.branch [
   | in-Send+in_ok-last-in-Send+in-Some w ↦
-      let last : w.max-heard.result ≡ max c.loop.heard w.in-Some.last = search rules in
+      let last = later_is w.max-heard.result c.loop.heard w.in-Some.last w.max-heard.ensures in
       let on = subst (λ o. IfSome o (λ stamp. IsRoundUnderWay c.args.desk.now c.args.pusher c.args.reading c.args.conflict c.args.reader w.push_on.new.machine w.push_on.new.desk (max c.loop.heard stamp))) w.in-Some.is
       (w.in_ok-last-in-Send.ensures.ok c.args.desk.now c.args.pusher c.args.reading c.args.conflict c.args.reader c.loop.heard c.loop.invariant.0
       (sends_asks c.loop.machine.progress c.loop.machine w.in-Send.request (sym c.in-Ok.ensures.due ∙ w.in-Send.is))) in
@@ -29,7 +33,7 @@ loop-preserved g c = elim c.match-next-2.branch [
         w.in_ok-last-in-Send.ensures.clock ∙ c.loop.invariant.1,
       )
   | in-Settled+in_ok-last-in-Settled+in-Some-2 w ↦
-      let last : w.max-heard-in-Some-2.result ≡ max c.loop.heard w.in-Some-2.last = search rules in
+      let last = later_is w.max-heard-in-Some-2.result c.loop.heard w.in-Some-2.last w.max-heard-in-Some-2.ensures in
       let on = subst (λ o. IfSome o (λ stamp. IsRoundUnderWay c.args.desk.now c.args.pusher c.args.reading c.args.conflict c.args.reader w.decide.new.machine w.decide.new.desk (max c.loop.heard stamp))) w.in-Some-2.is
       (w.in_ok-last-in-Settled.ensures.ok c.args.desk.now c.args.pusher c.args.reading c.args.conflict c.args.reader c.loop.heard c.loop.invariant.0 refl) in
       rw (w.desk-is, w.machine-is, w.heard-is) (
