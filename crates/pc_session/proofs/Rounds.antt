@@ -36,7 +36,7 @@ use Rattle.pc_session.specs.InCall.{HasGoneInside, HasOpenCall, IsApartNow, IsBe
 use Rattle.pc_session.specs.Session.{HasLeft, SessionMeaning, session_knows, waits_aside, jobs_spared}
 use Rattle.pc_wave.specs.declared.step.Step.TheVariants as steps
 use Rattle.pc_wave.specs.Messages.{step_of}
-use Rattle.pc_world.specs.Known.{Known, known_of, reading_in, call_in}
+use Rattle.pc_world.specs.Known.{Known, known_of, reading_in, call_in, call_of}
 use Rattle.pc_world.specs.Known.Traffic.{Heard, Sent, request_sent}
 use Rattle.pc_world.specs.Known.Transactions.{Txn}
 use Rattle.pc_world.specs.Tell.Refusal.{is_heard}
@@ -185,12 +185,12 @@ may_round old reading number conflict reader calls due met pusher pushes = recor
   session = old.coordinator.session;
   whose = any.one.whose;
   number = number;
-  met = subst (λ b. IsConflictNow (course_of b) (session_knows old) number conflict reader) (sym any.one.piped) m;
+  met = moved;
   pushes = pushes;
   read = ap reading_in any.opened;
   next = λ quiet. subst (λ b. IsNextRoundIn b (session_knows old) m.h) (sym any.one.piped) (next_in_turn old reading number conflict reader (calls.quiet quiet) due (met_quietly quiet));
   goes = λ quiet. subst (λ b. MayGoInCall b (session_knows old)) (sym any.one.piped) (free old reading number conflict reader (calls.quiet quiet) due (met_quietly quiet));
-  beaten = λ quiet. let first = (met_quietly quiet).beaten refl in record { none_due = first.none_due; heard = first.heard; alive = first.alive };
+  beaten = λ quiet. let first = subst (HasBeatenFirst (session_knows old)) same_txn_now ((met_quietly quiet).beaten refl) in record { none_due = first.none_due; heard = first.heard; alive = first.alive };
 }
   where
     any : HasCallOver true old reading
@@ -198,6 +198,13 @@ may_round old reading number conflict reader calls due met pusher pushes = recor
 
     m : IsConflictNow (setting_of true old.coordinator).course (session_knows old) number conflict reader
     m = met.0
+
+    -- the same, of the desk's course
+    moved : IsConflictNow (course_of old.desk.log.pipelining) (session_knows old) number conflict reader
+    moved = subst (λ b. IsConflictNow (course_of b) (session_knows old) number conflict reader) (sym any.one.piped) m
+
+    same_txn_now : m.t ≡ moved.t
+    same_txn_now = same_Some m.t moved.t (sym m.open_is ∙ moved.open_is)
 
     -- the same conflict, as one over a wire that loses nothing
     met_quietly : LosesNothing (verdict_of old.desk.log) → IsConflictNow (setting_of false old.coordinator).course (session_knows old) number conflict reader

@@ -1,5 +1,5 @@
 -- A session in its call once it sent the message that its coordinator gave, which goes with the next wave.
-use Rattle.std.proofs.Common.{◌≡◌, ℕ, ◌+◌, true, false, Bool, ◌==◌, ◌||◌, ◌&&◌, not, inl, inr, All, List, [], ◌∷◌, ◌++◌, Some, None, refl, sym, ap, subst, ◌∙◌, if◌then◌else◌, is_some, Option, ◌<◌, IsTrue}
+use Rattle.std.proofs.Common.{◌≡◌, ℕ, ◌+◌, true, false, Bool, ◌==◌, ◌||◌, ◌&&◌, not, inl, inr, All, List, [], ◌∷◌, ◌++◌, Some, None, refl, sym, ap, subst, ◌∙◌, if◌then◌else◌, is_some, Option, ◌<◌, IsTrue, ◌⊎◌}
 use Rattle.std.proofs.lemmas.Bool.{eq-eqb, eqb-true}
 use Rattle.std.proofs.lemmas.List.Elements.{All-cons, All-nil, All-push, All-weaker, All-contains, Contains-append_left}
 use Rattle.pc_base.specs.declared.actor.ActorId.TheVariants as actors
@@ -47,7 +47,7 @@ use Rattle.pc_session.specs.InCall.{HasAsideInCall, HasGoneInside, HasOpenCall, 
 use Rattle.pc_session.specs.InTurn.{KeepsTurn, WaitsForReplies}
 use Rattle.pc_session.specs.Session.{HasLeft, SessionMeaning, waits_aside, session_knows}
 use Rattle.pc_turns.specs.Order.{IsInBetween}
-use Rattle.pc_wave.specs.Messages.{first_changed, is_to_send, sent_under}
+use Rattle.pc_wave.specs.Messages.{first_changed, is_to_send, sent_under, is_in_conflict}
 use Rattle.std.specs.List.{list_any}
 use Rattle.pc_follows.specs.FinishingJobs.{jobs_of, without_first}
 use Rattle.pc_follows.specs.WaveOrder.{EndsPutWaves, EndsWaves}

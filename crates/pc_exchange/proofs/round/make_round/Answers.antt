@@ -33,7 +33,7 @@ loop-preserved g c = elim c.match-next-2.branch [
         w.in_ok-last-in-Send.ensures.clock ∙ c.loop.invariant.1,
       )
   | in-Settled+in_ok-last-in-Settled+in-Some-2 w ↦
-      let last = later_is w.max-heard-in-Some-2.result c.loop.heard w.in-Some-2.last w.max-heard-in-Some-2.ensures in
+      let last = later_is w.max-heard-in-Settled.result c.loop.heard w.in-Some-2.last w.max-heard-in-Settled.ensures in
       let on = subst (λ o. IfSome o (λ stamp. IsRoundUnderWay c.args.desk.now c.args.pusher c.args.reading c.args.conflict c.args.reader w.decide.new.machine w.decide.new.desk (max c.loop.heard stamp))) w.in-Some-2.is
       (w.in_ok-last-in-Settled.ensures.ok c.args.desk.now c.args.pusher c.args.reading c.args.conflict c.args.reader c.loop.heard c.loop.invariant.0 refl) in
       rw (w.desk-is, w.machine-is, w.heard-is) (

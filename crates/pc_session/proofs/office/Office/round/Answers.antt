@@ -1,4 +1,4 @@
-use Rattle.std.proofs.Common.{◌≡◌, List, Option, sym, ap, subst, All, ◌∙◌}
+use Rattle.std.proofs.Common.{◌≡◌, List, Option, sym, ap, subst, All, ◌∙◌, true}
 use Rattle.pc_base.specs.declared.transaction.TxnId.{TxnId}
 use Rattle.pc_coord.specs.declared.job.Job.{Job}
 use Rattle.pc_proto.specs.Replies.{holder_in}
@@ -30,7 +30,7 @@ returns-in-Ok-clause-ok g c =
     let met = subst (λ s. MayComeNow s (nexts.Conflict n c.args.conflict c.args.reader)) (sym c.self.view_is) c.requires.may in
     let made = c.in_ok-round in
     let e = c.in-Ok.ensures in
-    let spared = c.spare_jobs.ensures ∙ ap (λ (h : Option TxnId). jobs_spared made.round h c.self.inside.jobs.items) c.holder.ensures in (
+    let spared = c.spare_jobs.ensures ∙ ap (λ (h : Option TxnId). jobs_spared made.round h c.self.inside.jobs.items) c.holder-holder.ensures in (
       subst (λ (js : List Job). HasOpenCall (record { desk = c.make_round.new.desk; coordinator = c.settled.new.self; jobs = js }) c.args.reading) (sym spared)
           (rounds_open _ c.args.reading n c.args.conflict c.args.reader calls due met c.make_round.new.desk c.raise.new.self c.settled.new.self made.round made.ts made.ensures.ok c.raise.ensures e.knows e.quiet e.left e.session e.splits e.pipelines
           (e.waits c.args.conflict c.args.reader (ap next_of c.raise.ensures ∙ due)) ? e.comes),
