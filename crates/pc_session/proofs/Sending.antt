@@ -3,6 +3,7 @@ use Rattle.std.proofs.Common.{◌≡◌, ℕ, ◌+◌, true, false, Bool, ◌==�
 use Rattle.std.proofs.lemmas.Bool.{eq-eqb, eqb-true}
 use Rattle.std.proofs.lemmas.List.Elements.{All-cons, All-nil, All-push, All-weaker, All-contains, Contains-append_left}
 use Rattle.pc_base.specs.declared.actor.ActorId.TheVariants as actors
+use Rattle.pc_call.specs.declared.call.OpenCall.{OpenCall}
 use Rattle.pc_call.specs.Outbox.{has_waited}
 use Rattle.pc_call.specs.Sending.{IsSendable}
 use Rattle.pc_coord.proofs.OwnMessages.{next_alone}
@@ -268,7 +269,7 @@ module _ {C : Type 0} {loses : Bool} (old : SessionMeaning C) (reading : ℕ) (r
       outside_then : is_outside calls.call ≡ true → now.is_open ≡ false
       outside_then = λ outside. open_then ∙ calls.outside outside
 
-      waits_then : (n : ℕ) → has_waited n c.later ≡ true → (waits_aside n d ≡ true) ⊎ (call_of now ≡ Some calls_variants.Rollback)
+      waits_then : (n : ℕ) → has_waited n c.later ≡ true → (waits_aside n d ≡ true) ⊎ (call_of now ≡ Some call_variants.Rollback)
       waits_then n waiting = elim (calls.waits n (ap (has_waited n) (sym kept) ∙ waiting)) [
         | inl aside ↦ inl (aside_same n ∙ aside)
         | inr rolls ↦ inr (ap call_of known_is ∙ rolls)

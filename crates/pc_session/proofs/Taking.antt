@@ -45,5 +45,5 @@ module _ {C : Type 0} (s : SessionMeaning C) (d : DeskMeaning C) (number : ℕ) 
   pub taken_fewer : length s.desk.replies + length s.desk.lost ≡ length d.replies + length d.lost + 1
   taken_fewer =
       let replies : length d.replies ≡ length s.desk.replies = ap (λ (x : DeskMeaning C). length x.replies) taken.rest in
-      let lost : length s.desk.lost ≡ 1 + length d.lost = ap (λ (ns : List ℕ). length ns) taken.first in
+      let lost = ap (λ (ns : List ℕ). length ns) taken.first in
       omega (arith, replies, lost)

@@ -35,7 +35,7 @@ returns-in-Ok-clause-ok g c =
           (rounds_open _ c.args.reading n c.args.conflict c.args.reader calls due met c.make_round.new.desk c.raise.new.self c.settled.new.self made.round made.ts made.ensures.ok c.raise.ensures e.knows e.quiet e.left e.session e.splits e.pipelines
           (e.waits c.args.conflict c.args.reader (ap next_of c.raise.ensures ∙ due)) ? e.comes),
       inside_from _ c.args.self.now _ c.self.view_is
-          (subst (λ (js : List Job). HasGoneInside _ (record { desk = c.make_round.new.desk; coordinator = c.settled.new.self; jobs = js })) (sym spared)
+          (subst (λ (js : List Job). HasGoneInside (record { desk = c.self.inside.desk; coordinator = c.self.inside.coordinator; jobs = c.self.inside.jobs.items }) (record { desk = c.make_round.new.desk; coordinator = c.settled.new.self; jobs = js })) (sym spared)
           (rounds_goes _ c.args.reading n c.args.conflict c.args.reader calls due met c.make_round.new.desk c.raise.new.self c.settled.new.self made.round made.ts made.ensures.ok c.raise.ensures e.session)),
       rounds_between _ c.args.reading n c.args.conflict c.args.reader calls due met c.make_round.new.desk c.raise.new.self c.settled.new.self made.round made.ts made.ensures.ok c.raise.ensures,
     )
