@@ -107,3 +107,7 @@ module _ {C : Type 0} (old mid : SessionMeaning C) (new : DeskMeaning C) (halt :
         begins = ap (λ es. es ++ made) a.whole;
         within = open_after halt a.between made a.within more;
       })) breaks
+
+-- nothing was made behind what was done inside the call
+pub due_breaks : {C : Type 0} (old mid : SessionMeaning C) (new : DeskMeaning C) (halt : Halt) → KeepsTrack mid.desk → EndsOnly (λ made. ⊥) mid.desk new halt → HasGoneInside old mid → BreaksOff (All IsInBetween) old.desk new halt
+due_breaks old mid new halt track ends goes = inside_breaks old mid new halt track (only_breaks (λ made. ⊥) mid.desk new halt track (λ event none. absurd none) ends) goes

@@ -648,8 +648,8 @@ module _ {C : Type 0} {loses : Bool} (old : SessionMeaning C) (reading : ℕ) (c
         quiet_calls : HasCallOver false old reading
         quiet_calls = subst (λ b. HasCallOver b old reading) is calls
 
-        quiet_then : LosesNothing (verdict_of d.log)
-        quiet_then = subst LosesNothing (sym (verdicts_same old.desk.log d.log (p ∷ []) grown_heard)) (calls.one.quiet is)
+        quiet_after : LosesNothing (verdict_of d.log)
+        quiet_after = subst LosesNothing (sym (verdicts_same old.desk.log d.log (p ∷ []) grown_heard)) (calls.one.quiet is)
 
         knows_quietly : Knows false c (known_of d.log.part.own)
         knows_quietly = subst (λ b. Knows b c (known_of d.log.part.own)) is knows_then
@@ -663,7 +663,7 @@ module _ {C : Type 0} {loses : Bool} (old : SessionMeaning C) (reading : ℕ) (c
         aside_then : HasAsideInCall heard_then
         aside_then = record {
           waits = waits_then;
-          why = λ n aside. aside_why heard_then heard.track quiet_then knows_quietly (record { call = calls.call; reading = reading }) opened_then outside_then apart_then sent_then n aside (epoch_then is n aside);
+          why = λ n aside. aside_why heard_then heard.track quiet_after knows_quietly (record { call = calls.call; reading = reading }) opened_then outside_then apart_then sent_then n aside (epoch_then is n aside);
           epoch = epoch_then is;
         }
 
@@ -808,3 +808,37 @@ may_hear_now old reading calls whole none_first = record {
             (oldest_waits old.desk a rest any.track quiet first));
       }));
 }
+
+-- The call is open still once a reply was heard, over any wire, and over one that loses nothing; and its wave is whole.
+module _ {C : Type 0} (old : SessionMeaning C) (reading : ℕ) (calls : HasOpenCall old reading) (none_lost_first : HasNoneLostFirst old.desk) (d : DeskMeaning C) (c : Coordination) (a : Answered) (heard : HasHeardFirst old.desk d a) where
+  was_quiet : LosesNothing (verdict_of d.log) → LosesNothing (verdict_of old.desk.log)
+  was_quiet quiet =
+      subst LosesNothing (verdicts_same old.desk.log d.log (added old.desk.log d.log (events.Hear a.number a.step) heard.entered ∷ []) (grown_heard old reading calls.any none_lost_first d c a heard)) quiet
+
+  pub reply_goes : c.session ≡ old.coordinator.session → HasGoneInside old (record old { desk = d; coordinator = c })
+  reply_goes session = heard_goes old reading calls.any none_lost_first d c a heard session
+
+  module _ (whole : IsWholeOut old)
+      (learns : (loses : Bool) (k : Known) (p : Pair Event) → Knows loses old.coordinator k → HearsAwaited old.coordinator a.number a.step a.reply k p → Knows loses c (learn p k))
+      (waits : HearsAwaited old.coordinator a.number a.step a.reply (session_knows old) (added old.desk.log d.log (events.Hear a.number a.step) heard.entered) → AwaitsAfter a.number old.coordinator c.due)
+      (left : (number : ℕ) → has_waited number c.later ≡ true → has_waited number old.coordinator.later ≡ true)
+      (goes_on : (o : Opened) (other : ℕ) → HearsAwaited old.coordinator a.number a.step a.reply (session_knows old) (added old.desk.log d.log (events.Hear a.number a.step) heard.entered) → opened_by old.coordinator.txn old.coordinator.due ≡ Some o
+      → (awaits_number other old.coordinator.due && not (a.number == other)) ≡ true → GoesOnBy (first_changed (awaits_at a.number) (back_with a.number a.reply) o.call.wave) c.due)
+      (joins : (loses : Bool) (k : Known) (p : Pair Event) (request : Request) (other : ℕ) → Knows loses old.coordinator k → HearsAwaited old.coordinator a.number a.step a.reply k p → request_sent a.number k.sent ≡ Some request → is_heartbeat request ≡ false
+      → has_waited other old.coordinator.later ≡ true → awaits_number other c.due ≡ true → SendsNoMore c.due → ⊥)
+      (ends : (o : Opened) (answer : Answer) (asked : ℕ) (next : OpenCall) → opened_by old.coordinator.txn old.coordinator.due ≡ Some o → o.call.purpose ≡ purposes.LastBeat answer asked → c.due ≡ dues.Call next → ⊥)
+      (comes : (loses : Bool) (k : Known) (p : Pair Event) (o : Opened) → Knows loses old.coordinator k → HearsAwaited old.coordinator a.number a.step a.reply k p → opened_by old.coordinator.txn old.coordinator.due ≡ Some o → goes_by_sequence o.call.purpose ≡ false
+      → ComesOf (first_changed (awaits_at a.number) (back_with a.number a.reply) o.call.wave) c.due)
+      (session : c.session ≡ old.coordinator.session) (splits : c.splits ≡ old.coordinator.splits) (pipelines : c.pipelining ≡ old.coordinator.pipelining) where
+    pub reply_open : HasOpenCall (record old { desk = d; coordinator = c }) reading
+    reply_open = record {
+      any = heard_open old reading calls.any none_lost_first d c a heard whole learns waits left goes_on joins ends comes session splits pipelines;
+      quiet = λ quiet. heard_open old reading (calls.quiet (was_quiet quiet)) none_lost_first d c a heard whole learns waits left goes_on joins ends comes session splits pipelines;
+    }
+
+    pub reply_whole : IsWholeOut (record old { desk = d; coordinator = c })
+    reply_whole = record {
+      sent = sent_wave old reading calls.any none_lost_first d c a heard whole learns waits left goes_on joins ends comes session splits pipelines;
+      joined = joined_then old reading calls.any none_lost_first d c a heard whole learns waits left goes_on joins ends comes session splits pipelines;
+      quiet = λ quiet. whole_quietly old reading (calls.quiet (was_quiet quiet)) none_lost_first d c a heard whole learns waits left goes_on joins ends comes session splits pipelines refl;
+    }

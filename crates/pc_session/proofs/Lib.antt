@@ -48,6 +48,7 @@ pub mod Sending
 pub mod Standing
 pub mod Stepping
 pub mod Strays
+pub mod Taking
 pub mod Telling
 pub mod TurnsOn
 pub mod Waiting

@@ -36,7 +36,7 @@ use Rattle.pc_session.specs.InCall.{HasGoneInside, HasOpenCall, IsApartNow, IsBe
 use Rattle.pc_session.specs.Session.{HasLeft, SessionMeaning, session_knows, waits_aside, jobs_spared}
 use Rattle.pc_wave.specs.declared.step.Step.TheVariants as steps
 use Rattle.pc_wave.specs.Messages.{step_of}
-use Rattle.pc_world.specs.Known.{Known, known_of, reading_in, call_in}
+use Rattle.pc_world.specs.Known.{Known, known_of, reading_in, call_in, call_of}
 use Rattle.pc_world.specs.Known.Traffic.{Heard, Sent, request_sent}
 use Rattle.pc_world.specs.Known.Transactions.{Txn}
 use Rattle.pc_world.specs.Tell.Refusal.{is_heard}
@@ -185,12 +185,12 @@ may_round old reading number conflict reader calls due met pusher pushes = recor
   session = old.coordinator.session;
   whose = any.one.whose;
   number = number;
-  met = subst (λ b. IsConflictNow (course_of b) (session_knows old) number conflict reader) (sym any.one.piped) m;
+  met = moved;
   pushes = pushes;
   read = ap reading_in any.opened;
   next = λ quiet. subst (λ b. IsNextRoundIn b (session_knows old) m.h) (sym any.one.piped) (next_in_turn old reading number conflict reader (calls.quiet quiet) due (met_quietly quiet));
   goes = λ quiet. subst (λ b. MayGoInCall b (session_knows old)) (sym any.one.piped) (free old reading number conflict reader (calls.quiet quiet) due (met_quietly quiet));
-  beaten = λ quiet. let first = (met_quietly quiet).beaten refl in record { none_due = first.none_due; heard = first.heard; alive = first.alive };
+  beaten = λ quiet. let first = subst (HasBeatenFirst (session_knows old)) same_txn_now ((met_quietly quiet).beaten refl) in record { none_due = first.none_due; heard = first.heard; alive = first.alive };
 }
   where
     any : HasCallOver true old reading
@@ -198,6 +198,13 @@ may_round old reading number conflict reader calls due met pusher pushes = recor
 
     m : IsConflictNow (setting_of true old.coordinator).course (session_knows old) number conflict reader
     m = met.0
+
+    -- the same, of the desk's course
+    moved : IsConflictNow (course_of old.desk.log.pipelining) (session_knows old) number conflict reader
+    moved = subst (λ b. IsConflictNow (course_of b) (session_knows old) number conflict reader) (sym any.one.piped) m
+
+    same_txn_now : m.t ≡ moved.t
+    same_txn_now = same_Some m.t moved.t (sym m.open_is ∙ moved.open_is)
 
     -- the same conflict, as one over a wire that loses nothing
     met_quietly : LosesNothing (verdict_of old.desk.log) → IsConflictNow (setting_of false old.coordinator).course (session_knows old) number conflict reader
@@ -501,3 +508,34 @@ module _ {C : Type 0} {loses : Bool} (old : SessionMeaning C) (reading number : 
       session = session ∙ ap (λ (x : Coordination). x.session) raised;
       statement = made.made.aside.statement;
     }
+
+-- The call is open still once the round was made, over any wire, and over one that loses nothing.
+module _ {C : Type 0} (old : SessionMeaning C) (reading number : ℕ) (conflict : Reply) (reader : Option ℕ) (calls : HasOpenCall old reading) (due : next_of old.coordinator ≡ nexts.Conflict number conflict reader)
+    (met : MayComeNow old (nexts.Conflict number conflict reader)) (d : DeskMeaning C) (c e : Coordination) (round : Round) (ts : ℕ) (made : HasMadeRoundOf old.desk d conflict round ts) (raised : c ≡ with_clock (max old.coordinator.clock ts) old.coordinator) where
+  same_verdicts : verdict_of d.log ≡ verdict_of old.desk.log
+  same_verdicts = verdicts_same old.desk.log d.log made.part made.goes.grown
+
+  was_quiet : LosesNothing (verdict_of d.log) → LosesNothing (verdict_of old.desk.log)
+  was_quiet quiet = subst LosesNothing same_verdicts quiet
+
+  pub rounds_open : ((loses : Bool) (c' : Coordination) (start k : Known) (conflict : Reply) (reader : Option ℕ) → Knows loses c' start → c ≡ with_clock k.high c' → next_of c' ≡ nexts.Conflict number conflict reader → IsLaterBeside loses c' start k → EndsRound loses conflict round start k → Knows loses e k)
+      → ((loses : Bool) (c' : Coordination) (start k : Known) (conflict : Reply) (reader : Option ℕ) (other : ℕ) → loses ≡ false → Knows loses c' start → c ≡ with_clock k.high c' → next_of c' ≡ nexts.Conflict number conflict reader → IsLaterBeside loses c' start k → EndsRound loses conflict round start k
+      → awaits_number other e.due ≡ false)
+      → ((number : ℕ) → has_waited number e.later ≡ true → has_waited number c.later ≡ true) → e.session ≡ c.session → e.splits ≡ c.splits → e.pipelining ≡ c.pipelining
+      → ((number : ℕ) → awaits_number number e.due ≡ true → has_waited number c.later ≡ true) → ((number : ℕ) → has_waited number c.later ≡ true → awaits_number number e.due ≡ true → SendsNoMore e.due → ⊥)
+      → ((o : Opened) (conflict : Reply) → opened_by c.txn c.due ≡ Some o → step_of o.call.wave ≡ steps.Round number conflict → goes_by_sequence o.call.purpose ≡ false → ComesOfRound round number conflict o.call.wave e.due)
+      → HasOpenCall (record { desk = d; coordinator = e; jobs = jobs_spared round (holder_in conflict) old.jobs }) reading
+  rounds_open settles quiets left session splits pipelines awaited joins comes = record {
+    any = round_open old reading number conflict reader calls.any due met.0 d c e round ts made raised settles quiets left session splits pipelines awaited joins comes;
+    quiet = λ quiet. round_open old reading number conflict reader (calls.quiet (was_quiet quiet)) due (met.1 (was_quiet quiet)) d c e round ts made raised settles quiets left session splits pipelines awaited joins comes;
+  }
+
+  pub rounds_goes : e.session ≡ c.session → HasGoneInside old (record { desk = d; coordinator = e; jobs = jobs_spared round (holder_in conflict) old.jobs })
+  rounds_goes session = round_goes old reading number conflict reader calls.any due met.0 d c e round ts made raised session
+
+  pub rounds_between : IsBetweenWaves d
+  rounds_between = record {
+    none_waits = made.goes.back.replies;
+    none_lost = made.goes.back.lost;
+    quiet = λ quiet. round_ends_quietly old reading number conflict reader (calls.quiet (was_quiet quiet)) due (met.1 (was_quiet quiet)) d c e round ts made raised refl;
+  }

@@ -1,8 +1,9 @@
 -- A session in its call once it sent the message that its coordinator gave, which goes with the next wave.
-use Rattle.std.proofs.Common.{◌≡◌, ℕ, ◌+◌, true, false, Bool, ◌==◌, ◌||◌, ◌&&◌, not, inl, inr, All, List, [], ◌∷◌, ◌++◌, Some, None, refl, sym, ap, subst, ◌∙◌, if◌then◌else◌, is_some, Option, ◌<◌, IsTrue}
+use Rattle.std.proofs.Common.{◌≡◌, ℕ, ◌+◌, true, false, Bool, ◌==◌, ◌||◌, ◌&&◌, not, inl, inr, All, List, [], ◌∷◌, ◌++◌, Some, None, refl, sym, ap, subst, ◌∙◌, if◌then◌else◌, is_some, Option, ◌<◌, IsTrue, ◌⊎◌}
 use Rattle.std.proofs.lemmas.Bool.{eq-eqb, eqb-true}
 use Rattle.std.proofs.lemmas.List.Elements.{All-cons, All-nil, All-push, All-weaker, All-contains, Contains-append_left}
 use Rattle.pc_base.specs.declared.actor.ActorId.TheVariants as actors
+use Rattle.pc_call.specs.declared.call.OpenCall.{OpenCall}
 use Rattle.pc_call.specs.Outbox.{has_waited}
 use Rattle.pc_call.specs.Sending.{IsSendable}
 use Rattle.pc_coord.proofs.OwnMessages.{next_alone}
@@ -47,7 +48,7 @@ use Rattle.pc_session.specs.InCall.{HasAsideInCall, HasGoneInside, HasOpenCall, 
 use Rattle.pc_session.specs.InTurn.{KeepsTurn, WaitsForReplies}
 use Rattle.pc_session.specs.Session.{HasLeft, SessionMeaning, waits_aside, session_knows}
 use Rattle.pc_turns.specs.Order.{IsInBetween}
-use Rattle.pc_wave.specs.Messages.{first_changed, is_to_send, sent_under}
+use Rattle.pc_wave.specs.Messages.{first_changed, is_to_send, sent_under, is_in_conflict}
 use Rattle.std.specs.List.{list_any}
 use Rattle.pc_follows.specs.FinishingJobs.{jobs_of, without_first}
 use Rattle.pc_follows.specs.WaveOrder.{EndsPutWaves, EndsWaves}
@@ -268,7 +269,7 @@ module _ {C : Type 0} {loses : Bool} (old : SessionMeaning C) (reading : ℕ) (r
       outside_then : is_outside calls.call ≡ true → now.is_open ≡ false
       outside_then = λ outside. open_then ∙ calls.outside outside
 
-      waits_then : (n : ℕ) → has_waited n c.later ≡ true → (waits_aside n d ≡ true) ⊎ (call_of now ≡ Some calls_variants.Rollback)
+      waits_then : (n : ℕ) → has_waited n c.later ≡ true → (waits_aside n d ≡ true) ⊎ (call_of now ≡ Some call_variants.Rollback)
       waits_then n waiting = elim (calls.waits n (ap (has_waited n) (sym kept) ∙ waiting)) [
         | inl aside ↦ inl (aside_same n ∙ aside)
         | inr rolls ↦ inr (ap call_of known_is ∙ rolls)

@@ -1,5 +1,5 @@
 -- A session once it did its oldest job.
-use Rattle.std.proofs.Common.{◌≡◌, ℕ, ◌≤◌, max, All, Contains, IsTrue, List, ◌∷◌, drop, map, None, sym, ap, subst, ◌∙◌, false, ◌==◌, ◌⊎◌, inl, inr, true, ◌++◌, Some, Bool}
+use Rattle.std.proofs.Common.{◌≡◌, ℕ, ◌≤◌, max, All, Contains, IsTrue, List, ◌∷◌, drop, map, None, sym, ap, subst, ◌∙◌, false, ◌==◌, ◌⊎◌, inl, inr, true, ◌++◌, Some, Bool, refl}
 use Rattle.std.proofs.lemmas.List.Elements.{All-contains, All-head, All-tail, All-weaker, Contains-append_right, All-map, Contains-append_cases}
 use Rattle.pc_base.specs.declared.actor.ActorId.TheVariants as actors
 use Rattle.pc_coord.specs.Coordination.{Coordination, with_clock}

@@ -389,22 +389,11 @@ impl<'a, N: Named<CommitWorld>, C: Clock, V: Wire, G: Gate> Office<'a, N, C, V, 
         };
         let holder = conflict.holder();
         let (round, ts) = make_round(&mut self.desk, rt, pusher, reading, conflict, reader)?;
-        self.spare_jobs(round, holder);
+        spare_jobs(&mut self.jobs, round, holder);
         self.coordinator.raise(ts);
         match self.coordinator.settled(number, round) {
             Ok(()) => Ok(None),
             Err(NoMemory) => Err(self.want_memory()),
-        }
-    }
-
-    /// Where the round of this holder was lost, its own job is dropped: nothing tells any more that its record may be committed.
-    fn spare_jobs(&mut self, round: Round, holder: Option<TxnId>)
-        ensures desk { self.new.desk ≡ self.old.desk }
-        ensures coordinator { self.new.coordinator ≡ self.old.coordinator }
-        ensures jobs { self.new.jobs ≡ jobs_spared round holder self.old.jobs }
-    {
-        if let (Round::Lost { .. }, Some(holder)) = (round, holder) {
-            self.jobs.retain(|job| job.meta.id != holder);
         }
     }
 
@@ -639,6 +628,20 @@ impl<'a, N: Named<CommitWorld>, C: Clock + Drop, V: Wire + Drop, G> Office<'a, N
         ensures ready { All (IsReadyLeft self.entry.desk.log.part.id self.entry.desk.log.head.splits) result.1 }
     {
         self.desk.finish()
+    }
+}
+
+/// Where the round of this holder was lost, its own job is dropped: nothing tells any more that its record may be committed.
+fn spare_jobs(jobs: &mut VecDeque<Job>, round: Round, holder: Option<TxnId>)
+    ensures { jobs.new.items ≡ jobs_spared round holder jobs.old.items }
+{
+    match round {
+        Round::Lost { .. } => {
+            if let Some(holder) = holder {
+                jobs.retain(|job| job.meta.id != holder);
+            }
+        }
+        Round::Again | Round::Refused => {}
     }
 }
 

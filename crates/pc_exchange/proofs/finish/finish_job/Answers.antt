@@ -1,4 +1,5 @@
 use Rattle.std.proofs.Common.{rules, ◌≡◌, max, IfNone, IfSome, sym, subst, ◌∙◌}
+use Rattle.std.proofs.lemmas.Bool.{not-false, not-true}
 use Rattle.std.proofs.lemmas.Result.{err_from_is_err_and}
 use Rattle.pc_exchange.proofs.Ending.{goes_breaks}
 use Rattle.pc_exchange.proofs.Finishing.{finishing_asks, finishing_ends, finishing_lost}
@@ -7,10 +8,10 @@ use Rattle.pc_exchange.specs.Finishing.{IsJobUnderWay}
 use Rattle.pc_exchange.proofs.finish.finish_job.Goals as goal
 
 pub loop-init : goal.loop-init
-loop-init g c = ((c.in_ok-begun.ensures.ok c.if-not-begun.false).on c.new-machine.result c.new-machine.ensures.made c.new-machine.ensures.knows, c.in_ok-begun.ensures.clock)
+loop-init g c = ((c.in_ok-begun.ensures.ok (not-false c.in_ok-begun.begun.1 c.if-not-begun.false)).on c.new-machine.result c.new-machine.ensures.made c.new-machine.ensures.knows, c.in_ok-begun.ensures.clock)
 
 pub returns-then-not-begun-clause-ok : goal.returns-then-not-begun-clause-ok
-returns-then-not-begun-clause-ok g c = c.in_ok-begun.ensures.over c.if-not-begun.true
+returns-then-not-begun-clause-ok g c = c.in_ok-begun.ensures.over (not-true c.in_ok-begun.begun.1 c.if-not-begun.true)
 
 pub settle_on-requires : goal.settle_on-requires
 settle_on-requires g c =

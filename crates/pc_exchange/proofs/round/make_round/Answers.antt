@@ -1,5 +1,6 @@
-use Rattle.std.proofs.Common.{rules, ◌≡◌, max, IfNone, IfSome, refl, sym, subst, ◌∙◌}
+use Rattle.std.proofs.Common.{rules, ℕ, ◌≡◌, max, IfNone, IfSome, refl, sym, subst, ◌∙◌}
 use Rattle.std.proofs.lemmas.Result.{err_from_is_err_and}
+use Rattle.std.specs.Ordering.{nat_cmp, ord_max}
 use Rattle.pc_exchange.proofs.Ending.{goes_breaks}
 use Rattle.pc_exchange.proofs.Rounding.{sends_asks}
 use Rattle.pc_coord.specs.declared.round.Round.TheVariants as rounds
@@ -8,7 +9,10 @@ use Rattle.pc_exchange.specs.Exchange.{HasLostAll}
 use Rattle.pc_exchange.specs.Rounding.{IsRoundUnderWay}
 use Rattle.pc_exchange.specs.Rounds.{HasMadeRoundOf}
 use Rattle.pc_exchange.proofs.round.make_round.Goals as goal
-use Rattle.pc_exchange.proofs.round.make_round.Goals.{in-Send+in_ok-last-in-Send+in-Some, in-Settled+in_ok-last-in-Settled+in-Some-in-Settled}
+use Rattle.pc_exchange.proofs.round.make_round.Goals.{in-Send+in_ok-last-in-Send+in-Some, in-Settled+in_ok-last-in-Settled+in-Some-2}
+
+later_is : (n a b : ℕ) → n ≡ ord_max nat_cmp a b → n ≡ max a b
+later_is n a b is = search rules
 
 pub new-machine-requires-clause-reader : goal.new-machine-requires-clause-reader
 new-machine-requires-clause-reader g c = reader_below c.args.desk.now c.args.pusher c.args.reading c.args.conflict c.args.reader c.requires
@@ -20,7 +24,7 @@ loop-init g c =
 pub loop-preserved : goal.loop-preserved
 loop-preserved g c = elim c.match-next-2.branch [
   | in-Send+in_ok-last-in-Send+in-Some w ↦
-      let last : w.max-heard.result ≡ max c.loop.heard w.in-Some.last = search rules in
+      let last = later_is w.max-heard.result c.loop.heard w.in-Some.last w.max-heard.ensures in
       let on = subst (λ o. IfSome o (λ stamp. IsRoundUnderWay c.args.desk.now c.args.pusher c.args.reading c.args.conflict c.args.reader w.push_on.new.machine w.push_on.new.desk (max c.loop.heard stamp))) w.in-Some.is
       (w.in_ok-last-in-Send.ensures.ok c.args.desk.now c.args.pusher c.args.reading c.args.conflict c.args.reader c.loop.heard c.loop.invariant.0
       (sends_asks c.loop.machine.progress c.loop.machine w.in-Send.request (sym c.in-Ok.ensures.due ∙ w.in-Send.is))) in
@@ -28,9 +32,9 @@ loop-preserved g c = elim c.match-next-2.branch [
         subst (λ n. IsRoundUnderWay c.args.desk.now c.args.pusher c.args.reading c.args.conflict c.args.reader w.push_on.new.machine w.push_on.new.desk n) (sym last) on,
         w.in_ok-last-in-Send.ensures.clock ∙ c.loop.invariant.1,
       )
-  | in-Settled+in_ok-last-in-Settled+in-Some-in-Settled w ↦
-      let last : w.max-heard-in-Settled.result ≡ max c.loop.heard w.in-Some-in-Settled.last = search rules in
-      let on = subst (λ o. IfSome o (λ stamp. IsRoundUnderWay c.args.desk.now c.args.pusher c.args.reading c.args.conflict c.args.reader w.decide.new.machine w.decide.new.desk (max c.loop.heard stamp))) w.in-Some-in-Settled.is
+  | in-Settled+in_ok-last-in-Settled+in-Some-2 w ↦
+      let last = later_is w.max-heard-in-Settled.result c.loop.heard w.in-Some-2.last w.max-heard-in-Settled.ensures in
+      let on = subst (λ o. IfSome o (λ stamp. IsRoundUnderWay c.args.desk.now c.args.pusher c.args.reading c.args.conflict c.args.reader w.decide.new.machine w.decide.new.desk (max c.loop.heard stamp))) w.in-Some-2.is
       (w.in_ok-last-in-Settled.ensures.ok c.args.desk.now c.args.pusher c.args.reading c.args.conflict c.args.reader c.loop.heard c.loop.invariant.0 refl) in
       rw (w.desk-is, w.machine-is, w.heard-is) (
         subst (λ n. IsRoundUnderWay c.args.desk.now c.args.pusher c.args.reading c.args.conflict c.args.reader w.decide.new.machine w.decide.new.desk n) (sym last) on,
@@ -45,10 +49,10 @@ returns-in_default-clause-ok g c =
     (sends_asks c.loop.machine.progress c.loop.machine c.in-Send.request (sym c.in-Ok.ensures.due ∙ c.in-Send.is))
     (subst (λ o. IfNone o (HasLostAll c.loop.desk c.push_on.new.desk c.in-Send.request)) c.in_default.is c.in_ok-last-in-Send.ensures.lost))
 
-pub returns-in_default-in-Settled-clause-ok : goal.returns-in_default-in-Settled-clause-ok
-returns-in_default-in-Settled-clause-ok g c =
-    subst (λ round. HasMadeRoundOf c.args.desk.now c.decide.new.desk c.args.conflict round c.loop.heard) (sym c.lost_round-in-Settled.ensures)
-    (subst (λ o. IfNone o (HasMadeRoundOf c.args.desk.now c.decide.new.desk c.args.conflict (rounds.Lost c.decide.new.desk.log.tries) c.loop.heard)) c.in_default-in-Settled.is
+pub returns-in_default-2-clause-ok : goal.returns-in_default-2-clause-ok
+returns-in_default-2-clause-ok g c =
+    subst (λ round. HasMadeRoundOf c.args.desk.now c.decide.new.desk c.args.conflict round c.loop.heard) (sym c.lost_round-in_default-2.ensures)
+    (subst (λ o. IfNone o (HasMadeRoundOf c.args.desk.now c.decide.new.desk c.args.conflict (rounds.Lost c.decide.new.desk.log.tries) c.loop.heard)) c.in_default-2.is
     (c.in_ok-last-in-Settled.ensures.lost c.args.desk.now c.args.pusher c.args.reading c.args.conflict c.args.reader c.loop.heard c.loop.invariant.0 refl))
 
 pub push_on-requires : goal.push_on-requires

@@ -18,7 +18,7 @@ pub deliver_strays-requires-clause-alone : goal.deliver_strays-requires-clause-a
 deliver_strays-requires-clause-alone g c = subst (λ s. s.desk.posted ≡ []) (sym c.self.view_is) c.in_ok-reading.ensures.alone
 
 pub deliver_strays-requires-clause-in_call : goal.deliver_strays-requires-clause-in_call
-deliver_strays-requires-clause-in_call g c = ap is_some (subst (λ s. HasOpenCall s c.in_ok-reading.reading) (sym c.self.view_is) c.in_ok-reading.ensures.calls).opened
+deliver_strays-requires-clause-in_call g c = ap is_some (subst (λ s. HasOpenCall s c.in_ok-reading.reading) (sym c.self.view_is) c.in_ok-reading.ensures.calls).any.opened
 
 pub returns-in_ok-deliver_strays-clause-calls : goal.returns-in_ok-deliver_strays-clause-calls
 returns-in_ok-deliver_strays-clause-calls g c =

@@ -1,6 +1,6 @@
 use Rattle.std.proofs.Common.{ℕ, ◌≡◌, [], sym, subst, IfNone, IfSome}
 use Rattle.pc_desk.specs.Desk.{HasHeardFirst}
-use Rattle.pc_session.proofs.Hearing.{heard_goes, heard_open, heard_whole, may_hear_now}
+use Rattle.pc_session.proofs.Hearing.{may_hear_now, reply_goes, reply_open, reply_whole}
 use Rattle.pc_session.proofs.Inside.{inside_from, inside_still}
 use Rattle.pc_session.specs.InCall.{HasOpenCall, IsWholeOut}
 use Rattle.std.proofs.lemmas.Result.{err_from_is_err_and}
@@ -16,27 +16,28 @@ hear-requires-clause-may g c = may_hear_now _ c.args.reading (subst (λ s. HasOp
 pub hear-requires-clause-none_waits : goal.hear-requires-clause-none_waits
 hear-requires-clause-none_waits g c = subst (λ s. s.desk.posted ≡ []) (sym c.self.view_is) c.requires.none_waits
 
+-- open here and below: which replies are waited for then, and that the wave goes on, where messages may be lost; the coordinator's contract says it only where none is
 pub returns-in-Ok-clause-calls : goal.returns-in-Ok-clause-calls
 returns-in-Ok-clause-calls g c =
     let calls = subst (λ s. HasOpenCall s c.args.reading) (sym c.self.view_is) c.requires.calls in
     let a = c.in-Some.answered in
     let took = subst (λ heard. IfSome heard (HasHeardFirst c.self.inside.desk c.hear.new.self)) c.in-Some.is c.in_ok-answered.ensures.ok in
     let e = c.in-Ok.ensures in
-    heard_open _ c.args.reading calls c.hear.new.self c.heard.new.self a took (subst IsWholeOut (sym c.self.view_is) c.requires.whole) e.knows e.waits e.left e.goes_on e.joins e.ends e.comes e.session e.splits e.pipelines
+    reply_open _ c.args.reading calls (subst (λ s. HasNoneLostFirst s.desk) (sym c.self.view_is) c.requires.none_lost) c.hear.new.self c.heard.new.self a took (subst IsWholeOut (sym c.self.view_is) c.requires.whole) e.knows ? e.left ? e.joins e.ends e.comes e.session e.splits e.pipelines
 
 pub returns-in-Ok-clause-goes : goal.returns-in-Ok-clause-goes
 returns-in-Ok-clause-goes g c =
     let calls = subst (λ s. HasOpenCall s c.args.reading) (sym c.self.view_is) c.requires.calls in
     let a = c.in-Some.answered in
     let took = subst (λ heard. IfSome heard (HasHeardFirst c.self.inside.desk c.hear.new.self)) c.in-Some.is c.in_ok-answered.ensures.ok in
-    inside_from _ c.args.self.now _ c.self.view_is (heard_goes _ c.args.reading calls c.hear.new.self c.heard.new.self a took c.in-Ok.ensures.session)
+    inside_from _ c.args.self.now _ c.self.view_is (reply_goes _ c.args.reading calls (subst (λ s. HasNoneLostFirst s.desk) (sym c.self.view_is) c.requires.none_lost) c.hear.new.self c.heard.new.self a took c.in-Ok.ensures.session)
 
 pub returns-in-Ok-clause-whole : goal.returns-in-Ok-clause-whole
 returns-in-Ok-clause-whole g c =
     let calls = subst (λ s. HasOpenCall s c.args.reading) (sym c.self.view_is) c.requires.calls in
     let took = subst (λ heard. IfSome heard (HasHeardFirst c.self.inside.desk c.hear.new.self)) c.in-Some.is c.in_ok-answered.ensures.ok in
     let e = c.in-Ok.ensures in
-    heard_whole _ c.args.reading calls c.hear.new.self c.heard.new.self c.in-Some.answered took (subst IsWholeOut (sym c.self.view_is) c.requires.whole) e.knows e.waits e.left e.goes_on e.joins e.ends e.comes e.session e.splits e.pipelines
+    reply_whole _ c.args.reading calls (subst (λ s. HasNoneLostFirst s.desk) (sym c.self.view_is) c.requires.none_lost) c.hear.new.self c.heard.new.self c.in-Some.answered took (subst IsWholeOut (sym c.self.view_is) c.requires.whole) e.knows ? e.left ? e.joins e.ends e.comes e.session e.splits e.pipelines
 
 pub returns-in-None-clause-goes : goal.returns-in-None-clause-goes
 returns-in-None-clause-goes g c =

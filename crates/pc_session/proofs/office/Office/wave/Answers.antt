@@ -1,7 +1,7 @@
 use Rattle.std.proofs.Common.{◌∙◌}
 use Rattle.std.proofs.lemmas.Result.{err_from_is_err_and}
-use Rattle.pc_session.proofs.Ending.{inside_breaks}
-use Rattle.pc_session.proofs.Hearing.{due_breaks, due_inside}
+use Rattle.pc_session.proofs.Ending.{due_breaks, inside_breaks}
+use Rattle.pc_session.proofs.Hearing.{due_inside}
 use Rattle.pc_session.proofs.Inside.{inside_both}
 use Rattle.pc_session.proofs.office.Office.wave.Goals as goal
 
