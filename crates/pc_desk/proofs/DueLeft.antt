@@ -360,13 +360,9 @@ module _ {C N : Type 0} {G : Ghosts N CommitWorld} (mid new : DeskMeaning C) (ba
   of-bag : IsOfBag mid (seen e)
   of-bag = All-contains (IsOfBag mid) mid.bag (seen e) track.late (subst (λ b. Contains b (seen e)) (sym was-bag) (it-was (map seen cut-of.front) (map seen cut-of.back) (seen e)))
 
-  -- it is late
-  never : {A : Type 0} → is_late (verdict_of mid.log the-message.number) ≡ false → A
-  never plain = absurd (let bad : true ≡ false = sym of-bag.late ∙ (ap (λ n. is_late (verdict_of mid.log n)) of-bag.number ∙ plain) in cc bad)
-
   ended-back : HasLateBack taken-from new e.1.message → HasEnded mid new
   ended-back back = ended_full mid new the-message track broken of-bag.one (was_given_back new.range_limit new.log.part the-message e.1.message.message back.last (mid.log.part.known ++ first) known-is full whose refl ready.use_left)
-      (λ plain. never plain) (λ plain. never plain)
+      (λ plain. absurd (let bad : true ≡ false = sym of-bag.late ∙ (ap (λ n. is_late (verdict_of mid.log n)) of-bag.number ∙ plain) in cc bad))
     where
       -- What its first evaluation's note told.
       first : List (KnownEntry Event)

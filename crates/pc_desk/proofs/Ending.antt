@@ -183,8 +183,7 @@ pub record HasBrokenOff {C : Type 0} (old new : DeskMeaning C) (m : Posted) : Ty
   pub later : All (λ p. m.number < p.number) new.posted
 
 module _ {C : Type 0} (old new : DeskMeaning C) (m : Posted) (track : KeepsTrack old) (broken : HasBrokenOff old new m) (one : IsOneSent (known_of old.log.part.own).sent m) (refused : WasGivenBack new.range_limit new.log.part (as_sent m))
-    (inside : is_late (verdict_of old.log m.number) ≡ false → PutsInCall (known_of old.log.part.own) m.request)
-    (unheard : is_late (verdict_of old.log m.number) ≡ false → is_heard (known_of old.log.part.own).heard (as_sent m) ≡ false) where
+    (inside : is_late (verdict_of old.log m.number) ≡ false → PutsInCall (known_of old.log.part.own) m.request) where
   -- The messages that were sent.
   abbrev sent-then : List Sent
   sent-then = (known_of old.log.part.own).sent
@@ -261,7 +260,6 @@ module _ {C : Type 0} (old new : DeskMeaning C) (m : Posted) (track : KeepsTrack
       sent = subst (λ (k : Known). IsOneSent k.sent m) (sym known-same) one;
       spent = record { refused = refused };
       in_call = λ plain. subst (λ (k : Known). PutsInCall k m.request) (sym known-same) (inside (sym (ap is_late (verdict-same m.number)) ∙ plain));
-      unheard = λ plain. subst (λ (k : Known). is_heard k.heard (as_sent m) ≡ false) (sym known-same) (unheard (sym (ap is_late (verdict-same m.number)) ∙ plain));
       others = subst (λ (k : Known). All (λ (x : Sent). IsSpent new x ⊎ IsNotLost new x) k.sent) (sym known-same)
           (all_from_contains (λ (x : Sent). IsSpent new x ⊎ IsNotLost new x) sent-then (λ x there. one-still x there (All-contains (IsNotLost old) sent-then x (not_lost old track) there)));
       waits = all_from_contains (WaitsUnheard (known_of new.log.part.own)) (new.posted ++ new.later) (λ p there. wait-still p (All-contains (WaitsUnheard (known_of old.log.part.own)) (old.posted ++ old.later) p (all_wait old track) (broken.left p there)));

@@ -1,14 +1,14 @@
 -- The first of what was set aside is delivered as a stray, and its range, which is full, refuses it.
 use Rattle.std.proofs.Common.{◌≡◌, ℕ, ◌<◌, ◌≤◌, ◌⊎◌, true, false, All, Contains, inl, inr, List, [], ◌∷◌, ◌++◌, length, map, None, Option, Some, refl, sym, ap, subst, ◌∙◌}
 use Rattle.std.proofs.lemmas.List.{append-nil, append_assoc}
-use Rattle.std.proofs.lemmas.List.Elements.{All-contains, All-head, All-nil, Contains-append_cases, Contains-append_left, Contains-append_right}
-use Rattle.pc_desk.proofs.Ending.{HasBrokenOff, all_wait, ended_full}
+use Rattle.std.proofs.lemmas.List.Elements.{All-head, All-nil, Contains-append_cases, Contains-append_left, Contains-append_right}
+use Rattle.pc_desk.proofs.Ending.{HasBrokenOff, ended_full}
 use Rattle.pc_desk.proofs.Refusing.{refused_still, was_given_back}
 use Rattle.pc_desk.specs.declared.errand.Errand.{Errand}
 use Rattle.pc_desk.specs.declared.halt.Halt.{Halt}
 use Rattle.pc_desk.specs.declared.halt.Halt.TheVariants as halts
 use Rattle.pc_desk.specs.Desk.{DeskMeaning, IsOneSent, KeepsTrack, Posted, WasSetAside, as_sent, posting}
-use Rattle.pc_desk.specs.Ending.{EndsOnly, HasEnded, PutsInCall, WaitsUnheard, all_waiting}
+use Rattle.pc_desk.specs.Ending.{EndsOnly, HasEnded, PutsInCall, all_waiting}
 use Rattle.pc_desk.specs.Errand.{IsErrandOf}
 use Rattle.pc_desk.specs.Evaluating.{HasErrandBack, IsRefusedErrand, told_copy}
 use Rattle.pc_desk.specs.OwnLog.{LogMeaning, verdict_of}
@@ -19,7 +19,7 @@ use Rattle.pc_history.specs.declared.named.Named.{Ghosts}
 use Rattle.pc_history.specs.declared.view.Known.{Known as KnownEntry}
 use Rattle.pc_history.specs.declared.view.Part.{Part}
 use Rattle.pc_history.specs.Parts.{told}
-use Rattle.pc_lists.proofs.Lists.{contains_cons, contains_head, contains_tail}
+use Rattle.pc_lists.proofs.Lists.{contains_cons, contains_tail}
 use Rattle.pc_proto.specs.declared.event.Event.{Event}
 use Rattle.pc_proto.specs.declared.request.Request.{Request}
 use Rattle.pc_range.specs.declared.commit_world.CommitWorld.{CommitWorld}
@@ -61,8 +61,6 @@ module _ {C N : Type 0} {G : Ghosts N CommitWorld} (old new : DeskMeaning C) (me
 
   ended-back : HasErrandBack taken-aside new errand → HasEnded old new
   ended-back back = ended_full old new m track broken its-one given (λ plain. inside)
-      (λ plain. (All-contains (WaitsUnheard (known_of old.log.part.own)) (old.posted ++ old.later) m (all_wait old track)
-      (Contains-append_right old.posted old.later m (subst (λ (l : List Posted). Contains l m) (sym first) (contains_head m rest)))).unheard)
     where
       -- What the note of its sending tells.
       note : List (KnownEntry Event)

@@ -422,7 +422,6 @@ module _ {C N : Type 0} {G : Ghosts N CommitWorld} (old taken new : DeskMeaning 
         sent = posted-sent b.message b.within;
         spent = record { refused = b.back };
         in_call = λ plain. All-contains (λ (p : Posted). PutsInCall (known_of old.log.part.own) p.request) old.posted b.message in_call b.within;
-        unheard = λ plain. (All-contains (WaitsUnheard (known_of old.log.part.own)) (old.posted ++ old.later) b.message (all_wait old track) (Contains-append_left old.posted old.later b.message b.within)).unheard;
         others = all_from_contains (λ (x : Sent). IsSpent over x ⊎ IsNotLost over x) sent-all (λ x there. others x there (All-contains (IsNotLost old) sent-all x (not_lost old track) there));
         waits = all_from_contains (WaitsUnheard (known_of old.log.part.own)) old.later
             (λ p there. All-contains (WaitsUnheard (known_of old.log.part.own)) (old.posted ++ old.later) p (all_wait old track) (Contains-append_right old.posted old.later p there));

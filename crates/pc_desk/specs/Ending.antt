@@ -87,14 +87,13 @@ PutsInCall k request = is_put request ≡ true → is_some k.statement ≡ true
 abbrev pub PostsInCall : {C : Type 0} → DeskMeaning C → Type 0
 PostsInCall d = All (λ m. PutsInCall (known_of d.log.part.own) m.request) d.posted
 
--- A range has as many entries as it may have, and refused this message: where it is not late, no reply to it was heard, and a call is open if it puts a write. No
--- message was lost but those that are spent so, and those that wait to be evaluated, and were not set aside, were sent later.
+-- A range has as many entries as it may have, and refused this message, in an open call where it puts a write and is not late. No message was lost but those that
+-- are spent so, and those that wait to be evaluated, and were not set aside, were sent later.
 pub record IsAtFullRange {C : Type 0} (d : DeskMeaning C) : Type 0 where
   pub message : Sent
   pub sent : Contains (known_of d.log.part.own).sent message
   pub spent : IsSpent d message
   pub in_call : is_late (verdict_of d.log message.number) ≡ false → PutsInCall (known_of d.log.part.own) message.request
-  pub unheard : is_late (verdict_of d.log message.number) ≡ false → is_heard (known_of d.log.part.own).heard message ≡ false
   pub others : All (λ m. IsSpent d m ⊎ IsNotLost d m) (known_of d.log.part.own).sent
   pub waits : All (WaitsUnheard (known_of d.log.part.own)) (d.posted ++ d.later)
   pub later : All (λ p. message.number < p.number) d.posted
