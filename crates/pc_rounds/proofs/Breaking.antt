@@ -127,7 +127,7 @@ module _ {C : Type 0} (old : CountedMeaning C) (new : RecovererMeaning C) (count
       (subst (λ stop. list_has_ended new.desk.log.limit stop held new.desk.log.part.own ≡ true) stop-then (has_ended_now new.desk held says broke.end)))
 
   makes-so : (held : Sent → Bool) → SaysHeldUp held new.desk → (b : Bool) → list_has_ended old.recoverer.desk.log.limit old.recoverer.desk.log.stop held (entries_made old) ≡ b
-      → MakesRoundAfter (list_has_ended old.recoverer.desk.log.limit old.recoverer.desk.log.stop held) old.rounds old.recoverer.number (entries_made old) part
+      → MakesRoundAfter (list_has_ended old.recoverer.desk.log.limit old.recoverer.desk.log.stop (verdict_of old.recoverer.desk.log) held) old.rounds old.recoverer.number (entries_made old) part
   makes-so held says true is =
       let ended = list_has_ended old.recoverer.desk.log.limit old.recoverer.desk.log.stop held in
       let none : part ≡ [] = no_room old.recoverer.desk.log.limit (entries_made old) part
