@@ -19,7 +19,7 @@ use Rattle.pc_exchange.proofs.Growing.{grows_both, grows_else, grows_entered, gr
 use Rattle.pc_exchange.proofs.HeardKinds.{heard_kind, heard_possible}
 use Rattle.pc_exchange.proofs.Learned.{heard_then}
 use Rattle.pc_exchange.specs.Exchange.{HasOneOut, WasHeardLast, WasLostLast, heard_pair, sent_pair}
-use Rattle.pc_exchange.specs.Growing.{HasAllBack, HasGoneBeside, HasGrownBy}
+use Rattle.pc_exchange.specs.Growing.{HasAllBack, HasGoneBeside, HasGrownBy, IsSameActor}
 use Rattle.pc_follows.specs.WaveOrder.{IsHearing}
 use Rattle.pc_history.specs.declared.pair.Pair.{Pair}
 use Rattle.pc_history.specs.Own.{pair}
@@ -299,6 +299,21 @@ module _ {C : Type 0} (old mid late : DeskMeaning C) (request : Request) (number
 pub all_back : {C : Type 0} (late done : DeskMeaning C) (reply : Option Reply) → IfSome reply (WasHeardLast late done) → IfNone reply (WasLostLast late done) → HasAllBack done
 all_back late done (Some reply) heard lost = heard.back
 all_back late done None heard lost = lost.back
+
+-- it is the same actor, and has not stopped since
+pub same_heard : {C : Type 0} (mid late done : DeskMeaning C) (reply : Option Reply) → HasDelivered mid late → IfSome reply (WasHeardLast late done) → IfNone reply (WasLostLast late done) → IsSameActor mid done
+same_heard {C} mid late done reply delivered heard lost = by reply heard lost
+  where
+    early : IsSameActor mid late
+    early = (ap (λ (l : LogMeaning C). l.head) delivered.own, ap (λ (l : LogMeaning C). l.part.id) delivered.own, ap (λ (l : LogMeaning C). l.stopped) delivered.own)
+
+    by : (o : Option Reply) → IfSome o (WasHeardLast late done) → IfNone o (WasLostLast late done) → IsSameActor mid done
+    by None h l =
+        let rest : done.log ≡ late.log = ap (λ (d : DeskMeaning C). d.log) l.taken.rest in
+        (ap (λ (l : LogMeaning C). l.head) rest ∙ early.0, ap (λ (l : LogMeaning C). l.part.id) rest ∙ early.1, ap (λ (l : LogMeaning C). l.stopped) rest ∙ early.2)
+    by (Some r) h l =
+        let rest = (grows_entered late.log done.log (events.Hear h.answered.number h.answered.step) h.heard.entered refl).rest in
+        (ap (λ (l : LogMeaning C). l.head) rest ∙ early.0, ap (λ (l : LogMeaning C). l.part.id) rest ∙ early.1, ap (λ (l : LogMeaning C). l.stopped) rest ∙ early.2)
 
 -- ---- where its list ends once the message was sent
 

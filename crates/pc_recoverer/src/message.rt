@@ -1,4 +1,4 @@
-ghost use Rattle.std.specs.Prelude.{◌≡◌, ℕ, IfErr, IfNone, IfOk, IfSome, List};
+ghost use Rattle.std.specs.Prelude.{◌≡◌, ℕ, true, IfErr, IfNone, IfOk, IfSome, List};
 ghost use Rattle.pc_desk.specs.Desk.{DeskMeaning, HasHalted, HasSentNext, MaySendNow, MaySendTo};
 ghost use Rattle.pc_exchange.specs.Exchange.{HasLostAll, WasExchanged};
 ghost use Rattle.pc_exchange.specs.Growing.{HasAllBack};
@@ -37,6 +37,25 @@ pub(crate) fn exchange<N: Named<CommitWorld>, C: Clock, V: Wire, G: Gate, R: Wai
     ensures err { IfErr result (HasHalted desk.old desk.new) }
     ensures ended { IfErr result (BreaksOffIn (AreFrontOfOne (sending_of desk.old.log) request) desk.old desk.new) }
 {
+    send_until_heard(desk, rt, &request)
+}
+
+/// Sends copies of the message, one after another, until the reply to one is heard. None once its tries are used up.
+fn send_until_heard<N: Named<CommitWorld>, C: Clock, V: Wire, G: Gate, R: Wait>(
+    desk: &mut Desk<'_, N, C, V, G>,
+    rt: &R,
+    request: &Request,
+) -> Result<Option<Reply>, Halt>
+    requires back { HasAllBack desk.old }
+    requires client { IsRecovererInRound desk.old }
+    requires may { MaySendNow desk.old.log request.now }
+    requires kind { goes_beside request.now ≡ true }
+    ensures heard { IfOk result (λ reply. IfSome reply (WasExchanged desk.old desk.new request.now)) }
+    ensures lost { IfOk result (λ reply. IfNone reply (HasLostAll desk.old desk.new request.now)) }
+    ensures clock { desk.new.log.clock ≡ desk.old.log.clock }
+    ensures err { IfErr result (HasHalted desk.old desk.new) }
+    ensures ended { IfErr result (BreaksOffIn (AreFrontOfOne (sending_of desk.old.log) request.now) desk.old desk.new) }
+{
     for _sending in 0..desk.tries() {
         let copy = match request.copy() {
             Ok(copy) => copy,
@@ -67,13 +86,22 @@ pub(crate) fn list_records<N: Named<CommitWorld>, C: Clock, V: Wire, G: Gate, R:
 {
     for _sending in 0..desk.tries() {
         desk.send_to(range, Request::Records)?;
-        match hear_reply(desk, rt)? {
-            Some(Reply::Listed(metas)) => return Ok(Some(metas)),
-            Some(_) => unreachable!(),
-            None => {}
+        if let Some(reply) = hear_reply(desk, rt)? {
+            return Ok(Some(listed(reply)));
         }
     }
     Ok(None)
+}
+
+/// The records that a range has listed.
+fn listed(reply: Reply) -> Metas
+    requires { (metas : List TxnMeta) × (reply ≡ replies.Listed metas) }
+    ensures { reply ≡ replies.Listed result }
+{
+    match reply {
+        Reply::Listed(metas) => metas,
+        _ => unreachable!(),
+    }
 }
 
 /// Has the message that was sent last evaluated, and hears its reply, which it gives; None where nothing is heard of it. Then what is due in the bag is

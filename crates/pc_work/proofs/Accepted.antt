@@ -1,8 +1,8 @@
 -- A workload that is read is of the form that is accepted.
-use Rattle.std.proofs.Common.{◌≡◌, ℕ, ◌≤◌, ◌&&◌, is_none, is_some, nat_le, IfSome, Bool, true, cond, All, List, [], ◌∷◌, length, sum_by, Option, Some, None, codes, refl, subst, arith}
+use Rattle.std.proofs.Common.{◌≡◌, ℕ, ◌≤◌, ◌&&◌, is_none, is_some, nat_le, IfSome, Bool, true, false, cond, All, List, [], ◌∷◌, length, sum_by, Option, Some, None, codes, refl, subst, arith}
 use Rattle.std.specs.List.{list_all, AllByRecursion}
 use Rattle.std.proofs.lemmas.Bool.{and_parts, leb-true, false≢true}
-use Rattle.std.proofs.lemmas.List.Elements.{All-from_recursion, All-nil}
+use Rattle.std.proofs.lemmas.List.Elements.{All-from_recursion, All-nil, All-weaker}
 use Rattle.serde_json.specs.Data.{Data}
 use Rattle.serde_json.specs.Find.{get, as_bool}
 use Rattle.pc_base.specs.declared.limits.TheConstants.{DEFAULT_ROUNDS, LEAST_ENTRIES, MOST_ENTRIES, MOST_RECOVERERS, MOST_RERUNS, MOST_ROUNDS, MOST_SESSIONS, MOST_SPLITS, MOST_STATEMENTS, MOST_TURNS}
@@ -15,23 +15,27 @@ use Rattle.pc_work.specs.Count.{session_count}
 use Rattle.pc_work.specs.Texts.{key_of}
 use Rattle.pc_work.specs.Priority.{priority_of}
 use Rattle.pc_work.specs.Recoverer.{IsRecovererWithin, recoverer_names, recoverer_of}
-use Rattle.pc_work.specs.declared.limits.TheConstants.{MOST_TRIES}
+use Rattle.pc_work.specs.declared.limits.TheConstants.{MOST_SENDS, MOST_TRIES}
 use Rattle.pc_base.specs.declared.transaction.Priority.TheVariants.{Normal}
 use Rattle.pc_work.specs.Session.{session_names, session_of}
 use Rattle.pc_work.specs.Stated.{counted, counted_by, stated_of, workload_names}
 use Rattle.pc_work.specs.Stop.{IsStop, stop_of}
+use Rattle.pc_work.specs.Reading.{◌>>=◌}
 use Rattle.pc_work.specs.Splits.{splits_of}
 use Rattle.pc_work.specs.Together.{are_few_turns, are_turns_there, first_items, is_item_there, is_script_there, together_refusal}
 use Rattle.pc_work.specs.Turn.{is_turn_there, turn_of}
+use Rattle.pc_work.specs.Wire.{period_names, sends_in, verdict_of, wire_of}
 use Rattle.pc_work.specs.Workload.{refusal_of, work_of, workload_of}
-use Rattle.pc_work.specs.Accepted.{HasItemsOf, HasTransactions, IsAccepted, IsTransaction, StopsWithin}
+use Rattle.pc_work.specs.Accepted.{HasItemsOf, HasTransactions, IsAccepted, IsTransaction, IsWireWithin, StopsWithin}
 use Rattle.pc_work.specs.Named.{IsItemOf, IsTurnOf, AreTurnsOf}
 use Rattle.pc_work.specs.declared.item.Item.{Item}
 use Rattle.pc_work.specs.declared.item.Item.TheVariants.{Learn, Txn}
+use Rattle.pc_work.specs.declared.recoverer.RecovererWork.{RecovererWork}
 use Rattle.pc_work.specs.declared.session.SessionWork.{SessionWork}
 use Rattle.pc_work.specs.declared.stated.Stated.{Stated}
 use Rattle.pc_work.specs.declared.turn.Turn.{Turn}
 use Rattle.pc_work.specs.declared.turn.Turn.TheVariants.{Session, Job, Recoverer}
+use Rattle.pc_work.specs.declared.wire.WireWork.TheVariants.{Quiet, Listed, Periodic}
 use Rattle.pc_work.specs.declared.workload.Workload.{Workload}
 use Rattle.pc_work.proofs.Only.{Only, list_only, only_behind, only_found, only_if, only_known, only_read, only_some, only_when}
 use Rattle.pc_work.proofs.Refused.{none_together, together_holds}
@@ -105,17 +109,45 @@ between_only least most value =
 stop_only : (found : Option Data) → Only IsStop (read_if stop_of found)
 stop_only found = only_if (IsBetween 1 MOST_ENTRIES) (whole_between 1 MOST_ENTRIES) (between_only 1 MOST_ENTRIES) found
 
--- A session stops at an entry that there may be.
-session_only : (value : Data) → Only StopsWithin (session_of value)
+-- What is found in either case.
+only_either : {B : Type 0} (P : B → Type 0) (test : Bool) (one two : Option B) → Only P one → Only P two → Only P (cond test one two)
+only_either P true one two first second = first
+only_either P false one two first second = second
+
+sends_only : (name : List ℕ) (value : Data) → Only (IsBetween 1 MOST_SENDS) (sends_in name value)
+sends_only name value = only_behind (IsBetween 1 MOST_SENDS) (get name value) (whole_between 1 MOST_SENDS) (λ found. between_only 1 MOST_SENDS found)
+
+-- A wire that is read has a period, where its verdict comes again.
+wire_only : (value : Data) → Only IsWireWithin (wire_of value)
+unfolding wire_of
+wire_only value =
+    only_either IsWireWithin (has_only (codes "list" ∷ []) value) _ _
+    (only_behind IsWireWithin (get (codes "list") value >>= list_by verdict_of) _ (λ list. only_some IsWireWithin (Listed list) tt))
+    (only_when IsWireWithin (has_only period_names value) _ (λ named.
+    only_known (IsBetween 1 MOST_SENDS) IsWireWithin (sends_in (codes "period") value) _ (sends_only (codes "period") value) (λ period within.
+    only_behind IsWireWithin (get (codes "verdict") value) _ (λ found.
+    only_behind IsWireWithin (verdict_of found) _ (λ verdict.
+    only_some IsWireWithin (Periodic period verdict) within)))))
+
+wire_stated : (value : Data) → Only IsWireWithin (member_or Quiet wire_of (codes "wire") value)
+wire_stated value = only_read IsWireWithin Quiet wire_of tt wire_only (get (codes "wire") value)
+
+-- What is known of a session that is read.
+record IsSession (session : SessionWork) : Type 0 where
+  stops : StopsWithin session
+  wire : IsWireWithin session.wire
+
+session_only : (value : Data) → Only IsSession (session_of value)
 unfolding session_of
 session_only value =
     let stated = stop_only (get (codes "stop") value) in
-    only_when StopsWithin (has_only session_names value) _ (λ named.
-    only_behind StopsWithin (member_if clock_of (codes "clock") value) _ (λ clock.
-    only_known IsStop StopsWithin (member_if stop_of (codes "stop") value) _ stated (λ stop within.
-    only_behind StopsWithin (get (codes "script") value) _ (λ found.
-    only_behind StopsWithin (list_by item_of found) _ (λ script.
-    only_some StopsWithin (record { script = script; clock = clock; stop = stop }) within)))))
+    only_when IsSession (has_only session_names value) _ (λ named.
+    only_behind IsSession (member_if clock_of (codes "clock") value) _ (λ clock.
+    only_known IsStop IsSession (member_if stop_of (codes "stop") value) _ stated (λ stop within.
+    only_known IsWireWithin IsSession (member_or Quiet wire_of (codes "wire") value) _ (wire_stated value) (λ wire period.
+    only_behind IsSession (get (codes "script") value) _ (λ found.
+    only_behind IsSession (list_by item_of found) _ (λ script.
+    only_some IsSession (record { script = script; clock = clock; wire = wire; stop = stop }) (record { stops = within; wire = period })))))))
 
 turn_is_there : (sessions recoverers : ℕ) (turn : Turn) → is_turn_there sessions recoverers turn ≡ true → IsTurnOf sessions recoverers turn
 turn_is_there sessions recoverers (Session n) e =
@@ -136,18 +168,23 @@ turns_are_there sessions recoverers (Some turns) few there =
       each = all_by (is_turn_there sessions recoverers) (IsTurnOf sessions recoverers) (turn_is_there sessions recoverers) turns there;
     }
 
--- A recoverer that is read makes no more rounds than the limit, and stops at an entry that there may be.
-recoverer_only : (value : Data) → Only IsRecovererWithin (recoverer_of value)
+-- What is known of a recoverer that is read.
+record IsRecoverer (recoverer : RecovererWork) : Type 0 where
+  within : IsRecovererWithin recoverer
+  wire : IsWireWithin recoverer.wire
+
+recoverer_only : (value : Data) → Only IsRecoverer (recoverer_of value)
 unfolding recoverer_of
 recoverer_only value =
     let asked = only_read (λ n. n ≤ MOST_ROUNDS) DEFAULT_ROUNDS (whole_up_to MOST_ROUNDS) (omega arith) (whole_only MOST_ROUNDS) (get (codes "rounds") value) in
     let stated = stop_only (get (codes "stop") value) in
-    only_when IsRecovererWithin (has_only recoverer_names value) _ (λ named.
-    only_behind IsRecovererWithin (member_if clock_of (codes "clock") value) _ (λ clock.
-    only_behind IsRecovererWithin (member_or Normal priority_of (codes "level") value) _ (λ level.
-    only_known (λ n. n ≤ MOST_ROUNDS) IsRecovererWithin (member_or DEFAULT_ROUNDS (whole_up_to MOST_ROUNDS) (codes "rounds") value) _ asked (λ rounds few.
-    only_known IsStop IsRecovererWithin (member_if stop_of (codes "stop") value) _ stated (λ stop within.
-    only_some IsRecovererWithin (record { level = level; rounds = rounds; clock = clock; stop = stop }) (record { rounds = few; stop = within }))))))
+    only_when IsRecoverer (has_only recoverer_names value) _ (λ named.
+    only_behind IsRecoverer (member_if clock_of (codes "clock") value) _ (λ clock.
+    only_behind IsRecoverer (member_or Normal priority_of (codes "level") value) _ (λ level.
+    only_known (λ n. n ≤ MOST_ROUNDS) IsRecoverer (member_or DEFAULT_ROUNDS (whole_up_to MOST_ROUNDS) (codes "rounds") value) _ asked (λ rounds few.
+    only_known IsWireWithin IsRecoverer (member_or Quiet wire_of (codes "wire") value) _ (wire_stated value) (λ wire period.
+    only_known IsStop IsRecoverer (member_if stop_of (codes "stop") value) _ stated (λ stop within.
+    only_some IsRecoverer (record { level = level; rounds = rounds; clock = clock; wire = wire; stop = stop }) (record { within = record { rounds = few; stop = within }; wire = period })))))))
 
 -- A list that is read has as many items as it may have, and each has its property.
 record Counts {X : Type 0} (fewest most : ℕ) (P : X → Type 0) (xs : List X) : Type 0 where
@@ -168,8 +205,8 @@ record AreParts (stated : Stated) : Type 0 where
   limit : IsBetween LEAST_ENTRIES MOST_ENTRIES stated.limit
   tries : IsBetween 1 MOST_TRIES stated.tries
   reruns : stated.reruns ≤ MOST_RERUNS
-  sessions : Counts 1 MOST_SESSIONS StopsWithin stated.sessions
-  recoverers : Counts 0 MOST_RECOVERERS IsRecovererWithin stated.recoverers
+  sessions : Counts 1 MOST_SESSIONS IsSession stated.sessions
+  recoverers : Counts 0 MOST_RECOVERERS IsRecoverer stated.recoverers
 
 parts_only : (value : Data) → Only AreParts (stated_of value)
 unfolding stated_of
@@ -178,8 +215,8 @@ parts_only value =
     let bounds = only_read (IsBetween LEAST_ENTRIES MOST_ENTRIES) 1000000 (whole_between LEAST_ENTRIES MOST_ENTRIES) (omega arith, omega arith) (between_only LEAST_ENTRIES MOST_ENTRIES) (get (codes "limit") value) in
     let tried = only_read (IsBetween 1 MOST_TRIES) 4 (whole_between 1 MOST_TRIES) (omega arith, omega arith) (between_only 1 MOST_TRIES) (get (codes "tries") value) in
     let asked = only_read (λ n. n ≤ MOST_RERUNS) 8 (whole_up_to MOST_RERUNS) (omega arith) (whole_only MOST_RERUNS) (get (codes "reruns") value) in
-    let recover = only_read (Counts 0 MOST_RECOVERERS IsRecovererWithin) [] (counted_by 0 MOST_RECOVERERS recoverer_of) (record { some = omega arith; few = omega arith; each = All-nil IsRecovererWithin })
-    (counted_only 0 MOST_RECOVERERS IsRecovererWithin recoverer_of recoverer_only) (get (codes "recoverers") value) in
+    let recover = only_read (Counts 0 MOST_RECOVERERS IsRecoverer) [] (counted_by 0 MOST_RECOVERERS recoverer_of) (record { some = omega arith; few = omega arith; each = All-nil IsRecoverer })
+    (counted_only 0 MOST_RECOVERERS IsRecoverer recoverer_of recoverer_only) (get (codes "recoverers") value) in
     only_when AreParts (has_only workload_names value) _ (λ named.
     only_behind AreParts (member_or true as_bool (codes "pipelining") value) _ (λ pipelining.
     only_known AreSplits AreParts (member_or [] splits_of (codes "splits") value) _ cut (λ splits rising.
@@ -188,9 +225,9 @@ parts_only value =
     only_known (λ n. n ≤ MOST_RERUNS) AreParts (member_or 8 (whole_up_to MOST_RERUNS) (codes "reruns") value) _ asked (λ reruns few.
     only_behind AreParts (member_or 0 whole_of (codes "opening") value) _ (λ opening.
     only_behind AreParts (member_if (list_by turn_of) (codes "turns") value) _ (λ turns.
-    only_known (Counts 0 MOST_RECOVERERS IsRecovererWithin) AreParts (member_or [] (counted_by 0 MOST_RECOVERERS recoverer_of) (codes "recoverers") value) _ recover (λ recoverers rounds.
+    only_known (Counts 0 MOST_RECOVERERS IsRecoverer) AreParts (member_or [] (counted_by 0 MOST_RECOVERERS recoverer_of) (codes "recoverers") value) _ recover (λ recoverers rounds.
     only_behind AreParts (get (codes "sessions") value) _ (λ found.
-    only_known (Counts 1 MOST_SESSIONS StopsWithin) AreParts (counted_by 1 MOST_SESSIONS session_of found) _ (counted_only 1 MOST_SESSIONS StopsWithin session_of session_only found) (λ sessions stops.
+    only_known (Counts 1 MOST_SESSIONS IsSession) AreParts (counted_by 1 MOST_SESSIONS session_of found) _ (counted_only 1 MOST_SESSIONS IsSession session_of session_only found) (λ sessions stops.
     only_some AreParts (record { pipelining = pipelining; splits = splits; limit = limit; tries = tries; reruns = reruns; opening = opening; sessions = sessions; recoverers = recoverers; turns = turns })
     (record { splits = rising; limit = between; tries = some; reruns = few; sessions = stops; recoverers = rounds }))))))))))))
 
@@ -210,11 +247,13 @@ together_is_accepted stated parts none =
       some_session = parts.sessions.some;
       few_sessions = parts.sessions.few;
       sessions = items_are_there stated.sessions stated.turns there.1;
-      stops = parts.sessions.each;
+      stops = All-weaker IsSession StopsWithin (λ session is. is.stops) stated.sessions parts.sessions.each;
+      wires = All-weaker IsSession (λ session. IsWireWithin session.wire) (λ session is. is.wire) stated.sessions parts.sessions.each;
+      recoverer_wires = All-weaker IsRecoverer (λ recoverer. IsWireWithin recoverer.wire) (λ recoverer is. is.wire) stated.recoverers parts.recoverers.each;
       learns = none_learnt stated.sessions stated.turns there.1;
       few_statements = leb-true (sum_by session_count stated.sessions) MOST_STATEMENTS facts.1.0;
       few_recoverers = parts.recoverers.few;
-      recoverers = parts.recoverers.each;
+      recoverers = All-weaker IsRecoverer IsRecovererWithin (λ recoverer is. is.within) stated.recoverers parts.recoverers.each;
       turns = turns_are_there (length stated.sessions) (length stated.recoverers) stated.turns numbers.1 there.0;
     }
 

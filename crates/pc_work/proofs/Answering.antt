@@ -10,7 +10,7 @@ use Rattle.pc_work.specs.Answered.{AnswersValue}
 use Rattle.pc_work.specs.Workload.{IsJson, IsNumberOf, UnlessMemory, accepted_in, refusal_in, refusal_of, workload_of}
 use Rattle.pc_work.specs.declared.fault.WorkFault.{WorkFault}
 use Rattle.pc_work.specs.declared.fault.WorkFault.TheVariants as faults
-use Rattle.pc_work.specs.declared.refusal.TheConstants.{NO_JSON, NOT_BUILT}
+use Rattle.pc_work.specs.declared.refusal.TheConstants.{NO_JSON, NOBODY_THERE}
 use Rattle.pc_work.specs.declared.workload.Workload.{Workload}
 use Rattle.pc_work.proofs.Accepted.{value_is_accepted}
 use Rattle.pc_work.proofs.Numbers.{refusal_numbers}
@@ -54,7 +54,7 @@ no_json_of bytes value json (Err (faults.Refused number)) answers =
 no_json_of bytes value json (Err faults.NoMemory) answers = tt
 
 -- The number of a refusal is between those of the first rule and the last.
-pub numbers_of : (result : Result Workload WorkFault) (value : Data) → AnswersValue result value → (number : ℕ) → result ≡ Err (faults.Refused number) → (NO_JSON ≤ number) × (number ≤ NOT_BUILT)
+pub numbers_of : (result : Result Workload WorkFault) (value : Data) → AnswersValue result value → (number : ℕ) → result ≡ Err (faults.Refused number) → (NO_JSON ≤ number) × (number ≤ NOBODY_THERE)
 numbers_of (Ok work) value answers number e = absurd (ok-err work (faults.Refused number) e)
 numbers_of (Err (faults.Refused one)) value answers number e =
     let same : one ≡ number = same_number one number e in

@@ -1,7 +1,8 @@
--- A workload whose parts break no rule, but for that of what is not built yet, is read: so each value that is not accepted has a number.
-use Rattle.std.proofs.Common.{◌≡◌, ℕ, ◌&&◌, ◌||◌, not, is_some, IsSome, Bool, true, false, cond, List, [], ◌∷◌, ℤ, Option, Some, None, codes, refl, ap, ◌∙◌}
+-- A workload whose parts break no rule is read: so each value that is not accepted has a number.
+use Rattle.std.proofs.Common.{◌≡◌, ℕ, ◌&&◌, ◌||◌, not, is_none, is_some, IsSome, Bool, true, false, cond, List, [], ◌∷◌, ℤ, Option, Some, None, codes, refl, ap, ◌∙◌}
 use Rattle.std.proofs.lemmas.Bool.{and_parts, false≢true}
-use Rattle.serde_json.specs.Data.{Data}
+use Rattle.std.specs.Str.{bytes_eq}
+use Rattle.serde_json.specs.Data.{Data, null, boolean, number, string, array, object}
 use Rattle.serde_json.specs.Find.{as_bool, as_str, get}
 use Rattle.pc_base.specs.Span.{is_empty, key_below}
 use Rattle.pc_base.specs.declared.limits.TheConstants.{DEFAULT_ENTRIES, DEFAULT_RERUNS, DEFAULT_ROUNDS, DEFAULT_TRIES, LEAST_ENTRIES, MOST_ENTRIES, MOST_RECOVERERS, MOST_RERUNS, MOST_ROUNDS, MOST_SESSIONS}
@@ -18,12 +19,12 @@ use Rattle.pc_work.specs.Lists.{list_by, pair_of}
 use Rattle.pc_work.specs.Members.{has_only, member_if, member_or, whole_between, whole_of, whole_up_to}
 use Rattle.pc_work.specs.Priority.{priority_of}
 use Rattle.pc_work.specs.Recoverer.{recoverer_names, recoverer_of}
-use Rattle.pc_work.specs.Refusal.{in_counted, in_list, in_stated, is_right, judged, least, number_refusal, unless}
+use Rattle.pc_work.specs.Refusal.{in_counted, in_list, in_member, in_stated, judged, least, number_refusal, unless}
 use Rattle.pc_work.specs.RefusedActor.{clock_refusal, recoverer_refusal, session_refusal}
 use Rattle.pc_work.specs.RefusedItem.{ending_refusal, item_refusal, priority_refusal, txn_refusal}
 use Rattle.pc_work.specs.RefusedStatement.{add_refusal, amount_refusal, is_integer, put_refusal, statement_refusal}
 use Rattle.pc_work.specs.RefusedTexts.{is_empty_text, key_refusal, learn_refusal, span_refusal, spells_end, spells_span, two_texts, value_refusal}
-use Rattle.pc_work.specs.RefusedWire.{wire_refusal}
+use Rattle.pc_work.specs.RefusedWire.{verdict_refusal, wire_refusal}
 use Rattle.pc_work.specs.RefusedWork.{flag_refusal, members_refusal, parts_refusal, splits_refusal, text_refusal, turn_refusal, version_refusal, whole_refusal}
 use Rattle.pc_work.specs.Session.{session_names, session_of}
 use Rattle.pc_work.specs.Span.{end_in, end_of, span_of}
@@ -33,20 +34,23 @@ use Rattle.pc_work.specs.Statement.{add_statement, delete_statement, get_stateme
 use Rattle.pc_work.specs.Stop.{stop_of}
 use Rattle.pc_work.specs.Texts.{key_in, key_of, spells_key, spells_value, value_of}
 use Rattle.pc_work.specs.Turn.{turn_of}
+use Rattle.pc_work.specs.Wire.{named_verdict, period_names, sends_in, verdict_of, wire_of}
 use Rattle.pc_work.specs.declared.item.Item.TheVariants.{Learn, Txn}
-use Rattle.pc_work.specs.declared.limits.TheConstants.{MOST_TRIES}
+use Rattle.pc_work.specs.declared.limits.TheConstants.{MOST_SENDS, MOST_TRIES}
 use Rattle.pc_work.specs.declared.refusal.TheConstants.{OTHER_FORM, WRONG_NUMBER, WRONG_SPLITS, WRONG_TEXT}
 use Rattle.pc_work.specs.declared.statement.Statement.TheVariants.{Get, Scan, Put, Delete, Add}
-use Rattle.pc_work.proofs.RightParts.{Reads, between_read, counted_read, least_right, list_read, reads_beside, reads_if, reads_is, reads_judged, reads_made, reads_member, reads_or, reads_test, reads_then, reads_unless, reads_when, reads_wrong, up_to_read}
+use Rattle.pc_work.specs.declared.wire.WireWork.TheVariants.{Quiet, Listed, Periodic}
+use Rattle.pc_wire.specs.declared.verdict.Verdict.TheVariants as verdicts
+use Rattle.pc_work.proofs.RightParts.{Reads, between_read, counted_read, least_none, list_read, reads_beside, reads_if, reads_is, reads_judged, reads_made, reads_member, reads_or, reads_some, reads_test, reads_then, reads_unless, reads_when, reads_wrong, up_to_read}
 
 key_read : (value : Data) → Reads (key_refusal value) (key_of value)
 unfolding key_of
-key_read value = reads_judged (λ text. unless (spells_key text) WRONG_TEXT) key_in (λ text. reads_test (spells_key text) WRONG_TEXT text refl) (as_str value)
+key_read value = reads_judged (λ text. unless (spells_key text) WRONG_TEXT) key_in (λ text. reads_test (spells_key text) WRONG_TEXT text) (as_str value)
 
 value_read : (value : Data) → Reads (value_refusal value) (value_of value)
 unfolding value_of
 value_read value =
-    reads_judged (λ text. unless (spells_value text) WRONG_TEXT) (λ text. cond (spells_value text) (Some text) None) (λ text. reads_test (spells_value text) WRONG_TEXT text refl) (as_str value)
+    reads_judged (λ text. unless (spells_value text) WRONG_TEXT) (λ text. cond (spells_value text) (Some text) None) (λ text. reads_test (spells_value text) WRONG_TEXT text) (as_str value)
 
 -- The end that a text spells.
 abbrev end_as : List ℕ → Option (List ℕ)
@@ -81,7 +85,7 @@ of_texts ends = unless (spells_span ends.0 ends.1) WRONG_TEXT
 texts_read : (one two : Option (List ℕ)) → Reads (judged of_texts (one >>= λ from. two >>= λ to. Some (from, to))) (one >>= end_in >>= λ first. two >>= end_in >>= λ last. between first last)
 texts_read None two = reads_wrong None
 texts_read (Some from) None = reads_wrong _
-texts_read (Some from) (Some to) = reads_unless (spells_span from to) WRONG_TEXT _ refl (span_spelled from to)
+texts_read (Some from) (Some to) = reads_unless (spells_span from to) WRONG_TEXT _ (span_spelled from to)
 
 span_read : (value : Data) → Reads (span_refusal value) (span_of value)
 unfolding span_of end_of two_texts
@@ -133,13 +137,13 @@ learn_read : (value : Data) → Reads (learn_refusal value) (learn_item value)
 unfolding learn_item
 learn_read value =
     reads_judged (λ text. unless (is_some (learnt_in text)) WRONG_TEXT) (λ text. learnt_in text >>= λ id. Some (Learn id)) (λ text.
-    reads_made (unless (is_some (learnt_in text)) WRONG_TEXT) (learnt_in text) (λ id. Learn id) (reads_is (learnt_in text) WRONG_TEXT refl)) (as_str value)
+    reads_made (unless (is_some (learnt_in text)) WRONG_TEXT) (learnt_in text) (λ id. Learn id) (reads_is (learnt_in text) WRONG_TEXT)) (as_str value)
 
 priority_read : (value : Data) → Reads (priority_refusal value) (priority_of value)
-priority_read value = reads_is (priority_of value) OTHER_FORM refl
+priority_read value = reads_is (priority_of value) OTHER_FORM
 
 ending_read : (value : Data) → Reads (ending_refusal value) (commits_of value)
-ending_read value = reads_is (commits_of value) OTHER_FORM refl
+ending_read value = reads_is (commits_of value) OTHER_FORM
 
 txn_read : (value : Data) → Reads (txn_refusal value) (txn_item value)
 unfolding txn_item txn_refusal
@@ -156,7 +160,45 @@ item_read value =
     reads_when (has_only (codes "learn" ∷ []) value) _ _ _ _ (reads_judged learn_refusal learn_item learn_read (get (codes "learn") value)) (txn_read value)
 
 clock_read : (value : Data) → Reads (clock_refusal value) (clock_of value)
-clock_read value = reads_is (clock_of value) OTHER_FORM refl
+clock_read value = reads_is (clock_of value) OTHER_FORM
+
+-- What a text without a number says.
+text_read : (deliver request reply : Bool)
+    → Reads (cond (deliver || request || reply) None (Some OTHER_FORM)) (cond deliver (Some verdicts.Deliver) (cond request (Some verdicts.LoseRequest) (cond reply (Some verdicts.LoseReply) None)))
+text_read true request reply = reads_some _ verdicts.Deliver
+text_read false true reply = reads_some _ verdicts.LoseRequest
+text_read false false true = reads_some _ verdicts.LoseReply
+text_read false false false = reads_wrong None
+
+-- For how many sends a message is held or repeated.
+sends_read : (name : List ℕ) (value : Data) → Reads (in_member (number_refusal 1 MOST_SENDS) name value) (sends_in name value)
+sends_read name value = reads_judged (number_refusal 1 MOST_SENDS) (whole_between 1 MOST_SENDS) (between_read 1 MOST_SENDS) (get name value)
+
+verdict_read : (value : Data) → Reads (verdict_refusal value) (verdict_of value)
+unfolding verdict_of verdict_refusal named_verdict
+verdict_read null = reads_wrong None
+verdict_read (boolean b) = reads_wrong None
+verdict_read (number n) = reads_wrong None
+verdict_read (string text) = text_read (bytes_eq text (codes "deliver")) (bytes_eq text (codes "lose_request")) (bytes_eq text (codes "lose_reply"))
+verdict_read (array values) = reads_wrong None
+verdict_read (object members) =
+    reads_when (has_only (codes "repeat" ∷ []) (object members)) _ _ _ _
+    (reads_made (in_member (number_refusal 1 MOST_SENDS) (codes "repeat") (object members)) (sends_in (codes "repeat") (object members)) (λ sends. verdicts.Repeat sends) (sends_read (codes "repeat") (object members)))
+    (reads_when (has_only (codes "hold" ∷ []) (object members)) _ _ _ _
+    (reads_made (in_member (number_refusal 1 MOST_SENDS) (codes "hold") (object members)) (sends_in (codes "hold") (object members)) (λ sends. verdicts.Hold sends) (sends_read (codes "hold") (object members)))
+    (reads_wrong None))
+
+wire_read : (value : Data) → Reads (wire_refusal value) (wire_of value)
+unfolding wire_of wire_refusal
+wire_read value =
+    reads_when (has_only (codes "list" ∷ []) value) _ _ _ _
+    (reads_made (in_member (in_list verdict_refusal) (codes "list") value) (get (codes "list") value >>= list_by verdict_of) (λ list. Listed list)
+    (reads_judged (in_list verdict_refusal) (list_by verdict_of) (list_read verdict_refusal verdict_of verdict_read) (get (codes "list") value)))
+    (reads_when (has_only period_names value) _ _ _ _
+    (reads_then (in_member (number_refusal 1 MOST_SENDS) (codes "period") value) _ (sends_in (codes "period") value) _ (sends_read (codes "period") value) (λ period.
+    reads_judged verdict_refusal _ (λ found.
+    reads_made (verdict_refusal found) (verdict_of found) (λ verdict. Periodic period verdict) (verdict_read found)) (get (codes "verdict") value)))
+    (reads_wrong None))
 
 session_read : (value : Data) → Reads (session_refusal value) (session_of value)
 unfolding session_of session_refusal
@@ -164,9 +206,9 @@ session_read value =
     reads_when (has_only session_names value) _ _ _ _
     (reads_then (in_stated clock_refusal (codes "clock") value) _ (member_if clock_of (codes "clock") value) _ (reads_if clock_refusal clock_of clock_read (get (codes "clock") value)) (λ clock.
     reads_then (in_stated (number_refusal 1 MOST_ENTRIES) (codes "stop") value) _ (member_if stop_of (codes "stop") value) _ (reads_if (number_refusal 1 MOST_ENTRIES) stop_of (between_read 1 MOST_ENTRIES) (get (codes "stop") value)) (λ stop.
-    reads_beside (in_stated wire_refusal (codes "wire") value) _ _
-    (reads_judged (in_list item_refusal) _ (λ found.
-    reads_made (in_list item_refusal found) (list_by item_of found) (λ script. record { script = script; clock = clock; stop = stop }) (list_read item_refusal item_of item_read found)) (get (codes "script") value)))))
+    reads_then (in_stated wire_refusal (codes "wire") value) _ (member_or Quiet wire_of (codes "wire") value) _ (reads_or wire_refusal Quiet wire_of wire_read (get (codes "wire") value)) (λ wire.
+    reads_judged (in_list item_refusal) _ (λ found.
+    reads_made (in_list item_refusal found) (list_by item_of found) (λ script. record { script = script; clock = clock; wire = wire; stop = stop }) (list_read item_refusal item_of item_read found)) (get (codes "script") value)))))
     (reads_wrong None)
 
 recoverer_read : (value : Data) → Reads (recoverer_refusal value) (recoverer_of value)
@@ -177,22 +219,22 @@ recoverer_read value =
     reads_then (in_stated priority_refusal (codes "level") value) _ (member_or Normal priority_of (codes "level") value) _ (reads_or priority_refusal Normal priority_of priority_read (get (codes "level") value)) (λ level.
     reads_then (in_stated (number_refusal 0 MOST_ROUNDS) (codes "rounds") value) _ (member_or DEFAULT_ROUNDS (whole_up_to MOST_ROUNDS) (codes "rounds") value) _
     (reads_or (number_refusal 0 MOST_ROUNDS) DEFAULT_ROUNDS (whole_up_to MOST_ROUNDS) (up_to_read MOST_ROUNDS) (get (codes "rounds") value)) (λ rounds.
-    reads_beside (in_stated wire_refusal (codes "wire") value) _ _
-    (reads_made (in_stated (number_refusal 1 MOST_ENTRIES) (codes "stop") value) (member_if stop_of (codes "stop") value) (λ stop. record { level = level; rounds = rounds; clock = clock; stop = stop })
+    reads_then (in_stated wire_refusal (codes "wire") value) _ (member_or Quiet wire_of (codes "wire") value) _ (reads_or wire_refusal Quiet wire_of wire_read (get (codes "wire") value)) (λ wire.
+    reads_made (in_stated (number_refusal 1 MOST_ENTRIES) (codes "stop") value) (member_if stop_of (codes "stop") value) (λ stop. record { level = level; rounds = rounds; clock = clock; wire = wire; stop = stop })
     (reads_if (number_refusal 1 MOST_ENTRIES) stop_of (between_read 1 MOST_ENTRIES) (get (codes "stop") value)))))))
     (reads_wrong None)
 
 splits_read : (value : Data) → Reads (splits_refusal value) (splits_of value)
-splits_read value = reads_beside (in_list text_refusal value) (unless (is_some (splits_of value)) WRONG_SPLITS) (splits_of value) (reads_is (splits_of value) WRONG_SPLITS refl)
+splits_read value = reads_beside (in_list text_refusal value) (unless (is_some (splits_of value)) WRONG_SPLITS) (splits_of value) (reads_is (splits_of value) WRONG_SPLITS)
 
 flag_read : (value : Data) → Reads (flag_refusal value) (as_bool value)
-flag_read value = reads_is (as_bool value) OTHER_FORM refl
+flag_read value = reads_is (as_bool value) OTHER_FORM
 
 whole_read : (value : Data) → Reads (whole_refusal value) (whole_of value)
-whole_read value = reads_is (whole_of value) OTHER_FORM refl
+whole_read value = reads_is (whole_of value) OTHER_FORM
 
 turn_read : (value : Data) → Reads (turn_refusal value) (turn_of value)
-turn_read value = reads_is (turn_of value) OTHER_FORM refl
+turn_read value = reads_is (turn_of value) OTHER_FORM
 
 members_read : (value : Data) → Reads (members_refusal value) (stated_of value)
 unfolding stated_of members_refusal
@@ -217,6 +259,6 @@ members_read value =
     (counted_read 1 MOST_SESSIONS session_refusal session_of session_read found)) (get (codes "sessions") value))))))))))
     (reads_wrong None)
 
--- Parts that are right are read.
-pub parts_read : (value : Data) → is_right (parts_refusal value) ≡ true → IsSome (stated_of value)
-parts_read value right = (members_read value).reads (least_right (version_refusal value) (members_refusal value) right).1
+-- Parts that break no rule are read.
+pub parts_read : (value : Data) → is_none (parts_refusal value) ≡ true → IsSome (stated_of value)
+parts_read value none = (members_read value).reads (least_none (version_refusal value) (members_refusal value) none).1

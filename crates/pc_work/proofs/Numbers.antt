@@ -1,5 +1,5 @@
 -- Each number of a value's refusal is one of the rules for values.
-use Rattle.std.proofs.Common.{◌≡◌, ℕ, ◌≤◌, ◌&&◌, is_some, min, nat_le, Bool, true, false, cond, [], ◌∷◌, Option, Some, None, codes, refl, sym, ap, ◌∙◌, arith}
+use Rattle.std.proofs.Common.{◌≡◌, ℕ, ◌≤◌, ◌&&◌, is_none, is_some, min, nat_le, Bool, true, false, cond, [], ◌∷◌, Option, Some, None, codes, refl, sym, ap, ◌∙◌, arith}
 use Rattle.std.proofs.lemmas.Bool.{and_parts, le-leb, leb-true}
 use Rattle.serde_json.specs.Data.{Data, Items, no_items, item}
 use Rattle.serde_json.specs.Find.{as_array, as_bool, as_str, get}
@@ -13,12 +13,12 @@ use Rattle.pc_work.specs.Lists.{pair_of}
 use Rattle.pc_work.specs.Members.{has_only, whole_in, whole_of}
 use Rattle.pc_work.specs.Priority.{priority_of}
 use Rattle.pc_work.specs.Recoverer.{recoverer_names}
-use Rattle.pc_work.specs.Refusal.{how_many, in_counted, in_items, in_list, is_right, judged, judged_if, least, number_refusal, unless}
+use Rattle.pc_work.specs.Refusal.{how_many, in_counted, in_items, in_list, judged, judged_if, least, number_refusal, unless}
 use Rattle.pc_work.specs.RefusedActor.{clock_refusal, recoverer_refusal, session_refusal}
 use Rattle.pc_work.specs.RefusedItem.{ending_refusal, item_refusal, priority_refusal, txn_refusal}
 use Rattle.pc_work.specs.RefusedStatement.{add_refusal, amount_refusal, is_integer, put_refusal, statement_refusal}
 use Rattle.pc_work.specs.RefusedTexts.{key_refusal, learn_refusal, span_refusal, spells_span, two_texts, value_refusal}
-use Rattle.pc_work.specs.RefusedWire.{names_verdict, period_names, verdict_refusal, verdicts_refusal, wire_refusal}
+use Rattle.pc_work.specs.RefusedWire.{names_verdict, verdict_refusal, wire_refusal}
 use Rattle.pc_work.specs.RefusedWork.{flag_refusal, is_one, members_refusal, parts_refusal, splits_refusal, text_refusal, turn_refusal, version_refusal, whole_refusal}
 use Rattle.pc_work.specs.Session.{session_names}
 use Rattle.pc_work.specs.Splits.{splits_of}
@@ -26,15 +26,16 @@ use Rattle.pc_work.specs.Stated.{stated_of, workload_names}
 use Rattle.pc_work.specs.Texts.{spells_key, spells_value}
 use Rattle.pc_work.specs.Together.{are_all_there, are_few_statements, are_numbers_right, together_refusal}
 use Rattle.pc_work.specs.Turn.{turn_of}
+use Rattle.pc_work.specs.Wire.{period_names}
 use Rattle.pc_work.specs.Workload.{refusal_of}
 use Rattle.pc_work.specs.declared.limits.TheConstants.{MOST_SENDS, MOST_TRIES}
-use Rattle.pc_work.specs.declared.refusal.TheConstants.{MANY_STATEMENTS, NOBODY_THERE, NO_WORKLOAD, NOT_BUILT, OTHER_FORM, WRONG_COUNT, WRONG_NUMBER, WRONG_SPLITS, WRONG_TEXT}
+use Rattle.pc_work.specs.declared.refusal.TheConstants.{MANY_STATEMENTS, NOBODY_THERE, NO_WORKLOAD, OTHER_FORM, WRONG_COUNT, WRONG_NUMBER, WRONG_SPLITS, WRONG_TEXT}
 use Rattle.pc_work.specs.declared.stated.Stated.{Stated}
 
 -- The number, if there is one, is that of a rule for values.
 abbrev is_rule : Option ℕ → Bool
 is_rule None = true
-is_rule (Some number) = nat_le NO_WORKLOAD number && nat_le number NOT_BUILT
+is_rule (Some number) = nat_le NO_WORKLOAD number && nat_le number NOBODY_THERE
 
 record Numbers (refusal : Option ℕ) : Type 0 where
   rule : is_rule refusal ≡ true
@@ -44,14 +45,14 @@ ruled refusal e = record { rule = e }
 
 both_rule : (n m : ℕ) → is_rule (Some n) ≡ true → is_rule (Some m) ≡ true → (b : Bool) → is_rule (Some (min n m)) ≡ b → b ≡ true
 both_rule n m one two b e =
-    let first = and_parts (nat_le NO_WORKLOAD n) (nat_le n NOT_BUILT) one in
-    let second = and_parts (nat_le NO_WORKLOAD m) (nat_le m NOT_BUILT) two in
+    let first = and_parts (nat_le NO_WORKLOAD n) (nat_le n NOBODY_THERE) one in
+    let second = and_parts (nat_le NO_WORKLOAD m) (nat_le m NOBODY_THERE) two in
     let low_n = leb-true NO_WORKLOAD n first.0 in
     let low_m = leb-true NO_WORKLOAD m second.0 in
-    let high_n = leb-true n NOT_BUILT first.1 in
+    let high_n = leb-true n NOBODY_THERE first.1 in
     let low : nat_le NO_WORKLOAD (min n m) ≡ true = le-leb NO_WORKLOAD (min n m) (omega (arith, low_n, low_m)) in
-    let high : nat_le (min n m) NOT_BUILT ≡ true = le-leb (min n m) NOT_BUILT (omega (arith, high_n)) in
-    sym e ∙ ap (λ c. c && nat_le (min n m) NOT_BUILT) low ∙ high
+    let high : nat_le (min n m) NOBODY_THERE ≡ true = le-leb (min n m) NOBODY_THERE (omega (arith, high_n)) in
+    sym e ∙ ap (λ c. c && nat_le (min n m) NOBODY_THERE) low ∙ high
 
 least_in : (one two : Option ℕ) → Numbers one → Numbers two → Numbers (least one two)
 least_in None two first second = second
@@ -151,15 +152,12 @@ verdict_in value =
     (when_in (has_only (codes "repeat" ∷ []) value) _ _ (judged_in (number_refusal 1 MOST_SENDS) (number_in 1 MOST_SENDS) (get (codes "repeat") value))
     (when_in (has_only (codes "hold" ∷ []) value) _ _ (judged_in (number_refusal 1 MOST_SENDS) (number_in 1 MOST_SENDS) (get (codes "hold") value)) form_in))
 
-verdicts_in : (value : Data) → Numbers (verdicts_refusal value)
-unfolding verdicts_refusal
-verdicts_in value =
+wire_in : (value : Data) → Numbers (wire_refusal value)
+unfolding wire_refusal
+wire_in value =
     when_in (has_only (codes "list" ∷ []) value) _ _ (judged_in (in_list verdict_refusal) (list_in verdict_refusal verdict_in) (get (codes "list") value))
     (when_in (has_only period_names value) _ _
     (least_in _ _ (judged_in (number_refusal 1 MOST_SENDS) (number_in 1 MOST_SENDS) (get (codes "period") value)) (judged_in verdict_refusal verdict_in (get (codes "verdict") value))) form_in)
-
-wire_in : (value : Data) → Numbers (wire_refusal value)
-wire_in value = least_in (verdicts_refusal value) (Some NOT_BUILT) (verdicts_in value) (ruled (Some NOT_BUILT) refl)
 
 clock_in : (value : Data) → Numbers (clock_refusal value)
 clock_in value = unless_in (is_some (clock_of value)) OTHER_FORM refl
@@ -222,11 +220,10 @@ together_in stated =
 refusal_in : (value : Data) → Numbers (refusal_of value)
 unfolding refusal_of
 refusal_in value =
-    when_in (is_right (parts_refusal value)) _ _
-    (least_in (parts_refusal value) (judged_if together_refusal (stated_of value)) (parts_in value) (stated_in together_refusal together_in (stated_of value))) (parts_in value)
+    when_in (is_none (parts_refusal value)) _ _ (stated_in together_refusal together_in (stated_of value)) (parts_in value)
 
--- The number of a value's refusal is from 2 to 10.
-pub refusal_numbers : (value : Data) (number : ℕ) → refusal_of value ≡ Some number → (NO_WORKLOAD ≤ number) × (number ≤ NOT_BUILT)
+-- The number of a value's refusal is from 2 to 9.
+pub refusal_numbers : (value : Data) (number : ℕ) → refusal_of value ≡ Some number → (NO_WORKLOAD ≤ number) × (number ≤ NOBODY_THERE)
 refusal_numbers value number is =
-    let both = and_parts (nat_le NO_WORKLOAD number) (nat_le number NOT_BUILT) (sym (ap is_rule is) ∙ (refusal_in value).rule) in
-    (leb-true NO_WORKLOAD number both.0, leb-true number NOT_BUILT both.1)
+    let both = and_parts (nat_le NO_WORKLOAD number) (nat_le number NOBODY_THERE) (sym (ap is_rule is) ∙ (refusal_in value).rule) in
+    (leb-true NO_WORKLOAD number both.0, leb-true number NOBODY_THERE both.1)

@@ -1,15 +1,15 @@
 -- What follows where a value is refused, and where it is not.
-use Rattle.std.proofs.Common.{◌≡◌, ℕ, ◌<◌, is_none, Bool, true, false, cond, Option, Some, None, refl, sym, ap, ◌∙◌}
-use Rattle.std.proofs.lemmas.Bool.{false≢true, lt-leb}
+use Rattle.std.proofs.Common.{◌≡◌, ℕ, is_none, Bool, true, false, cond, Option, Some, None, refl, sym, ap, ◌∙◌}
+use Rattle.std.proofs.lemmas.Bool.{false≢true}
 use Rattle.std.proofs.lemmas.Option.{none-some}
 use Rattle.serde_json.specs.Data.{Data}
 use Rattle.pc_work.specs.Reading.{◌>>=◌}
-use Rattle.pc_work.specs.Refusal.{is_right, judged_if, least, unless}
+use Rattle.pc_work.specs.Refusal.{judged_if, least, unless}
 use Rattle.pc_work.specs.RefusedWork.{parts_refusal}
 use Rattle.pc_work.specs.Stated.{stated_of}
 use Rattle.pc_work.specs.Together.{are_all_there, are_few_statements, are_numbers_right, together_refusal}
 use Rattle.pc_work.specs.Workload.{refusal_of, work_of, workload_of}
-use Rattle.pc_work.specs.declared.refusal.TheConstants.{MANY_STATEMENTS, NOBODY_THERE, NOT_BUILT, WRONG_NUMBER}
+use Rattle.pc_work.specs.declared.refusal.TheConstants.{MANY_STATEMENTS, NOBODY_THERE, WRONG_NUMBER}
 use Rattle.pc_work.specs.declared.stated.Stated.{Stated}
 use Rattle.pc_work.specs.declared.workload.Workload.{Workload}
 
@@ -34,30 +34,23 @@ is_none_of : (o : Option ℕ) → is_none o ≡ true → o ≡ None
 is_none_of None e = refl
 is_none_of (Some n) e = absurd (false≢true e)
 
-behind : (b : Bool) (parts together : Option ℕ) → is_right parts ≡ b → cond b (least parts together) parts ≡ None → together ≡ None
-behind true parts together right e = (least_both parts together e).1
-behind false parts together right e = absurd (false≢true (sym right ∙ ap is_right e))
+-- Where the parts break nothing, the refusal is what they break together.
+pub both_refused : (value : Data) (stated : Stated) → parts_refusal value ≡ None → stated_of value ≡ Some stated → refusal_of value ≡ together_refusal stated
+unfolding refusal_of
+both_refused value stated none is = ap (λ parts. cond (is_none parts) (judged_if together_refusal (stated_of value)) parts) none ∙ ap (judged_if together_refusal) is
+
+-- A part is refused.
+pub part_refused : (value : Data) (number : ℕ) → parts_refusal value ≡ Some number → refusal_of value ≡ Some number
+unfolding refusal_of
+part_refused value number is = ap (λ parts. cond (is_none parts) (judged_if together_refusal (stated_of value)) parts) is
 
 -- Where a value is not refused, its parts break nothing together.
 pub none_together : (value : Data) (stated : Stated) → is_none (refusal_of value) ≡ true → stated_of value ≡ Some stated → together_refusal stated ≡ None
-unfolding refusal_of
-none_together value stated none is =
-    sym (ap (judged_if together_refusal) is)
-    ∙ behind (is_right (parts_refusal value)) (parts_refusal value) (judged_if together_refusal (stated_of value)) refl (is_none_of (refusal_of value) none)
-
--- A part is refused.
-pub part_refused : (value : Data) (number : ℕ) → Some number ≡ parts_refusal value → number < NOT_BUILT → refusal_of value ≡ Some number
-unfolding refusal_of
-part_refused value number is low =
-    let wrong : is_right (parts_refusal value) ≡ false = sym (ap is_right is) ∙ lt-leb NOT_BUILT number low in
-    ap (λ b. cond b (least (parts_refusal value) (judged_if together_refusal (stated_of value))) (parts_refusal value)) wrong ∙ sym is
-
--- Where the parts are right, the refusal is what is broken in any way.
-pub both_refused : (value : Data) (stated : Stated) → is_right (parts_refusal value) ≡ true → stated_of value ≡ Some stated → refusal_of value ≡ least (parts_refusal value) (together_refusal stated)
-unfolding refusal_of
-both_refused value stated right is =
-    ap (λ b. cond b (least (parts_refusal value) (judged_if together_refusal (stated_of value))) (parts_refusal value)) right
-    ∙ ap (λ found. least (parts_refusal value) (judged_if together_refusal found)) is
+none_together value stated none is = by (parts_refusal value) refl
+  where
+    by : (parts : Option ℕ) → parts_refusal value ≡ parts → together_refusal stated ≡ None
+    by None e = sym (both_refused value stated e is) ∙ is_none_of (refusal_of value) none
+    by (Some number) e = absurd (none-some number (sym (is_none_of (refusal_of value) none) ∙ part_refused value number e))
 
 -- Where nothing is broken, the value states its workload.
 pub is_accepted : (value : Data) (stated : Stated) → refusal_of value ≡ None → stated_of value ≡ Some stated → workload_of value ≡ Some (work_of stated)

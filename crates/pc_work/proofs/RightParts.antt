@@ -1,28 +1,26 @@
--- What breaks no rule, but for that of what is not built yet, is read.
-use Rattle.std.proofs.Common.{◌≡◌, ℕ, ◌≤◌, ◌&&◌, is_some, IsSome, min, nat_le, Bool, true, false, cond, List, [], ◌∷◌, length, Option, Some, None, refl, sym, ap, ◌∙◌, arith}
-use Rattle.std.proofs.lemmas.Bool.{and_parts, false≢true, le-leb, leb-true}
+-- What breaks no rule is read.
+use Rattle.std.proofs.Common.{◌≡◌, ℕ, ◌&&◌, is_none, is_some, IsSome, nat_le, Bool, true, false, cond, List, [], ◌∷◌, length, Option, Some, None, refl, ap, ◌∙◌}
+use Rattle.std.proofs.lemmas.Bool.{and_parts, false≢true}
 use Rattle.serde_json.specs.Data.{Data, null, boolean, number, string, array, object, Items, no_items, item}
 use Rattle.pc_work.specs.Reading.{◌>>=◌}
 use Rattle.pc_work.specs.Lists.{items_by, list_by}
 use Rattle.pc_work.specs.Members.{read_if, read_or, whole_between, whole_of, whole_up_to}
-use Rattle.pc_work.specs.Refusal.{how_many, in_counted, in_items, in_list, is_right, judged, judged_if, least, number_refusal, unless}
+use Rattle.pc_work.specs.Refusal.{how_many, in_counted, in_items, in_list, judged, judged_if, least, number_refusal, unless}
 use Rattle.pc_work.specs.Stated.{counted, counted_by}
-use Rattle.pc_work.specs.declared.refusal.TheConstants.{NOT_BUILT, OTHER_FORM, WRONG_COUNT, WRONG_NUMBER}
+use Rattle.pc_work.specs.declared.refusal.TheConstants.{OTHER_FORM, WRONG_COUNT, WRONG_NUMBER}
 use Rattle.pc_work.proofs.Only.{length_only}
 
--- Where the refusal is right, something is found.
+-- Where there is no refusal, something is found.
 pub record Reads {X : Type 0} (refusal : Option ℕ) (found : Option X) : Type 0 where
-  pub reads : is_right refusal ≡ true → IsSome found
+  pub reads : is_none refusal ≡ true → IsSome found
 
--- Where the least of two is right, both are.
-pub least_right : (one two : Option ℕ) → is_right (least one two) ≡ true → (is_right one ≡ true) × (is_right two ≡ true)
-least_right None two e = (refl, e)
-least_right (Some n) None e = (e, refl)
-least_right (Some n) (Some m) e =
-    let low : NOT_BUILT ≤ min n m = leb-true NOT_BUILT (min n m) e in
-    (le-leb NOT_BUILT n (omega (arith, low)), le-leb NOT_BUILT m (omega (arith, low)))
+-- Where the least of two is none, neither is there.
+pub least_none : (one two : Option ℕ) → is_none (least one two) ≡ true → (is_none one ≡ true) × (is_none two ≡ true)
+least_none None two e = (refl, e)
+least_none (Some n) None e = absurd (false≢true e)
+least_none (Some n) (Some m) e = absurd (false≢true e)
 
--- A wrong form is not right.
+-- A wrong form is refused.
 pub reads_wrong : {X : Type 0} (found : Option X) → Reads (Some OTHER_FORM) found
 reads_wrong found = record { reads = λ e. absurd (false≢true e) }
 
@@ -31,12 +29,12 @@ reads_some refusal x = record { reads = λ e. refl }
 
 -- One is read, and then another.
 pub reads_then : {A B : Type 0} (one two : Option ℕ) (found : Option A) (next : A → Option B) → Reads one found → ((x : A) → Reads two (next x)) → Reads (least one two) (found >>= next)
-reads_then one two (Some x) next first others = record { reads = λ e. (others x).reads (least_right one two e).1 }
-reads_then one two None next first others = record { reads = λ e. absurd (false≢true (first.reads (least_right one two e).0)) }
+reads_then one two (Some x) next first others = record { reads = λ e. (others x).reads (least_none one two e).1 }
+reads_then one two None next first others = record { reads = λ e. absurd (false≢true (first.reads (least_none one two e).0)) }
 
 -- Something is judged that is not read.
 pub reads_beside : {X : Type 0} (one two : Option ℕ) (found : Option X) → Reads two found → Reads (least one two) found
-reads_beside one two found second = record { reads = λ e. second.reads (least_right one two e).1 }
+reads_beside one two found second = record { reads = λ e. second.reads (least_none one two e).1 }
 
 -- Something is made of what is read.
 pub reads_made : {A B : Type 0} (refusal : Option ℕ) (found : Option A) (make : A → B) → Reads refusal found → Reads refusal (found >>= λ x. Some (make x))
@@ -54,7 +52,7 @@ reads_judged refusal next each (Some x) = each x
 -- A member that has to be there is read, and then another.
 pub reads_member : {A B : Type 0} (refusal : Data → Option ℕ) (two : Option ℕ) (read : Data → Option A) (next : A → Option B) → ((value : Data) → Reads (refusal value) (read value)) → ((x : A) → Reads two (next x)) → (found : Option Data)
     → Reads (least (judged refusal found) two) (found >>= λ value. read value >>= next)
-reads_member refusal two read next each others None = record { reads = λ e. absurd (false≢true (least_right (Some OTHER_FORM) two e).0) }
+reads_member refusal two read next each others None = record { reads = λ e. absurd (false≢true (least_none (Some OTHER_FORM) two e).0) }
 reads_member refusal two read next each others (Some value) = reads_then (refusal value) two (read value) next (each value) others
 
 -- A member that is absent is at its default.
@@ -66,16 +64,15 @@ pub reads_if : {X : Type 0} (refusal : Data → Option ℕ) (read : Data → Opt
 reads_if refusal read each None = reads_some None None
 reads_if refusal read each (Some value) = reads_made (refusal value) (read value) (λ x. Some x) (each value)
 
--- A number below that of what is not built yet is not right.
-pub reads_unless : {X : Type 0} (b : Bool) (n : ℕ) (found : Option X) → nat_le NOT_BUILT n ≡ false → (b ≡ true → IsSome found) → Reads (unless b n) found
-reads_unless true n found low some = record { reads = λ e. some refl }
-reads_unless false n found low some = record { reads = λ e. absurd (false≢true (sym low ∙ e)) }
+pub reads_unless : {X : Type 0} (b : Bool) (n : ℕ) (found : Option X) → (b ≡ true → IsSome found) → Reads (unless b n) found
+reads_unless true n found some = record { reads = λ e. some refl }
+reads_unless false n found some = record { reads = λ e. absurd (false≢true e) }
 
-pub reads_test : {X : Type 0} (b : Bool) (n : ℕ) (x : X) → nat_le NOT_BUILT n ≡ false → Reads (unless b n) (cond b (Some x) None)
-reads_test b n x low = reads_unless b n (cond b (Some x) None) low (λ holds. ap (λ b. is_some (cond b (Some x) None)) holds)
+pub reads_test : {X : Type 0} (b : Bool) (n : ℕ) (x : X) → Reads (unless b n) (cond b (Some x) None)
+reads_test b n x = reads_unless b n (cond b (Some x) None) (λ holds. ap (λ b. is_some (cond b (Some x) None)) holds)
 
-pub reads_is : {X : Type 0} (found : Option X) (n : ℕ) → nat_le NOT_BUILT n ≡ false → Reads (unless (is_some found) n) found
-reads_is found n low = reads_unless (is_some found) n found low (λ some. some)
+pub reads_is : {X : Type 0} (found : Option X) (n : ℕ) → Reads (unless (is_some found) n) found
+reads_is found n = reads_unless (is_some found) n found (λ some. some)
 
 items_read : {X : Type 0} (refusal : Data → Option ℕ) (read : Data → Option X) → ((value : Data) → Reads (refusal value) (read value)) → (values : Items) → Reads (in_items refusal values) (items_by read values)
 unfolding items_by
@@ -106,11 +103,11 @@ few_read : {X : Type 0} (fewest most : ℕ) (refusal : Data → Option ℕ) (rea
     → Reads (least (unless (fits fewest most (how_many values)) WRONG_COUNT) (in_items refusal values)) (items_by read values >>= counted fewest most)
 few_read fewest most refusal read each values = record {
   reads = λ e.
-      let both = least_right (unless (fits fewest most (how_many values)) WRONG_COUNT) (in_items refusal values) e in
+      let both = least_none (unless (fits fewest most (how_many values)) WRONG_COUNT) (in_items refusal values) e in
       fitting fewest most read values (items_by read values) refl ((items_read refusal read each values).reads both.1) (held (fits fewest most (how_many values)) both.0);
 }
   where
-    held : (b : Bool) → is_right (unless b WRONG_COUNT) ≡ true → b ≡ true
+    held : (b : Bool) → is_none (unless b WRONG_COUNT) ≡ true → b ≡ true
     held true e = refl
     held false e = absurd (false≢true e)
 
@@ -125,10 +122,10 @@ counted_read fewest most refusal read each (object fields) = reads_wrong None
 pub between_read : (low high : ℕ) (value : Data) → Reads (number_refusal low high value) (whole_between low high value)
 between_read low high value =
     reads_judged (λ n. unless (nat_le low n && nat_le n high) WRONG_NUMBER) (λ n. cond (nat_le low n && nat_le n high) (Some n) None)
-    (λ n. reads_test (nat_le low n && nat_le n high) WRONG_NUMBER n refl) (whole_of value)
+    (λ n. reads_test (nat_le low n && nat_le n high) WRONG_NUMBER n) (whole_of value)
 
 pub up_to_read : (high : ℕ) (value : Data) → Reads (number_refusal 0 high value) (whole_up_to high value)
 up_to_read high value =
     reads_judged (λ n. unless (nat_le 0 n && nat_le n high) WRONG_NUMBER) (λ n. cond (nat_le n high) (Some n) None)
-    (λ n. reads_unless (nat_le 0 n && nat_le n high) WRONG_NUMBER (cond (nat_le n high) (Some n) None) refl
+    (λ n. reads_unless (nat_le 0 n && nat_le n high) WRONG_NUMBER (cond (nat_le n high) (Some n) None)
     (λ within. ap (λ b. is_some (cond b (Some n) None)) (and_parts (nat_le 0 n) (nat_le n high) within).1)) (whole_of value)

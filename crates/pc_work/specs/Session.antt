@@ -22,8 +22,8 @@ session_names = codes "clock" ∷ codes "script" ∷ codes "stop" ∷ codes "wir
 unfoldable pub session_of : Data → Option SessionWork
 session_of value = if has_only session_names value then (do
   clock ← member_if clock_of (codes "clock") value
-  wire ← member_or Quiet wire_of (codes "wire") value
   stop ← member_if stop_of (codes "stop") value
+  wire ← member_or Quiet wire_of (codes "wire") value
   found ← get (codes "script") value
   script ← list_by item_of found
   Some (record { script = script; clock = clock; wire = wire; stop = stop })) else None

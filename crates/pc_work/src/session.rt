@@ -37,8 +37,8 @@ impl FromJson for SessionWork {
             return Err(Misfit::OtherForm);
         }
         let clock = clock_if(json, "clock")?;
-        let wire = wire_or_quiet(alloc, json, "wire")?;
         let stop = stop_if(json, "stop")?;
+        let wire = wire_or_quiet(alloc, json, "wire")?;
         let script: Script = list(alloc, member(json, "script")?)?;
         Ok(SessionWork {
             script,

@@ -1,7 +1,8 @@
 use Rattle.std.proofs.Common.{◌∙◌}
 use Rattle.std.proofs.lemmas.Result.{err_from_is_err_and}
 use Rattle.pc_desk.proofs.InCall.{open_in_call}
-use Rattle.pc_recoverer.proofs.Exchanging.{all_back, ends_delivered, ends_due, ends_sent, heard_if, lost_if, may_hear_it, one_out}
+use Rattle.pc_exchange.proofs.Exchanging.{halted_since}
+use Rattle.pc_recoverer.proofs.Exchanging.{all_back, ends_delivered, ends_due, ends_sent, heard_if, lost_if, may_hear_it, one_out, same_heard}
 use Rattle.pc_recoverer.proofs.message.hear_reply.Goals as goal
 
 pub deliver-requires-clause-none_waits : goal.deliver-requires-clause-none_waits
@@ -53,3 +54,10 @@ returns-in_err-deliver_due-clause-ended g c =
     rw (p.1, p.2)
     (ends_due before c.args.desk.now c.deliver_due.new.self request number c.in_err-deliver_due.field-0.0 sent c.deliver.new.self c.in_ok-deliver.ensures.ok c.hear_one.new.desk c.in_ok-reply.reply c.in_ok-reply.ensures.heard
     c.in_ok-reply.ensures.lost c.in_err-deliver_due.ensures.ended)
+
+pub returns-in_err-deliver_due-clause-err : goal.returns-in_err-deliver_due-clause-err
+returns-in_err-deliver_due-clause-err g c =
+    let p = err_from_is_err_and c.from_residual-in_err-deliver_due.result c.from_residual-in_err-deliver_due.ensures.1 in
+    rw (p.1, p.2)
+    (halted_since c.args.desk.now c.hear_one.new.desk c.deliver_due.new.self c.in_err-deliver_due.field-0.0
+    (same_heard c.args.desk.now c.deliver.new.self c.hear_one.new.desk c.in_ok-reply.reply c.in_ok-deliver.ensures.ok c.in_ok-reply.ensures.heard c.in_ok-reply.ensures.lost) c.in_err-deliver_due.ensures.err)
