@@ -9,9 +9,10 @@ use Rattle.pc_recoverer.specs.Exchanges.{Sending}
 use Rattle.pc_recoverer.specs.InRound.{sending_of}
 use Rattle.pc_recoverer.specs.Recoverer.{HasMadeWholeRound, RecovererMeaning}
 use Rattle.pc_rounds.proofs.Events.{one_more_round, some_left, whole_asks, whole_events}
-use Rattle.pc_rounds.proofs.Served.{none_ends, says_earlier}
+use Rattle.pc_rounds.proofs.Served.{none_ends}
 use Rattle.pc_rounds.specs.Counted.{AsksOnlyRounds, CountedMeaning, GoesInRounds, GoesOnInRounds, HasMadeNext, entries_made}
 use Rattle.pc_rounds.specs.Made.{AreWholeRounds}
+use Rattle.pc_scripted.proofs.Saying.{says_before}
 use Rattle.pc_scripted.proofs.Tests.{not_ended, some_room}
 use Rattle.pc_scripted.specs.Ended.{SaysHeldUp, list_has_ended}
 use Rattle.pc_turns.specs.Order.{MakesRoundAfter, MakesRoundIfLeft, UnlessEnded, rounds_asked}
@@ -81,7 +82,8 @@ module _ {C : Type 0} (old : CountedMeaning C) (new : RecovererMeaning C) (made 
       (subst (λ own. length own ≤ old.recoverer.desk.log.limit) h.grown.own (subst (λ n. length new.desk.log.part.own ≤ n) limit-then h.between.back.track.log.within))
 
   says-then : (held : Sent → Bool) → SaysHeldUp held new.desk → SaysHeldUp held old.recoverer.desk
-  says-then held says = says_earlier held old.recoverer.desk new.desk h.grown h.limit says
+  says-then held says = 
+      says_before held old.recoverer.desk new.desk h.part h.limit (log-is (λ l. l.part.id ≡ old.recoverer.desk.log.part.id) refl) (log-is (λ l. l.wire ≡ old.recoverer.desk.log.wire) refl) h.grown.own h.grown.known says
 
   pub made_round : HasMadeNext old then
   made_round = record {

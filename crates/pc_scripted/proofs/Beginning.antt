@@ -1,12 +1,12 @@
 -- A session at the first call of its script; and from a session as its code has it.
-use Rattle.std.proofs.Common.{◌≡◌, ◌↔◌, ℕ, ◌⊎◌, inl, inr, Bool, true, false, not, All, IsTrue, List, [], ◌∷◌, map, Option, None, Result, Ok, Err, OnOk, refl, sym, ap, subst, ◌∙◌}
+use Rattle.std.proofs.Common.{◌≡◌, ◌↔◌, ℕ, ◌⊎◌, inl, inr, Bool, true, false, not, All, Contains, IsTrue, List, [], ◌∷◌, ◌++◌, map, Option, None, Result, Ok, Err, OnOk, refl, sym, ap, subst, ◌∙◌}
 use Rattle.std.proofs.lemmas.List.Elements.{All-nil, All-weaker, Contains-append_left}
 use Rattle.pc_base.specs.declared.actor.ActorId.TheVariants as actors
 use Rattle.pc_coord.specs.declared.job.Job.{Job}
 use Rattle.pc_coord.specs.Knows.{messages_of_job}
 use Rattle.pc_desk.specs.Desk.{DeskMeaning}
 use Rattle.pc_desk.proofs.Refusing.{refused_still}
-use Rattle.pc_desk.specs.Ending.{IsSpent, EndsEarly, IsNotLost}
+use Rattle.pc_desk.specs.Ending.{EndsEarly, IsNotLost, IsRepeatedOrWaits, IsSomewhere, IsSpent, WasLateAndDue, WasWaitedFor}
 use Rattle.pc_history.specs.declared.pair.Pair.{Pair}
 use Rattle.pc_history.specs.declared.view.Known.{Known as KnownEntry}
 use Rattle.pc_history.specs.Parts.{told}
@@ -62,10 +62,26 @@ module _ {C : Type 0} (d : DeskMeaning C) (note : List (KnownEntry Event)) where
   abbrev taught : DeskMeaning C
   taught = record d { log = record d.log { part = told note d.log.part } }
 
+  knows-more : (k : KnownEntry Event) → Contains d.log.part.known k → Contains (d.log.part.known ++ note) k
+  knows-more k there = Contains-append_left d.log.part.known note k there
+
+  somewhere_still : (m : Sent) → IsSomewhere d m → IsSomewhere taught m
+  somewhere_still m (inl heard) = inl heard
+  somewhere_still m (inr (inl waits)) = inr (inl waits)
+  somewhere_still m (inr (inr (inl knows))) = inr (inr (inl (record { evaluation = knows.evaluation; knows = knows-more knows.evaluation knows.knows; of_it = knows.of_it })))
+  somewhere_still m (inr (inr (inr never))) = inr (inr (inr never))
+
+  repeated_still : (n : ℕ) → IsRepeatedOrWaits d n → IsRepeatedOrWaits taught n
+  repeated_still n (inl waits) = inl waits
+  repeated_still n (inr two) =
+      inr (record { one = two.one; other = two.other; later = two.later; knows_one = knows-more two.one two.knows_one; knows_other = knows-more two.other two.knows_other; one_is = two.one_is; other_is = two.other_is })
+
   not_lost_still : (m : Sent) → IsNotLost d m → IsNotLost taught m
-  not_lost_still m (inl heard) = inl heard
-  not_lost_still m (inr (inl waits)) = inr (inl waits)
-  not_lost_still m (inr (inr knows)) = inr (inr (record { evaluation = knows.evaluation; knows = Contains-append_left d.log.part.known note knows.evaluation knows.knows; of_it = knows.of_it }))
+  not_lost_still m kept = (somewhere_still m kept.0, λ repeats. repeated_still m.number (kept.1 repeats))
+
+  why_still : (m : Sent) → WasWaitedFor d m ⊎ WasLateAndDue d m → WasWaitedFor taught m ⊎ WasLateAndDue taught m
+  why_still m (inl waited) = inl (record { unheard = waited.unheard; unheld = waited.unheld; in_call = waited.in_call })
+  why_still m (inr late) = inr late
 
   pub ends_still : EndsEarly d → EndsEarly taught
   ends_still (inl end) = inl (record { long = end.long; each = All-weaker (IsNotLost d) (IsNotLost taught) not_lost_still (known_of d.log.part.own).sent end.each; waits = end.waits })
@@ -74,14 +90,14 @@ module _ {C : Type 0} (d : DeskMeaning C) (note : List (KnownEntry Event)) where
     message = end.message;
     sent = end.sent;
     spent = spent_still end.message end.spent;
-    in_call = end.in_call;
+    why = why_still end.message end.why;
     others = All-weaker (λ m. IsSpent d m ⊎ IsNotLost d m) (λ m. IsSpent taught m ⊎ IsNotLost taught m) other (known_of d.log.part.own).sent end.others;
     waits = end.waits;
     later = end.later;
   }))
     where
       spent_still : (m : Sent) → IsSpent d m → IsSpent taught m
-      spent_still m spent = record { refused = refused_still d.range_limit d.range_limit d.log.part taught.log.part m refl refl (λ k there. Contains-append_left d.log.part.known note k there) spent.refused; unheard = spent.unheard }
+      spent_still m spent = record { refused = refused_still d.range_limit d.range_limit d.log.part taught.log.part m refl refl knows-more spent.refused }
 
       other : (m : Sent) → IsSpent d m ⊎ IsNotLost d m → IsSpent taught m ⊎ IsNotLost taught m
       other m (inl it) = inl (spent_still m it)
@@ -97,7 +113,7 @@ followed_scripted {C} old new note is rests scripted =
       id = scripted.id;
       whose = scripted.whose;
       within = scripted.within;
-      given = record { each = scripted.given.each; once = scripted.given.once };
+      given = record { each = scripted.given.each; within = scripted.given.within };
       asks = scripted.asks;
       goes = λ going. record { rest = rest going; place = (scripted.goes going).place; fits = (scripted.goes going).fits };
       ends = λ stopped. ends_still old.session.desk note (scripted.ends stopped);

@@ -1,5 +1,6 @@
 pub mod Passing
 pub mod Tests
+pub mod Saying
 pub mod Turning
 pub mod Telling
 pub mod Asking
