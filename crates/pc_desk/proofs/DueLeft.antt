@@ -367,8 +367,8 @@ module _ {C N : Type 0} {G : Ghosts N CommitWorld} (mid new : DeskMeaning C) (ba
   due-now = (
     sym (ap (λ n. is_late (verdict_of mid.log n)) of-bag.number) ∙ of-bag.late,
     subst (λ n. due_of (verdict_of mid.log n) n ≤ length (known_of mid.log.part.own).sent) of-bag.number
-    (subst (λ n. n ≤ length (known_of mid.log.part.own).sent) of-bag.due
-    (subst (λ n. e.1.due ≤ n) track.counted due-low)),
+        (subst (λ n. n ≤ length (known_of mid.log.part.own).sent) of-bag.due
+        (subst (λ n. e.1.due ≤ n) track.counted due-low)),
   )
 
   ended-back : HasLateBack taken-from new e.1.message → HasEnded mid new

@@ -82,7 +82,7 @@ module _ {C : Type 0} (old : CountedMeaning C) (new : RecovererMeaning C) (made 
       (subst (λ own. length own ≤ old.recoverer.desk.log.limit) h.grown.own (subst (λ n. length new.desk.log.part.own ≤ n) limit-then h.between.back.track.log.within))
 
   says-then : (held : Sent → Bool) → SaysHeldUp held new.desk → SaysHeldUp held old.recoverer.desk
-  says-then held says = 
+  says-then held says =
       says_before held old.recoverer.desk new.desk h.part h.limit (log-is (λ l. l.part.id ≡ old.recoverer.desk.log.part.id) refl) (log-is (λ l. l.wire ≡ old.recoverer.desk.log.wire) refl) h.grown.own h.grown.known says
 
   pub made_round : HasMadeNext old then

@@ -2,7 +2,7 @@
 use Rattle.std.proofs.Common.{◌≡◌, ℕ, ◌<◌, ◌≤◌, false, true, All, [], ◌∷◌, ◌++◌, length, Some, refl, sym, ap, subst, ◌∙◌}
 use Rattle.std.proofs.lemmas.List.Elements.{All-append}
 use Rattle.pc_base.specs.declared.actor.ActorId.TheVariants as actors
-use Rattle.pc_desk.specs.OwnLog.{LogMeaning}
+use Rattle.pc_desk.specs.OwnLog.{LogMeaning, verdict_of}
 use Rattle.pc_history.specs.declared.pair.Pair.{Pair}
 use Rattle.pc_proto.specs.declared.answer.Answer.{Answer}
 use Rattle.pc_proto.specs.declared.call.Call.{Call}
@@ -12,6 +12,7 @@ use Rattle.pc_script.specs.Script.{Position, after_told, next_call, script_posit
 use Rattle.pc_script.specs.Suiting.{FitsCalls}
 use Rattle.pc_scripted.proofs.Passing.{order_told, position_told}
 use Rattle.pc_scripted.proofs.Telling.{fits_told, told_reruns}
+use Rattle.pc_scripted.proofs.AtRest.{rest_ends_none}
 use Rattle.pc_scripted.proofs.Tests.{not_ended, some_room}
 use Rattle.pc_scripted.proofs.Turning.{asks_whole}
 use Rattle.pc_scripted.specs.Ended.{ended_in_script}
@@ -113,6 +114,8 @@ module _ {C : Type 0} (old : ScriptedMeaning C) (new : SessionMeaning C) (at : P
         piped = log-is (λ l. l.pipelining ≡ old.session.desk.log.pipelining) refl;
         beside = log-is (λ l. l.beside ≡ old.session.desk.log.beside) refl;
         stop = log-is (λ l. l.stop ≡ old.session.desk.log.stop) refl;
+        wire = log-is (λ l. l.wire ≡ old.session.desk.log.wire) refl;
+        tries = log-is (λ l. l.tries ≡ old.session.desk.log.tries) refl;
         range_limit = called.limit;
       };
       own = called.grown.own;
@@ -121,6 +124,6 @@ module _ {C : Type 0} (old : ScriptedMeaning C) (new : SessionMeaning C) (at : P
       above = called.grown.above;
       known = called.grown.known;
     };
-    is = λ held says. asks_whole (next_in_script reruns old.script) (ended_in_script old.session.desk.log.limit old.session.desk.log.stop held) (own_number old) (own_list old) called.part
-        (not_ended old.session.desk.log.limit old.session.desk.log.stop held (own_list old) (goes.rest.track.log.before_stop going) goes.rest.closed goes.rest.heard room) call next-here whole-call;
+    is = λ held says plain. asks_whole (next_in_script reruns old.script) (ended_in_script old.session.desk.log.limit old.session.desk.log.stop (verdict_of old.session.desk.log) held) (own_number old) (own_list old) called.part
+        (not_ended old.session.desk.log.limit old.session.desk.log.stop (verdict_of old.session.desk.log) held (own_list old) (goes.rest.track.log.before_stop going) (rest_ends_none old.session held plain goes.rest) room) call next-here whole-call;
   }

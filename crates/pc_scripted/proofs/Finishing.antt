@@ -4,13 +4,14 @@ use Rattle.std.proofs.lemmas.List.{append-nil}
 use Rattle.std.proofs.lemmas.List.Elements.{All-append}
 use Rattle.pc_base.specs.declared.actor.ActorId.TheVariants as actors
 use Rattle.pc_coord.specs.Knows.{messages_of_job}
-use Rattle.pc_desk.specs.OwnLog.{LogMeaning}
+use Rattle.pc_desk.specs.OwnLog.{LogMeaning, verdict_of}
 use Rattle.pc_history.specs.declared.pair.Pair.{Pair}
 use Rattle.pc_proto.specs.declared.event.Event.{Event}
 use Rattle.pc_proto.specs.declared.request.Request.{Request}
 use Rattle.pc_script.specs.Script.{script_position}
 use Rattle.pc_script.specs.Suiting.{FitsCalls}
 use Rattle.pc_scripted.proofs.Passing.{order_between, position_between}
+use Rattle.pc_scripted.proofs.AtRest.{rest_ends_none}
 use Rattle.pc_scripted.proofs.Tests.{not_ended, some_room}
 use Rattle.pc_scripted.proofs.Turning.{finishes_whole}
 use Rattle.pc_scripted.specs.Ended.{ended_in_script}
@@ -101,6 +102,8 @@ module _ {C : Type 0} (old : ScriptedMeaning C) (new : SessionMeaning C) (script
         piped = log-is (λ l. l.pipelining ≡ old.session.desk.log.pipelining) refl;
         beside = log-is (λ l. l.beside ≡ old.session.desk.log.beside) refl;
         stop = log-is (λ l. l.stop ≡ old.session.desk.log.stop) refl;
+        wire = log-is (λ l. l.wire ≡ old.session.desk.log.wire) refl;
+        tries = log-is (λ l. l.tries ≡ old.session.desk.log.tries) refl;
         range_limit = step.limit;
       };
       own = step.grown.own;
@@ -109,6 +112,6 @@ module _ {C : Type 0} (old : ScriptedMeaning C) (new : SessionMeaning C) (script
       above = step.grown.above;
       known = step.grown.known;
     };
-    is = λ held says. finishes_whole (next_in_script old.at.reruns old.script) (ended_in_script old.session.desk.log.limit old.session.desk.log.stop held) (own_number old) (own_list old) step.part
-        (not_ended old.session.desk.log.limit old.session.desk.log.stop held (own_list old) (goes.rest.track.log.before_stop going) goes.rest.closed goes.rest.heard room) (messages_of_job step.job) waiting oldest-is whole-job;
+    is = λ held says plain. finishes_whole (next_in_script old.at.reruns old.script) (ended_in_script old.session.desk.log.limit old.session.desk.log.stop (verdict_of old.session.desk.log) held) (own_number old) (own_list old) step.part
+        (not_ended old.session.desk.log.limit old.session.desk.log.stop (verdict_of old.session.desk.log) held (own_list old) (goes.rest.track.log.before_stop going) (rest_ends_none old.session held plain goes.rest) room) (messages_of_job step.job) waiting oldest-is whole-job;
   }

@@ -51,6 +51,10 @@ list_has_ended limit stop verdict held own = length own == limit || reaches_stop
 abbrev pub ended_in_script : ℕ → Option ℕ → (ℕ → Verdict) → (Sent → Bool) → ℕ → List (Pair Event) → Bool
 ended_in_script limit stop verdict held number own = list_has_ended limit stop verdict held own
 
+-- Each message is delivered, and the reply to it heard.
+abbrev pub Delivers : (ℕ → Verdict) → Type 0
+Delivers verdict = (number : ℕ) → verdict number ≡ verdicts.Deliver
+
 -- The actor knows that its message was evaluated as often as its verdict says.
 abbrev pub IsServed : Verdict → Part Event → Sent → Type 0
 IsServed verdicts.LoseRequest part m = ⊤
