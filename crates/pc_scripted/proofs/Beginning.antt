@@ -42,16 +42,16 @@ begun_scripted session script at reruns rest none going start =
     let id = session.desk.log.part.id in
     let begins : at.reruns ≡ reruns = ap (λ (p : Position). p.reruns) start ∙ opened_reruns script reruns in
     record {
-      id = rest.one.whose ∙ ap actors.Session (sym (ap session_number rest.one.whose));
+      id = rest.any.one.whose ∙ ap actors.Session (sym (ap session_number rest.any.one.whose));
       whose = subst (All (λ (p : Pair Event). p.entry.actor ≡ actors.Session (session_number id))) (sym none) (All-nil (λ (p : Pair Event). p.entry.actor ≡ actors.Session (session_number id)));
-      within = rest.track.log.within;
-      given = rest.track.given;
+      within = rest.any.track.log.within;
+      given = rest.any.track.given;
       asks = subst (AskInOrder at.reruns script) (sym none) tt;
       goes = λ still. record {
         rest = rest;
         place = start ∙ (ap (opened script) (sym begins) ∙ ap (script_position at.reruns script) (sym none));
         fits = subst (λ (p : Position). FitsCalls session.coordinator.pipelining p session.coordinator.txn) (sym start)
-            (subst (λ (txn : Option OpenTxn). FitsCalls session.coordinator.pipelining (opened script reruns) txn) (sym (none_is session.coordinator.txn (rest.holds ∙ ap (λ own. (known_of own).is_open) none))) (opened_fits session.coordinator.pipelining script reruns));
+            (subst (λ (txn : Option OpenTxn). FitsCalls session.coordinator.pipelining (opened script reruns) txn) (sym (none_is session.coordinator.txn (rest.any.holds ∙ ap (λ own. (known_of own).is_open) none))) (opened_fits session.coordinator.pipelining script reruns));
       };
       ends = λ stopped. let e : true ≡ false = sym stopped ∙ going in absurd cc;
     }
@@ -121,19 +121,8 @@ followed_scripted {C} old new note is rests scripted =
 
 -- ---- a step
 
-map_none : (jobs : List Job) → map messages_of_job jobs ≡ [] → jobs ≡ []
-map_none [] none = refl
-map_none (job ∷ jobs) none = absurd (let e : messages_of_job job ∷ map messages_of_job jobs ≡ [] = none in cc)
-
-pub jobs_so : {C : Type 0} (v old : ScriptedMeaning C) (b : Bool) → v ≡ old → IsScripted old → old.session.desk.log.stopped ≡ false → IsTrue (not b) ↔ (v.session.jobs ≡ []) → IsTrue (not b) ↔ (jobs_of (own_list old) ≡ [])
-jobs_so {C} v old b same scripted going tells =
-    let left = (scripted.goes going).rest.waiting.left in
-    let mine : v.session.jobs ≡ old.session.jobs = ap (λ (s : ScriptedMeaning C). s.session.jobs) same in
-    (λ is. left ∙ ap (map messages_of_job) (sym mine ∙ tells.0 is), λ none. tells.1 (mine ∙ map_none old.session.jobs (sym left ∙ none)))
-
 pub moved_stepped : {C : Type 0} (s : ScriptedMeaning C) (new : SessionMeaning C) (b : Bool) → IsScripted s → s.session.desk.log.stopped ≡ false → HasStepped s.session new b
     → HasMoved (FinishesInTurn s) s (record { session = new; script = s.script; at = s.at })
 moved_stepped s new true scripted going step = moved_finished s new scripted going step
 moved_stepped {C} s new false scripted going step =
-    let none : jobs_of (own_list s) ≡ [] = (scripted.goes going).rest.waiting.left ∙ ap (map messages_of_job) step.0 in
-    subst (λ (n : SessionMeaning C). HasMoved (FinishesInTurn s) s (record { session = n; script = s.script; at = s.at })) (sym step.1) (idle_finishes s scripted none)
+    subst (λ (n : SessionMeaning C). HasMoved (FinishesInTurn s) s (record { session = n; script = s.script; at = s.at })) (sym step.1) (idle_finishes s scripted going step.0)

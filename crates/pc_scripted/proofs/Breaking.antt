@@ -17,7 +17,7 @@ use Rattle.pc_proto.specs.declared.answer.Answer.{Answer}
 use Rattle.pc_proto.specs.declared.request.Request.{Request}
 use Rattle.pc_script.specs.Script.{next_call, script_position}
 use Rattle.pc_scripted.proofs.Passing.{order_asked, order_between, order_told}
-use Rattle.pc_scripted.proofs.AtRest.{rest_ends_none}
+use Rattle.pc_scripted.proofs.AtRest.{none_waits, rest_ends_none}
 use Rattle.pc_scripted.proofs.Tests.{has_ended_now, no_room, only_at_limit}
 use Rattle.pc_scripted.proofs.Turning.{asks_ended, asks_partly, asks_whole, finishes_ended, finishes_partly}
 use Rattle.pc_scripted.specs.Ended.{Delivers, SaysHeldUp, ended_in_script, list_has_ended}
@@ -143,7 +143,7 @@ module _ {C : Type 0} (Are : List Event → Type 0) (old : ScriptedMeaning C) (n
   -- and if it had before, nothing was made
   nothing-made : (held : Sent → Bool) → Delivers (verdict_of old.session.desk.log) → list_has_ended old.session.desk.log.limit old.session.desk.log.stop (verdict_of old.session.desk.log) held (own_list old) ≡ true → b.part ≡ []
   nothing-made held plain before =
-      no_room old.session.desk.log.limit (own_list old) b.part (only_at_limit old.session.desk.log.limit old.session.desk.log.stop (verdict_of old.session.desk.log) held (own_list old) (goes.rest.track.log.before_stop going) (rest_ends_none old.session held plain goes.rest) before)
+      no_room old.session.desk.log.limit (own_list old) b.part (only_at_limit old.session.desk.log.limit old.session.desk.log.stop (verdict_of old.session.desk.log) held (own_list old) (goes.rest.any.track.log.before_stop going) (rest_ends_none old.session held plain goes.rest) before)
       (subst (λ own. length own ≤ old.session.desk.log.limit) b.own (subst (λ n. length new.desk.log.part.own ≤ n) limit-then b.within))
 
   -- if it had not, something was made
@@ -223,15 +223,12 @@ module _ {C : Type 0} (old : ScriptedMeaning C) (new : SessionMeaning C) (script
       (record { whose = whose-part (All IsInBetween) old new scripted going b orders-then; within = b.are })
       (ended-then (All IsInBetween) old new scripted going b orders-then held says)
 
-  pub moved_broken_job : (job : List Request) (jobs : List (List Request)) → jobs_of (own_list old) ≡ job ∷ jobs → HasMoved (FinishesInTurn old) old (record { session = new; script = old.script; at = old.at })
-  moved_broken_job job jobs waits =
-      moved-so (All IsInBetween) old new scripted going b orders-then (FinishesInTurn old)
-      (λ held says plain. finishes-so held says plain job jobs waits (ended-at held (own_number old) (own_list old)) refl)
-
   -- where a job waited
-  pub moved_broken_step : (jobs_of (own_list old) ≡ [] → ⊥) → HasMoved (FinishesInTurn old) old (record { session = new; script = old.script; at = old.at })
-  moved_broken_step some = by (jobs_of (own_list old)) refl
+  pub moved_broken_step : (old.session.jobs ≡ [] → ⊥) → HasMoved (FinishesInTurn old) old (record { session = new; script = old.script; at = old.at })
+  moved_broken_step some =
+      moved-so (All IsInBetween) old new scripted going b orders-then (FinishesInTurn old)
+      (λ held says plain. by held says plain (jobs_of (own_list old)) refl)
     where
-      by : (jobs : List (List Request)) → jobs_of (own_list old) ≡ jobs → HasMoved (FinishesInTurn old) old (record { session = new; script = old.script; at = old.at })
-      by [] none = absurd (some none)
-      by (job ∷ jobs) waits = moved_broken_job job jobs waits
+      by : (held : Sent → Bool) → SaysHeldUp held new.desk → Delivers (verdict_of old.session.desk.log) → (jobs : List (List Request)) → jobs_of (own_list old) ≡ jobs → FinishesAfter next-at (ended-at held) (own_number old) (own_list old) b.part
+      by held says plain [] none = absurd (some (none_waits old.session plain (scripted.goes going).rest none))
+      by held says plain (job ∷ jobs) waits = finishes-so held says plain job jobs waits (ended-at held (own_number old) (own_list old)) refl

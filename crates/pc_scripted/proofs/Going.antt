@@ -25,6 +25,7 @@ use Rattle.pc_turns.specs.Order.GoesByItself.{Ended, Onwards, Passed}
 use Rattle.pc_wire.specs.declared.verdict.Verdict.{Verdict}
 use Rattle.pc_work.specs.declared.item.Item.{Item}
 use Rattle.pc_follows.specs.FinishingJobs.{jobs_of}
+use Rattle.pc_scripted.proofs.AtRest.{none_left, none_waits}
 use Rattle.pc_world.specs.Known.Traffic.{Sent}
 
 -- whose entries are all one session's
@@ -124,8 +125,9 @@ module _ {C : Type 0} (test : List (Pair Event) → Bool) (old mid : ScriptedMea
     taken : (held : Sent → Bool) → SaysHeldUp held new.session.desk → Delivers (verdict_of old.session.desk.log) → TakesOne next (ended held) number (jobs_of (entries_by number before)) (entries_by number before) more.part
     taken held says plain = subst (λ own. TakesOne next (ended held) number (jobs_of own) own more.part) (sym mine) (takes-as held says plain)
 
-    still : jobs_of (entries_by number before) ≡ [] → test (entries_by number before) ≡ true → ⊥
-    still none passed = not_yet.1 (ap jobs_of (sym mine) ∙ none) (ap test (sym mine) ∙ passed)
+    still : Delivers (verdict_of old.session.desk.log) → jobs_of (entries_by number before) ≡ [] → test (entries_by number before) ≡ true → ⊥
+    still plain none passed =
+        not_yet.1 (none_waits mid.session (subst Delivers (sym verdict-mid) plain) (gone.by.scripted.goes not_yet.0).rest (ap jobs_of (sym mine) ∙ none)) (ap test (sym mine) ∙ passed)
 
     -- one more turn
     pub gone_on : HasGoneSoFar test old new
@@ -135,24 +137,31 @@ module _ {C : Type 0} (test : List (Pair Event) → Bool) (old mid : ScriptedMea
       on = λ held says plain rest goes.
           subst (λ part. GoesUntil old test (ended held) (own_list old) part) (sym (append_assoc gone.part more.part rest))
           (gone.on held (says_before held mid.session.desk new.session.desk more.part more.by.same.range_limit (same_actor mid new more.part gone.by.scripted more.by) more.by.same.wire more.by.own more.by.known says) plain (more.part ++ rest)
-          (Onwards before more.part rest still (taken held says plain) (subst (λ b. GoesUntil old test (ended held) b rest) (sym (append_assoc (own_list old) gone.part more.part)) goes)));
+          (Onwards before more.part rest (still plain) (taken held says plain) (subst (λ b. GoesUntil old test (ended held) b rest) (sym (append_assoc (own_list old) gone.part more.part)) goes)));
     }
 
-  over-by : (held : Sent → Bool) → SaysHeldUp held mid.session.desk → SaysWhetherDone test mid true → GoesUntil old test (ended held) before []
-  over-by held says (inl stopped) =
+  ended-by : (held : Sent → Bool) → SaysHeldUp held mid.session.desk → mid.session.desk.log.stopped ≡ true → GoesUntil old test (ended held) before []
+  ended-by held says stopped =
       Ended before
       (subst (λ own. list_has_ended old.session.desk.log.limit old.session.desk.log.stop (verdict_of old.session.desk.log) held own ≡ true) (sym mine)
       (subst (λ v. list_has_ended old.session.desk.log.limit old.session.desk.log.stop v held (own_list mid) ≡ true) verdict-mid
       (subst (λ l. list_has_ended l old.session.desk.log.stop (verdict_of mid.session.desk.log) held (own_list mid) ≡ true) gone.by.same.limit
       (subst (λ o. list_has_ended mid.session.desk.log.limit o (verdict_of mid.session.desk.log) held (own_list mid) ≡ true) gone.by.same.stop (has_ended_now mid.session.desk held says (gone.by.scripted.ends stopped))))))
-  over-by held says (inr done) = Passed before (ap jobs_of mine ∙ done.0) (ap test mine ∙ done.1)
+
+  over-by : (held : Sent → Bool) → SaysHeldUp held mid.session.desk → Delivers (verdict_of old.session.desk.log) → SaysWhetherDone test mid true → GoesUntil old test (ended held) before []
+  over-by held says plain (inl stopped) = ended-by held says stopped
+  over-by held says plain (inr done) = by mid.session.desk.log.stopped refl
+    where
+      by : (b : Bool) → mid.session.desk.log.stopped ≡ b → GoesUntil old test (ended held) before []
+      by true stopped = ended-by held says stopped
+      by false going = Passed before (ap jobs_of mine ∙ none_left mid.session (subst Delivers (sym verdict-mid) plain) (gone.by.scripted.goes going).rest done.0) (ap test mine ∙ done.1)
 
   -- there is nothing more to do
   pub gone_all : SaysWhetherDone test mid true → HasMoved (GoesUntil old test) old mid
   gone_all done = record {
     part = gone.part;
     by = gone.by;
-    is = λ held says plain. subst (λ part. GoesUntil old test (ended held) (own_list old) part) (append-nil gone.part) (gone.on held says plain [] (over-by held says done));
+    is = λ held says plain. subst (λ part. GoesUntil old test (ended held) (own_list old) part) (append-nil gone.part) (gone.on held says plain [] (over-by held says plain done));
   }
 
 -- the one turn of a session that goes by itself
@@ -167,27 +176,27 @@ takes_call x e n [] own part none asks = asks
 takes_call x e n (job ∷ jobs) own part none asks = absurd cc
 
 module _ {C : Type 0} (old new : ScriptedMeaning C) where
-  pub alone_by_job : (jobs_of (own_list old) ≡ [] → ⊥) → HasMoved (FinishesInTurn old) old new → HasMoved (TakesNextAlone old) old new
-  alone_by_job some moved = record {
+  pub alone_by_job : IsScripted old → old.session.desk.log.stopped ≡ false → (old.session.jobs ≡ [] → ⊥) → HasMoved (FinishesInTurn old) old new → HasMoved (TakesNextAlone old) old new
+  alone_by_job scripted going some moved = record {
     part = moved.part;
     by = moved.by;
-    is = λ held says plain. takes_job (next_in_script old.at.reruns old.script) (ended_in_script old.session.desk.log.limit old.session.desk.log.stop (verdict_of old.session.desk.log) held) (own_number old) (jobs_of (own_list old)) (own_list old) moved.part some (moved.is held says plain);
+    is = λ held says plain. takes_job (next_in_script old.at.reruns old.script) (ended_in_script old.session.desk.log.limit old.session.desk.log.stop (verdict_of old.session.desk.log) held) (own_number old) (jobs_of (own_list old)) (own_list old) moved.part (λ none. some (none_waits old.session plain (scripted.goes going).rest none)) (moved.is held says plain);
   }
 
-  pub alone_by_call : jobs_of (own_list old) ≡ [] → HasMoved (AsksInTurn old) old new → HasMoved (TakesNextAlone old) old new
-  alone_by_call none moved = record {
+  pub alone_by_call : IsScripted old → old.session.desk.log.stopped ≡ false → old.session.jobs ≡ [] → HasMoved (AsksInTurn old) old new → HasMoved (TakesNextAlone old) old new
+  alone_by_call scripted going none moved = record {
     part = moved.part;
     by = moved.by;
-    is = λ held says plain. takes_call (next_in_script old.at.reruns old.script) (ended_in_script old.session.desk.log.limit old.session.desk.log.stop (verdict_of old.session.desk.log) held) (own_number old) (jobs_of (own_list old)) (own_list old) moved.part none (moved.is held says plain);
+    is = λ held says plain. takes_call (next_in_script old.at.reruns old.script) (ended_in_script old.session.desk.log.limit old.session.desk.log.stop (verdict_of old.session.desk.log) held) (own_number old) (jobs_of (own_list old)) (own_list old) moved.part (none_left old.session plain (scripted.goes going).rest none) (moved.is held says plain);
   }
 
 -- what is done, and what is not
-pub is_done : {C : Type 0} (test : List (Pair Event) → Bool) (s : ScriptedMeaning C) (job passed : Bool) → s.session.desk.log.stopped ≡ false → IsTrue (not job) ↔ (jobs_of (own_list s) ≡ []) → test (own_list s) ≡ passed → job ≡ false
+pub is_done : {C : Type 0} (test : List (Pair Event) → Bool) (s : ScriptedMeaning C) (job passed : Bool) → s.session.desk.log.stopped ≡ false → IsTrue (not job) ↔ (s.session.jobs ≡ []) → test (own_list s) ≡ passed → job ≡ false
     → SaysWhetherDone test s passed
 is_done test s job true going jobs says none = inr (jobs.0 (ap not none), says)
 is_done test s job false going jobs says none = (going, λ no is. absurd (false≢true (sym says ∙ is)))
 
-pub some_job : (job : Bool) (jobs : List (List Request)) → IsTrue (not job) ↔ (jobs ≡ []) → job ≡ true → jobs ≡ [] → ⊥
+pub some_job : {X : Type 0} (job : Bool) (jobs : List X) → IsTrue (not job) ↔ (jobs ≡ []) → job ≡ true → jobs ≡ [] → ⊥
 some_job job jobs tells some none = absurd (false≢true (sym (ap not some) ∙ tells.1 none))
 
 -- the script's place is what the own list says

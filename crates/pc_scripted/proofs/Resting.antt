@@ -15,6 +15,7 @@ use Rattle.pc_scripted.specs.Scripted.{IsScripted, ScriptedMeaning, next_in_scri
 use Rattle.pc_scripted.specs.Taking.{AsksInTurn, FinishesInTurn, HasMoved, HasMovedBy, IsSameScripted}
 use Rattle.pc_script.specs.Script.{next_call}
 use Rattle.pc_follows.specs.FinishingJobs.{jobs_of}
+use Rattle.pc_scripted.proofs.AtRest.{none_left}
 use Rattle.pc_world.specs.Known.Traffic.{Sent}
 
 module _ {C : Type 0} (s : ScriptedMeaning C) (scripted : IsScripted s) where
@@ -57,9 +58,9 @@ module _ {C : Type 0} (s : ScriptedMeaning C) (scripted : IsScripted s) where
     is = λ held says plain. asks_none (next_in_script s.at.reruns s.script) (ended_in_script s.session.desk.log.limit s.session.desk.log.stop (verdict_of s.session.desk.log) held) (own_number s) (own_list s) (ap next_call (sym (scripted.goes going).place) ∙ none);
   }
 
-  pub idle_finishes : jobs_of (own_list s) ≡ [] → HasMoved (FinishesInTurn s) s s
-  idle_finishes none = record {
+  pub idle_finishes : s.session.desk.log.stopped ≡ false → s.session.jobs ≡ [] → HasMoved (FinishesInTurn s) s s
+  idle_finishes going none = record {
     part = [];
     by = moved_by_none;
-    is = λ held says plain. finishes_none (next_in_script s.at.reruns s.script) (ended_in_script s.session.desk.log.limit s.session.desk.log.stop (verdict_of s.session.desk.log) held) (own_number s) (own_list s) none;
+    is = λ held says plain. finishes_none (next_in_script s.at.reruns s.script) (ended_in_script s.session.desk.log.limit s.session.desk.log.stop (verdict_of s.session.desk.log) held) (own_number s) (own_list s) (none_left s.session plain (scripted.goes going).rest none);
   }

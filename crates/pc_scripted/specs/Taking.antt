@@ -87,10 +87,10 @@ are_items_over items reruns script own = is_script_over reruns script own || nat
 pub record IsRunOut {C : Type 0} (s : ScriptedMeaning C) : Type 0 where
   pub over : s.session.desk.log.stopped ≡ false → next_call s.at ≡ None
 
--- The session has nothing more to do: its list has ended, or no job waits and its own entries pass the test.
+-- The session has nothing more to do: its list has ended, or no job of it waits and its own entries pass the test.
 abbrev pub SaysWhetherDone : {C : Type 0} → (List (Pair Event) → Bool) → ScriptedMeaning C → Bool → Type 0
-SaysWhetherDone test s true = (s.session.desk.log.stopped ≡ true) ⊎ ((jobs_of (own_list s) ≡ []) × (test (own_list s) ≡ true))
-SaysWhetherDone test s false = (s.session.desk.log.stopped ≡ false) × (jobs_of (own_list s) ≡ [] → test (own_list s) ≡ true → ⊥)
+SaysWhetherDone test s true = (s.session.desk.log.stopped ≡ true) ⊎ ((s.session.jobs ≡ []) × (test (own_list s) ≡ true))
+SaysWhetherDone test s false = (s.session.desk.log.stopped ≡ false) × (s.session.jobs ≡ [] → test (own_list s) ≡ true → ⊥)
 
 -- The session's script is that of this work, and so is how often it may ask again.
 pub record DoesWork {C : Type 0} (work : Workload) (session : SessionWork) (s : ScriptedMeaning C) : Type 0 where
