@@ -50,8 +50,8 @@ returns-in-Status-clause-ok g c =
     on_ok c.settle.result (HasSettled c.args.meta.now c.in-Status.view c.exchange.new.desk c.settle.new.desk) (HasDealtWith c.args.maker c.args.meta.now c.args.desk.now c.settle.new.desk)
     (dealt_settled c.args.maker c.args.desk.now c.args.meta.now c.requires c.exchange.new.desk c.in-Some.reply x c.in-Status.view c.settle.new.desk c.in-Status.is) c.settle.ensures.ok
 
-pub returns-in-Some-2-clause-ok : goal.returns-in-Some-2-clause-ok
-returns-in-Some-2-clause-ok g c =
+pub returns-in-Unsure-clause-ok : goal.returns-in-Unsure-clause-ok
+returns-in-Unsure-clause-ok g c =
     let x = push_heard c.args.maker c.args.desk.now c.exchange.new.desk c.args.meta.now c.in-Ok.holder c.in_ok-reply.field-0 c.in-Ok.ensures c.in-Some.reply c.in-Some.is c.in_ok-reply.ensures.heard in
     let view = c.in-Some-2.view in
     let recovered = if_some c.in_ok-view-in-Unsure.field-0 view (HasRecovered c.args.maker c.args.meta.now c.in-Unsure.met c.exchange.new.desk c.recover.new.desk) c.in-Some-2.is c.in_ok-view-in-Unsure.ensures.ok in
@@ -68,8 +68,8 @@ returns-in_default-2-clause-ok g c =
     let left = if_none c.in_ok-view-in-Unsure.field-0 (HasLeftOff (FollowsPush c.args.maker c.args.meta.now (replies.Unsure c.in-Unsure.met)) c.exchange.new.desk c.recover.new.desk) c.in_default-2.not-Some c.in_ok-view-in-Unsure.ensures.lost in
     dealt_left c.args.maker c.args.desk.now c.args.meta.now c.requires c.exchange.new.desk c.in-Some.reply x c.in-Unsure.met c.recover.new.desk c.in-Unsure.is left
 
-pub returns-in_default-reply-clause-ok : goal.returns-in_default-reply-clause-ok
-returns-in_default-reply-clause-ok g c =
+pub returns-clause-ok : goal.returns-clause-ok
+returns-clause-ok g c =
     let x = push_heard c.args.maker c.args.desk.now c.exchange.new.desk c.args.meta.now c.in-Ok.holder c.in_ok-reply.field-0 c.in-Ok.ensures c.in-Some.reply c.in-Some.is c.in_ok-reply.ensures.heard in
     dealt_alone c.args.maker c.args.desk.now c.args.meta.now c.requires c.exchange.new.desk c.in-Some.reply x c.in_default-reply.not-Status c.in_default-reply.not-Unsure
 
@@ -79,8 +79,8 @@ returns-in-Status-clause-ended g c =
     if_err c.settle.result (BreaksOffIn (AreFrontOf (sending_of c.exchange.new.desk.log) (AreDoneInTurn (settling_of c.args.meta.now c.in-Status.view))) c.exchange.new.desk c.settle.new.desk) (BreaksOffIn (AreFrontOf (sending_of c.args.desk.now.log) (IsPartFor c.args.maker c.args.meta.now)) c.args.desk.now c.settle.new.desk)
     (λ halt. settling_ends_early c.args.maker c.args.desk.now c.args.meta.now c.requires c.exchange.new.desk c.in-Some.reply x c.in-Status.view c.settle.new.desk halt c.in-Status.is) c.settle.ensures.ended
 
-pub returns-in-Some-2-clause-ended : goal.returns-in-Some-2-clause-ended
-returns-in-Some-2-clause-ended g c =
+pub returns-in-Unsure-clause-ended : goal.returns-in-Unsure-clause-ended
+returns-in-Unsure-clause-ended g c =
     let x = push_heard c.args.maker c.args.desk.now c.exchange.new.desk c.args.meta.now c.in-Ok.holder c.in_ok-reply.field-0 c.in-Ok.ensures c.in-Some.reply c.in-Some.is c.in_ok-reply.ensures.heard in
     let view = c.in-Some-2.view in
     let recovered = if_some c.in_ok-view-in-Unsure.field-0 view (HasRecovered c.args.maker c.args.meta.now c.in-Unsure.met c.exchange.new.desk c.recover.new.desk) c.in-Some-2.is c.in_ok-view-in-Unsure.ensures.ok in
