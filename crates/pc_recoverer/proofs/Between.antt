@@ -1,5 +1,5 @@
 -- A recoverer is between its rounds once it knows a mark, and once it made a round or halted.
-use Rattle.std.proofs.Common.{◌≡◌, ℕ, true, false, List, Result, Ok, Err, IfErr, OnOk, sym, ap, ◌∙◌}
+use Rattle.std.proofs.Common.{◌≡◌, ℕ, true, false, List, Result, Ok, Err, IfErr, OnOk, sym, ap, subst, ◌∙◌}
 use Rattle.pc_base.specs.declared.actor.ActorId.TheVariants as actors
 use Rattle.pc_base.specs.declared.transaction.Priority.{Priority}
 use Rattle.pc_desk.specs.declared.halt.Halt.{Halt}
