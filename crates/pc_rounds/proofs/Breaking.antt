@@ -136,13 +136,13 @@ module _ {C : Type 0} (old : CountedMeaning C) (new : RecovererMeaning C) (count
   makes-so : (held : Sent → Bool) → SaysHeldUp held new.desk → (b : Bool) → list_has_ended old.recoverer.desk.log.limit old.recoverer.desk.log.stop (verdict_of old.recoverer.desk.log) held (entries_made old) ≡ b
       → MakesRoundAfter (list_has_ended old.recoverer.desk.log.limit old.recoverer.desk.log.stop (verdict_of old.recoverer.desk.log) held) old.rounds old.recoverer.number (entries_made old) part
   makes-so held says true is =
-      let ended = list_has_ended old.recoverer.desk.log.limit old.recoverer.desk.log.stop held in
+      let ended = list_has_ended old.recoverer.desk.log.limit old.recoverer.desk.log.stop (verdict_of old.recoverer.desk.log) held in
       let none : part ≡ [] = no_room old.recoverer.desk.log.limit (entries_made old) part
       (only_at_limit old.recoverer.desk.log.limit old.recoverer.desk.log.stop (verdict_of old.recoverer.desk.log) held (entries_made old) (goes.between.back.track.log.before_stop going) (none_ends old.recoverer.desk goes.between held (says-then held says)) is)
       (subst (λ own. length own ≤ old.recoverer.desk.log.limit) broke.own (subst (λ n. length new.desk.log.part.own ≤ n) limit-then broke.within)) in
       subst (λ b. UnlessEnded b part (MakesRoundIfLeft ended old.recoverer.number (nat_lt (rounds_asked (entries_made old)) old.rounds) (entries_made old) part)) (sym is) none
   makes-so held says false is =
-      let ended = list_has_ended old.recoverer.desk.log.limit old.recoverer.desk.log.stop held in
+      let ended = list_has_ended old.recoverer.desk.log.limit old.recoverer.desk.log.stop (verdict_of old.recoverer.desk.log) held in
       let some : part ≡ [] → ⊥ = λ none. (
       let now : ended (entries_made old) ≡ true = ap ended (sym (append-nil (entries_made old)) ∙ ap (λ p. entries_made old ++ p) (sym none)) ∙ ended-then held says in
       let e : true ≡ false = sym now ∙ is in absurd cc) in
