@@ -7,7 +7,6 @@ use Rattle.pc_desk.specs.Keeping.{LosesNothing}
 use Rattle.pc_desk.specs.OwnLog.{verdict_of}
 use Rattle.pc_follows.specs.FinishingJobs.{jobs_of}
 use Rattle.pc_follows.specs.WaveOrder.{IsHeardOrPut}
-use Rattle.pc_proto.specs.declared.request.Request.{Request}
 use Rattle.pc_scripted.proofs.Tests.{delivers_ends_none}
 use Rattle.pc_scripted.specs.Ended.{Delivers, ends_for}
 use Rattle.pc_session.specs.Session.{IsAtRest, SessionMeaning, session_knows}

@@ -1,9 +1,7 @@
 -- A session at the first call of its script; and from a session as its code has it.
-use Rattle.std.proofs.Common.{◌≡◌, ◌↔◌, ℕ, ◌⊎◌, inl, inr, Bool, true, false, not, All, Contains, IsTrue, List, [], ◌∷◌, ◌++◌, map, Option, None, Result, Ok, Err, OnOk, refl, sym, ap, subst, ◌∙◌}
+use Rattle.std.proofs.Common.{◌≡◌, ℕ, ◌⊎◌, inl, inr, Bool, true, false, All, Contains, List, [], ◌++◌, Option, Result, Ok, Err, OnOk, refl, sym, ap, subst, ◌∙◌}
 use Rattle.std.proofs.lemmas.List.Elements.{All-nil, All-weaker, Contains-append_left}
 use Rattle.pc_base.specs.declared.actor.ActorId.TheVariants as actors
-use Rattle.pc_coord.specs.declared.job.Job.{Job}
-use Rattle.pc_coord.specs.Knows.{messages_of_job}
 use Rattle.pc_desk.specs.Desk.{DeskMeaning}
 use Rattle.pc_desk.proofs.Refusing.{refused_still}
 use Rattle.pc_desk.specs.Ending.{EndsEarly, IsNotLost, IsRepeatedOrWaits, IsSomewhere, IsSpent, WasLateAndDue, WasWaitedFor}
@@ -23,7 +21,6 @@ use Rattle.pc_session.specs.Session.{IsAtRest, RestsOrStopped, SessionMeaning}
 use Rattle.pc_session.specs.Steps.{HasStepped}
 use Rattle.pc_txn.specs.declared.txn.OpenTxn.{OpenTxn}
 use Rattle.pc_work.specs.declared.item.Item.{Item}
-use Rattle.pc_follows.specs.FinishingJobs.{jobs_of}
 use Rattle.pc_world.specs.Known.{known_of}
 use Rattle.pc_world.specs.Known.Traffic.{Sent}
 

@@ -14,7 +14,6 @@ use Rattle.pc_scripted.specs.Ended.{SaysHeldUp, ended_in_script, list_has_ended}
 use Rattle.pc_scripted.specs.Scripted.{IsScripted, ScriptedMeaning, next_in_script, own_number, own_list}
 use Rattle.pc_scripted.specs.Taking.{AsksInTurn, FinishesInTurn, HasMoved, HasMovedBy, IsSameScripted}
 use Rattle.pc_script.specs.Script.{next_call}
-use Rattle.pc_follows.specs.FinishingJobs.{jobs_of}
 use Rattle.pc_scripted.proofs.AtRest.{none_left}
 use Rattle.pc_world.specs.Known.Traffic.{Sent}
 

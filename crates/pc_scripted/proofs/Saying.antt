@@ -1,5 +1,5 @@
 -- What is said of the messages of an actor, as far as it knows, was so before it knew more.
-use Rattle.std.proofs.Common.{◌≡◌, ℕ, ◌++◌, ◌||◌, ◌==◌, inl, inr, Bool, true, false, Contains, IsTrue, List, [], ◌∷◌, fold, refl, sym, ap, subst, ◌∙◌}
+use Rattle.std.proofs.Common.{◌≡◌, ℕ, ◌++◌, ◌||◌, ◌==◌, inl, inr, Bool, Contains, IsTrue, List, [], ◌∷◌, fold, refl, sym, ap, subst, ◌∙◌}
 use Rattle.std.proofs.lemmas.Grind.{fold-append}
 use Rattle.std.proofs.lemmas.List.{append-nil, append_assoc}
 use Rattle.std.proofs.lemmas.List.Elements.{Contains-append_left}
@@ -10,10 +10,9 @@ use Rattle.pc_base.specs.declared.actor.ActorId.{ActorId}
 use Rattle.pc_desk.proofs.Refusing.{refused_still}
 use Rattle.pc_desk.specs.Desk.{DeskMeaning}
 use Rattle.pc_desk.specs.Ending.{KnowsEvaluation, KnowsTwo}
-use Rattle.pc_desk.specs.OwnLog.{LogMeaning, verdict_of}
+use Rattle.pc_desk.specs.OwnLog.{verdict_of}
 use Rattle.pc_history.specs.declared.pair.Pair.{Pair}
 use Rattle.pc_history.specs.declared.view.Known.{Known as KnownEntry}
-use Rattle.pc_history.specs.declared.view.Part.{Part}
 use Rattle.pc_proto.specs.declared.event.Event.{Event}
 use Rattle.pc_scripted.specs.Ended.{IsServed, SaysHeldUp}
 use Rattle.pc_wire.specs.declared.verdict.Verdict.{Verdict}
