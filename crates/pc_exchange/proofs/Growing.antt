@@ -128,13 +128,14 @@ goes_both a b d p q x y = record {
 -- what is left of a bag once all that is due was taken
 not-due-left : (sends : ℕ) (bag : List (ℕ × Stray Posted)) → All (λ e. sends < e.1.due) (not_due sends bag)
 not-due-left sends [] = All-nil (λ (e : ℕ × Stray Posted). sends < e.1.due)
-not-due-left sends (x ∷ xs) = by (nat_le x.1.due sends) refl
+not-due-left sends (x ∷ xs) = by (nat_le x.1.due sends) refl (not-due-left sends xs)
   where
-    by : (b : Bool) → nat_le x.1.due sends ≡ b → All (λ (e : ℕ × Stray Posted). sends < e.1.due) (not_due sends (x ∷ xs))
-    by true due = subst (All (λ (e : ℕ × Stray Posted). sends < e.1.due)) (sym (ap (λ b. cond (not b) (x ∷ not_due sends xs) (not_due sends xs)) due)) (not-due-left sends xs)
-    by false ahead =
+    by : (b : Bool) → nat_le x.1.due sends ≡ b → All (λ (e : ℕ × Stray Posted). sends < e.1.due) (not_due sends xs) → All (λ (e : ℕ × Stray Posted). sends < e.1.due) (not_due sends (x ∷ xs))
+    by true due left = subst (All (λ (e : ℕ × Stray Posted). sends < e.1.due)) (sym (ap (λ b. cond (not b) (x ∷ not_due sends xs) (not_due sends xs)) due)) left
+    by false ahead left =
+        let more : sends < x.1.due = grind (arith, nat_tests, ahead) in
         subst (All (λ (e : ℕ × Stray Posted). sends < e.1.due)) (sym (ap (λ b. cond (not b) (x ∷ not_due sends xs) (not_due sends xs)) ahead))
-        (All-cons (λ (e : ℕ × Stray Posted). sends < e.1.due) x (not_due sends xs) (let more : sends < x.1.due = grind (arith, nat_tests, ahead) in more) (not-due-left sends xs))
+        (All-cons (λ (e : ℕ × Stray Posted). sends < e.1.due) x (not_due sends xs) more left)
 
 pub none_due_left : {C : Type 0} (d new : DeskMeaning C) → HasDeliveredDue d new → NoneDue new
 none_due_left {C} d new due = subst (λ (e : DeskMeaning C). NoneDue e) (sym due.rest) (not-due-left d.sends d.bag)

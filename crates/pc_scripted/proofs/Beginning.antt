@@ -15,7 +15,7 @@ use Rattle.pc_script.specs.Suiting.{FitsCalls}
 use Rattle.pc_scripted.proofs.Finishing.{moved_finished}
 use Rattle.pc_scripted.proofs.Resting.{idle_finishes}
 use Rattle.pc_scripted.proofs.Telling.{none_is, opened_reruns}
-use Rattle.pc_scripted.specs.Scripted.{AskInOrder, IsScripted, ScriptedMeaning, own_list, session_number}
+use Rattle.pc_scripted.specs.Scripted.{AskInOrder, IsScripted, ScriptedMeaning, session_number}
 use Rattle.pc_scripted.specs.Taking.{FinishesInTurn, HasMoved, Move}
 use Rattle.pc_session.specs.Session.{IsAtRest, RestsOrStopped, SessionMeaning}
 use Rattle.pc_session.specs.Steps.{HasStepped}
