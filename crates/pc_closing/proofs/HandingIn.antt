@@ -23,51 +23,52 @@ use Rattle.pc_range.specs.Seats.{HandsIn, range_ids}
 use Rattle.pc_turns.proofs.Shares.{client_once}
 use Rattle.pc_turns.specs.Clients.{is_client}
 use Rattle.pc_turns.specs.Shares.{AreHandedIn, IsPartAt, client_at}
+use Rattle.pc_wire.specs.declared.verdict.Verdict.{Verdict}
 use Rattle.pc_world.specs.Local.{Head}
 use Rattle.pc_world.specs.Run.{IsRun, protocol}
 
 -- The part is what one of these stored, once what it left was evaluated.
-pub record IsHandedBy (limit : ℕ) (leavers : List Leaver) (part : Part Event) : Type 0 where
+pub record IsHandedBy (limit : ℕ) (verdicts : ActorId → ℕ → Verdict) (leavers : List Leaver) (part : Part Event) : Type 0 where
   pub index : ℕ
   pub leaver : Leaver
   pub at : slice_get leavers index ≡ Some leaver
-  pub left : HasSettledAll limit leaver.0.part part
+  pub left : HasSettledAll limit (verdicts leaver.0.part.id) leaver.0.part part
 
 -- So far all of these were handed in but those that are left.
-pub record AreHandedBut (limit : ℕ) (all left : List Leaver) (before now : OpenerMeaning Head Event) : Type 0 where
+pub record AreHandedBut (limit : ℕ) (verdicts : ActorId → ℕ → Verdict) (all left : List Leaver) (before now : OpenerMeaning Head Event) : Type 0 where
   pub done : List Leaver
   pub whole : all ≡ done ++ left
-  pub theirs : All (IsHandedBy limit all) now.parts
+  pub theirs : All (IsHandedBy limit verdicts all) now.parts
   pub there : All (λ l. Contains (ids_of now.parts) l.0.part.id) done
   pub rest : now ≡ record before { parts = now.parts; whole = now.whole }
 
-pub none_handed : (limit : ℕ) (all : List Leaver) (before : OpenerMeaning Head Event) → before.parts ≡ [] → AreHandedBut limit all all before before
-none_handed limit all before none = record {
+pub none_handed : (limit : ℕ) (verdicts : ActorId → ℕ → Verdict) (all : List Leaver) (before : OpenerMeaning Head Event) → before.parts ≡ [] → AreHandedBut limit verdicts all all before before
+none_handed limit verdicts all before none = record {
   done = [];
   whole = refl;
-  theirs = subst (All (IsHandedBy limit all)) (sym none) (All-nil _);
+  theirs = subst (All (IsHandedBy limit verdicts all)) (sym none) (All-nil _);
   there = All-nil _;
   rest = refl;
 }
 
-module _ (limit : ℕ) (head : Head) (all : List Leaver) (l : Leaver) (left : List Leaver) (before now : OpenerMeaning Head Event) (leavers : AreLeavers limit head all) (so_far : AreHandedBut limit all (l ∷ left) before now) where
+module _ (limit : ℕ) (head : Head) (verdicts : ActorId → ℕ → Verdict) (all : List Leaver) (l : Leaver) (left : List Leaver) (before now : OpenerMeaning Head Event) (leavers : AreLeavers limit head verdicts all) (so_far : AreHandedBut limit verdicts all (l ∷ left) before now) where
   at-next : slice_get all (length so_far.done) ≡ Some l
   at-next = ap (λ ls. slice_get ls (length so_far.done)) (so_far.whole ∙ sym (append_assoc so_far.done (l ∷ []) left))
       ∙ get_append (so_far.done ++ l ∷ []) left (length so_far.done) l (get_push so_far.done l)
 
   -- the next one may leave
-  pub next_leaver : IsLeaver limit head (length so_far.done) l
+  pub next_leaver : IsLeaver limit head verdicts (length so_far.done) l
   next_leaver = leavers.each (length so_far.done) l at-next
 
   -- and is handed in
-  pub one_handed : (after : OpenerMeaning Head Event) (part : Part Event) → HasSettledAll limit l.0.part part → after ≡ record now { parts = now.parts ++ part ∷ []; whole = after.whole } → AreHandedBut limit all left before after
+  pub one_handed : (after : OpenerMeaning Head Event) (part : Part Event) → HasSettledAll limit (verdicts l.0.part.id) l.0.part part → after ≡ record now { parts = now.parts ++ part ∷ []; whole = after.whole } → AreHandedBut limit verdicts all left before after
   one_handed after part has same =
       let parts : after.parts ≡ now.parts ++ part ∷ [] = ap (λ (o : OpenerMeaning Head Event). o.parts) same in
       let ids : ids_of after.parts ≡ ids_of now.parts ++ part.id ∷ [] = ap (map (λ (p : Part Event). p.id)) parts ∙ map-append (λ (p : Part Event). p.id) now.parts (part ∷ []) in
       record {
         done = so_far.done ++ l ∷ [];
         whole = so_far.whole ∙ sym (append_assoc so_far.done (l ∷ []) left);
-        theirs = subst (All (IsHandedBy limit all)) (sym parts) (All-push (IsHandedBy limit all) now.parts part so_far.theirs (record { index = length so_far.done; leaver = l; at = at-next; left = has }));
+        theirs = subst (All (IsHandedBy limit verdicts all)) (sym parts) (All-push (IsHandedBy limit verdicts all) now.parts part so_far.theirs (record { index = length so_far.done; leaver = l; at = at-next; left = has }));
         there = subst (λ is. All (λ (x : Leaver). Contains is x.0.part.id) (so_far.done ++ l ∷ [])) (sym ids)
             (All-push (λ (x : Leaver). Contains (ids_of now.parts ++ part.id ∷ []) x.0.part.id) so_far.done l
             (All-weaker (λ (x : Leaver). Contains (ids_of now.parts) x.0.part.id) (λ (x : Leaver). Contains (ids_of now.parts ++ part.id ∷ []) x.0.part.id) (λ x c. Contains-append_left (ids_of now.parts) (part.id ∷ []) x.0.part.id c) so_far.done so_far.there)
@@ -83,13 +84,13 @@ pub empty_list : {X : Type 0} (xs : List X) (n : ℕ) → n ≡ length xs → n 
 empty_list [] n long none = refl
 empty_list (x ∷ xs) n long none = absurd (let no : suc (length xs) ≡ 0 = sym long ∙ none in omega arith)
 
-pub all_handed : (limit : ℕ) (head : Head) (all left : List Leaver) (before now : OpenerMeaning Head Event) → left ≡ [] → before ≡ opener_of head → AreHandedBut limit all left before now → AreHandedBut limit all [] (opener_of head) now
-all_handed limit head all left before now none opened so_far = subst (λ ls. AreHandedBut limit all ls (opener_of head) now) none (subst (λ (o : OpenerMeaning Head Event). AreHandedBut limit all left o now) opened so_far)
+pub all_handed : (limit : ℕ) (head : Head) (verdicts : ActorId → ℕ → Verdict) (all left : List Leaver) (before now : OpenerMeaning Head Event) → left ≡ [] → before ≡ opener_of head → AreHandedBut limit verdicts all left before now → AreHandedBut limit verdicts all [] (opener_of head) now
+all_handed limit head verdicts all left before now none opened so_far = subst (λ ls. AreHandedBut limit verdicts all ls (opener_of head) now) none (subst (λ (o : OpenerMeaning Head Event). AreHandedBut limit verdicts all left o now) opened so_far)
 
 pub ranges_handed : (splits : List (List ℕ)) (head : Head) (now after : OpenerMeaning Head Event) → splits ≡ head.splits → HandsIn (range_ids (length splits + 1)) now after → HandsIn (range_ids (length head.splits + 1)) now after
 ranges_handed splits head now after same handed = subst (λ (s : List (List ℕ)). HandsIn (range_ids (length s + 1)) now after) same handed
 
-module _ (limit : ℕ) (head : Head) (all : List Leaver) (now after : OpenerMeaning Head Event) (leavers : AreLeavers limit head all) (so_far : AreHandedBut limit all [] (opener_of head) now) (ranges : HandsIn (range_ids (length head.splits + 1)) now after) where
+module _ (limit : ℕ) (head : Head) (verdicts : ActorId → ℕ → Verdict) (all : List Leaver) (now after : OpenerMeaning Head Event) (leavers : AreLeavers limit head verdicts all) (so_far : AreHandedBut limit verdicts all [] (opener_of head) now) (ranges : HandsIn (range_ids (length head.splits + 1)) now after) where
   parts-are : after.parts ≡ now.parts ++ ranges.more
   parts-are = ap (λ (o : OpenerMeaning Head Event). o.parts) ranges.handed
 
@@ -133,9 +134,9 @@ module _ (limit : ℕ) (head : Head) (all : List Leaver) (now after : OpenerMean
       by id (inr client) = Contains-append_left (ids_of now.parts) (range_ids (length head.splits + 1)) id (has-client (head.sessions + head.recoverers) (let c = leavers.count in omega arith) id client)
 
   -- a part of a client is one of theirs
-  part-by : (part : Part Event) → Contains after.parts part → is_client part.id ≡ true → IsHandedBy limit all part
+  part-by : (part : Part Event) → Contains after.parts part → is_client part.id ≡ true → IsHandedBy limit verdicts all part
   part-by part c client = elim (Contains-append_cases now.parts ranges.more part (subst (λ ps. Contains ps part) parts-are c)) [
-    | inl client ↦ All-contains (IsHandedBy limit all) now.parts part so_far.theirs client
+    | inl client ↦ All-contains (IsHandedBy limit verdicts all) now.parts part so_far.theirs client
     | inr range ↦ absurd (false≢true (sym (range_no_client (length head.splits + 1) part.id (subst (λ is. Contains is part.id) ranges.whose (contains_map (λ (p : Part Event). p.id) ranges.more part range))) ∙ client))
   ]
 
@@ -160,19 +161,19 @@ module _ (limit : ℕ) (head : Head) (all : List Leaver) (now after : OpenerMean
     run : IsRun head history
     run = closed.fine
 
-    kept-each : (index : ℕ) (l : Leaver) → slice_get all index ≡ Some l → IsKeptIn limit head history (client_at head index) l.0.part
+    kept-each : (index : ℕ) (l : Leaver) → slice_get all index ≡ Some l → IsKeptIn limit head verdicts history (client_at head index) l.0.part
     kept-each index l at =
         let within : index < length all = slice_get_within all index l at in
         let found = contains_in_map (λ (p : Part Event). p.id) now.parts (client_at head index) (has-part index within) in
         let part = found.0 in
-        let by : IsHandedBy limit all part = All-contains (IsHandedBy limit all) now.parts part so_far.theirs found.1 in
+        let by : IsHandedBy limit verdicts all part = All-contains (IsHandedBy limit verdicts all) now.parts part so_far.theirs found.1 in
         let number : by.index ≡ index = client_once head by.index index (sym (by.left.id ∙ (leavers.each by.index by.leaver by.at).whose) ∙ found.2) in
         let same : by.leaver ≡ l = (let e : Some by.leaver ≡ Some l = sym by.at ∙ (ap (slice_get all) number ∙ at) in cc) in
         let there : Contains after.parts part = subst (λ ps. Contains ps part) (sym parts-are) (Contains-append_left now.parts ranges.more part found.1) in
-        kept_in limit head history (client_at head index) l.0.part part run
-        (All-contains (IsClosedPart (protocol head) history) after.parts part closed.parts_are there) (subst (λ (x : Leaver). HasSettledAll limit x.0.part part) same by.left) found.2
+        kept_in limit head verdicts history (client_at head index) l.0.part part run
+        (All-contains (IsClosedPart (protocol head) history) after.parts part closed.parts_are there) (subst (λ (x : Leaver). HasSettledAll limit (verdicts x.0.part.id) x.0.part part) same by.left) found.2
 
-    pub closed_over : IsClosedOver limit head all history
+    pub closed_over : IsClosedOver limit head verdicts all history
     closed_over = record {
       run = run;
       parts = after.parts;
@@ -185,5 +186,5 @@ module _ (limit : ℕ) (head : Head) (all : List Leaver) (now after : OpenerMean
       each = kept-each;
     }
 
-  pub closed_if : {E : Type 0} (r : Result (Vec (Entry Event)) E) → IfOk r (λ entries. IsHistoryOf (protocol after.world) entries.items after.parts) → IfOk r (λ entries. IsClosedOver limit head all entries.items)
-  closed_if r h = IfOk-weaker r (λ (entries : Vec (Entry Event)). IsHistoryOf (protocol after.world) entries.items after.parts) (λ (entries : Vec (Entry Event)). IsClosedOver limit head all entries.items) (λ entries closed. closed_over entries.items (subst (λ w. IsHistoryOf (protocol w) entries.items after.parts) world_is closed)) h
+  pub closed_if : {E : Type 0} (r : Result (Vec (Entry Event)) E) → IfOk r (λ entries. IsHistoryOf (protocol after.world) entries.items after.parts) → IfOk r (λ entries. IsClosedOver limit head verdicts all entries.items)
+  closed_if r h = IfOk-weaker r (λ (entries : Vec (Entry Event)). IsHistoryOf (protocol after.world) entries.items after.parts) (λ (entries : Vec (Entry Event)). IsClosedOver limit head verdicts all entries.items) (λ entries closed. closed_over entries.items (subst (λ w. IsHistoryOf (protocol w) entries.items after.parts) world_is closed)) h

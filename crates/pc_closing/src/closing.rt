@@ -28,7 +28,8 @@ pub fn close<N: Named<CommitWorld>, G: Gate, R: Wait>(
 ) -> Result<Vec<Entry<Event>>, NoMemory>
     requires opener { opener ≡ opener_of opener.world }
     requires ranges { ranges.splits ≡ opener.world.splits }
-    ensures { (verdicts : ActorId → ℕ → Verdict) → AreLeavers ranges.limit opener.world verdicts leavers.items → IfOk result (λ entries. IsClosedOver ranges.entry.limit opener.world verdicts leavers.items entries.items) }
+    requires leavers { (verdicts : ActorId → ℕ → Verdict) × AreLeavers ranges.limit opener.world verdicts leavers.items }
+    ensures { (verdicts : ActorId → ℕ → Verdict) → AreLeavers ranges.entry.limit opener.world verdicts leavers.items → IfOk result (λ entries. IsClosedOver ranges.entry.limit opener.world verdicts leavers.items entries.items) }
 {
     let mut opener = opener;
     for leaver in leavers {

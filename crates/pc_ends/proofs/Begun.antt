@@ -7,6 +7,7 @@ use Rattle.pc_base.specs.declared.actor.ActorId.{ActorId}
 use Rattle.pc_base.specs.declared.actor.ActorId.TheVariants as actors
 use Rattle.pc_closing.specs.Opening.{AreSeatedFor, IsSeatedFor}
 use Rattle.pc_desk.specs.Desk.{DeskMeaning, new_desk}
+use Rattle.pc_desk.specs.OwnLog.{verdict_of}
 use Rattle.pc_history.specs.declared.view.Part.{Part}
 use Rattle.pc_history.specs.Meanings.{ActorMeaning}
 use Rattle.pc_history.specs.Parts.{newcomer}
@@ -21,11 +22,13 @@ use Rattle.pc_scripted.proofs.Telling.{opened_reruns}
 use Rattle.pc_scripted.specs.Scripted.{IsScripted, ScriptedMeaning, own_list, session_number}
 use Rattle.pc_session.specs.Session.{SessionMeaning}
 use Rattle.pc_turns.proofs.Shares.{recoverer_at, session_at}
-use Rattle.pc_work.specs.Accepted.{IsAccepted, StopsWithin}
+use Rattle.pc_wire.specs.Verdicts.{WireRule, verdict_by}
+use Rattle.pc_work.specs.Accepted.{IsAccepted, IsWireWithin, StopsWithin}
 use Rattle.pc_work.specs.declared.recoverer.RecovererWork.{RecovererWork}
 use Rattle.pc_work.specs.Stop.{IsStop}
 use Rattle.pc_work.specs.declared.session.SessionWork.{SessionWork}
 use Rattle.pc_work.specs.declared.workload.Workload.{Workload}
+use Rattle.pc_work.specs.Wire.{wire_rule}
 use Rattle.pc_world.specs.Local.{Head}
 
 some_entry : (stop : Option ℕ) → IsStop stop → IfSome stop (λ n. 1 ≤ n)
@@ -36,6 +39,13 @@ some_entry (Some n) within = within.0
 pub stop_from : (work : Workload) (index : ℕ) (stated : SessionWork) → IsAccepted work → slice_get work.sessions index ≡ Some stated → IfSome stated.stop (λ n. 1 ≤ n)
 stop_from work index stated accepted listed = some_entry stated.stop (All-contains StopsWithin work.sessions stated accepted.stops (get_contains work.sessions index stated listed))
 
+-- a wire that is stated has its period
+pub wire_from : (work : Workload) (index : ℕ) (stated : SessionWork) → IsAccepted work → slice_get work.sessions index ≡ Some stated → IsWireWithin stated.wire
+wire_from work index stated accepted listed = All-contains (λ session. IsWireWithin session.wire) work.sessions stated accepted.wires (get_contains work.sessions index stated listed)
+
+pub recoverer_wire_from : (work : Workload) (index : ℕ) (stated : RecovererWork) → IsAccepted work → slice_get work.recoverers index ≡ Some stated → IsWireWithin stated.wire
+recoverer_wire_from work index stated accepted listed = All-contains (λ recoverer. IsWireWithin recoverer.wire) work.recoverers stated accepted.recoverer_wires (get_contains work.recoverers index stated listed)
+
 -- what a test for nothing tells
 pub told_none : {X : Type 0} (o : Option X) (told : Bool) → is_some o ≡ not told → told ≡ is_none o
 told_none None true is = refl
@@ -44,11 +54,11 @@ told_none (Some x) true is = let no : true ≡ false = is in absurd cc
 told_none (Some x) false is = refl
 
 -- a session that was made with its script is that of its place
-pub runner_begun : {C : Type 0} (work : Workload) (index : ℕ) (stated : SessionWork) (s : ScriptedMeaning C) (d : SessionMeaning C) (head : Head) (part : Part Event) (spare : ℕ) (clock : C) (pipelining beside : Bool) (limit : ℕ) (stop : Option ℕ) (range_limit : ℕ)
+pub runner_begun : {C : Type 0} (work : Workload) (index : ℕ) (stated : SessionWork) (s : ScriptedMeaning C) (d : SessionMeaning C) (head : Head) (part : Part Event) (spare : ℕ) (clock : C) (wire : WireRule) (tries : ℕ) (pipelining beside : Bool) (limit : ℕ) (stop : Option ℕ) (range_limit : ℕ)
     → slice_get work.sessions index ≡ Some stated → IsScripted s → s ≡ record { session = d; script = stated.script; at = opened stated.script work.reruns }
-    → d.desk ≡ new_desk head part spare clock pipelining beside limit stop range_limit → head ≡ head_in_work work → part ≡ newcomer (actors.Session (index + 1)) → pipelining ≡ work.pipelining → beside ≡ is_none work.turns → limit ≡ work.limit → stop ≡ stated.stop → range_limit ≡ work.limit → IsRunnerIn work index s
-runner_begun {C} work index stated s d head part spare clock pipelining beside limit stop range_limit listed scripted is desk head_is part_is piped_is beside_is limit_is stop_is range_is =
-    let on : s.session.desk ≡ new_desk head part spare clock pipelining beside limit stop range_limit = ap (λ (x : ScriptedMeaning C). x.session.desk) is ∙ desk in
+    → d.desk ≡ new_desk head part spare clock wire tries pipelining beside limit stop range_limit → head ≡ head_in_work work → part ≡ newcomer (actors.Session (index + 1)) → ((number : ℕ) → verdict_by wire number ≡ wire_rule stated.wire number) → tries ≡ work.tries → pipelining ≡ work.pipelining → beside ≡ is_none work.turns → limit ≡ work.limit → stop ≡ stated.stop → range_limit ≡ work.limit → IsRunnerIn work index s
+runner_begun {C} work index stated s d head part spare clock wire tries pipelining beside limit stop range_limit listed scripted is desk head_is part_is wire_is tries_is piped_is beside_is limit_is stop_is range_is =
+    let on : s.session.desk ≡ new_desk head part spare clock wire tries pipelining beside limit stop range_limit = ap (λ (x : ScriptedMeaning C). x.session.desk) is ∙ desk in
     record {
       scripted = scripted;
       number = ap (λ (x : DeskMeaning C). session_number x.log.part.id) on ∙ ap (λ (p : Part Event). session_number p.id) part_is;
@@ -61,16 +71,18 @@ runner_begun {C} work index stated s d head part spare clock pipelining beside l
       beside = ap (λ (x : DeskMeaning C). x.log.beside) on ∙ beside_is;
       limit = ap (λ (x : DeskMeaning C). x.log.limit) on ∙ limit_is;
       stop = ap (λ (x : DeskMeaning C). x.log.stop) on ∙ stop_is;
+      wire = λ number. ap (λ (x : DeskMeaning C). verdict_of x.log number) on ∙ wire_is number;
+      tries = ap (λ (x : DeskMeaning C). x.log.tries) on ∙ tries_is;
       range_limit = ap (λ (x : DeskMeaning C). x.range_limit) on ∙ range_is;
     }
 
 -- where it was made
-pub runner_if : {C E : Type 0} (r : Result (ScriptedMeaning C) E) (work : Workload) (index : ℕ) (stated : SessionWork) (d : SessionMeaning C) (head : Head) (part : Part Event) (spare : ℕ) (clock : C) (pipelining beside : Bool) (limit : ℕ) (stop : Option ℕ) (range_limit : ℕ)
+pub runner_if : {C E : Type 0} (r : Result (ScriptedMeaning C) E) (work : Workload) (index : ℕ) (stated : SessionWork) (d : SessionMeaning C) (head : Head) (part : Part Event) (spare : ℕ) (clock : C) (wire : WireRule) (tries : ℕ) (pipelining beside : Bool) (limit : ℕ) (stop : Option ℕ) (range_limit : ℕ)
     → slice_get work.sessions index ≡ Some stated → IfOk r IsScripted → IfOk r (λ s. s ≡ record { session = d; script = stated.script; at = opened stated.script work.reruns })
-    → d.desk ≡ new_desk head part spare clock pipelining beside limit stop range_limit → head ≡ head_in_work work → part ≡ newcomer (actors.Session (index + 1)) → pipelining ≡ work.pipelining → beside ≡ is_none work.turns → limit ≡ work.limit → stop ≡ stated.stop → range_limit ≡ work.limit → IfOk r (IsRunnerIn work index)
-runner_if (Ok s) work index stated d head part spare clock pipelining beside limit stop range_limit listed scripted is desk head_is part_is piped_is beside_is limit_is stop_is range_is =
-    runner_begun work index stated s d head part spare clock pipelining beside limit stop range_limit listed scripted is desk head_is part_is piped_is beside_is limit_is stop_is range_is
-runner_if (Err e) work index stated d head part spare clock pipelining beside limit stop range_limit listed scripted is desk head_is part_is piped_is beside_is limit_is stop_is range_is = tt
+    → d.desk ≡ new_desk head part spare clock wire tries pipelining beside limit stop range_limit → head ≡ head_in_work work → part ≡ newcomer (actors.Session (index + 1)) → ((number : ℕ) → verdict_by wire number ≡ wire_rule stated.wire number) → tries ≡ work.tries → pipelining ≡ work.pipelining → beside ≡ is_none work.turns → limit ≡ work.limit → stop ≡ stated.stop → range_limit ≡ work.limit → IfOk r (IsRunnerIn work index)
+runner_if (Ok s) work index stated d head part spare clock wire tries pipelining beside limit stop range_limit listed scripted is desk head_is part_is wire_is tries_is piped_is beside_is limit_is stop_is range_is =
+    runner_begun work index stated s d head part spare clock wire tries pipelining beside limit stop range_limit listed scripted is desk head_is part_is wire_is tries_is piped_is beside_is limit_is stop_is range_is
+runner_if (Err e) work index stated d head part spare clock wire tries pipelining beside limit stop range_limit listed scripted is desk head_is part_is wire_is tries_is piped_is beside_is limit_is stop_is range_is = tt
 
 -- its clock has the rule of its work
 pub clock_if : {C E : Type 0} (r : Result (ScriptedMeaning C) E) (rule : C → ℕ → ℕ → Bool) (given : ℕ → ℕ → Bool) (work : Workload) (index : ℕ) (stated : SessionWork) (d : SessionMeaning C) (at : Position) (clock : C)

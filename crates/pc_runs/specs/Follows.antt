@@ -45,7 +45,7 @@ pub record FollowsByItself (work : Workload) (session : SessionWork) (rule : ℕ
   pub wire : AreServed (wire_rule session.wire) held actor history (known_of list)
   pub within : length list ≤ work.limit
   pub no_later : IfSome session.stop (λ stop. length list ≤ stop)
-  pub end : IsScriptEnd (script_position work.reruns session.script list) list ⊎ (list_has_ended work.limit session.stop held list ≡ true)
+  pub end : IsScriptEnd (script_position work.reruns session.script list) list ⊎ (list_has_ended work.limit session.stop (wire_rule session.wire) held list ≡ true)
 
 -- The history follows the workload, where these are the rules of the clocks that were handed in.
 pub record FollowsWork (work : Workload) (rules : ActorId → ℕ → ℕ → Bool) (head : Head) (history : List (Entry Event)) : Type 0 where

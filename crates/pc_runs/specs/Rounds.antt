@@ -30,4 +30,4 @@ pub record FollowsInRounds (work : Workload) (recoverer : RecovererWork) (rule :
   pub no_later : IfSome recoverer.stop (λ stop. length list ≤ stop)
   pub rounds :
       AreWholeRounds (sending_in work recoverer) work.splits number recoverer.level recoverer.rounds list
-      ⊎ (StopsBefore (sending_in work recoverer) work.splits number recoverer.level recoverer.rounds list × (list_has_ended work.limit recoverer.stop held list ≡ true))
+      ⊎ (StopsBefore (sending_in work recoverer) work.splits number recoverer.level recoverer.rounds list × (list_has_ended work.limit recoverer.stop (wire_rule recoverer.wire) held list ≡ true))

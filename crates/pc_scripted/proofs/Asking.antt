@@ -2,7 +2,7 @@
 use Rattle.std.proofs.Common.{◌≡◌, ℕ, ◌<◌, ◌≤◌, false, true, All, [], ◌∷◌, ◌++◌, length, Some, refl, sym, ap, subst, ◌∙◌}
 use Rattle.std.proofs.lemmas.List.Elements.{All-append}
 use Rattle.pc_base.specs.declared.actor.ActorId.TheVariants as actors
-use Rattle.pc_desk.specs.OwnLog.{LogMeaning}
+use Rattle.pc_desk.specs.OwnLog.{LogMeaning, verdict_of}
 use Rattle.pc_history.specs.declared.pair.Pair.{Pair}
 use Rattle.pc_proto.specs.declared.answer.Answer.{Answer}
 use Rattle.pc_proto.specs.declared.call.Call.{Call}
@@ -12,6 +12,7 @@ use Rattle.pc_script.specs.Script.{Position, after_told, next_call, script_posit
 use Rattle.pc_script.specs.Suiting.{FitsCalls}
 use Rattle.pc_scripted.proofs.Passing.{order_told, position_told}
 use Rattle.pc_scripted.proofs.Telling.{fits_told, told_reruns}
+use Rattle.pc_scripted.proofs.AtRest.{rest_ends_none}
 use Rattle.pc_scripted.proofs.Tests.{not_ended, some_room}
 use Rattle.pc_scripted.proofs.Turning.{asks_whole}
 use Rattle.pc_scripted.specs.Ended.{ended_in_script}
@@ -52,7 +53,7 @@ module _ {C : Type 0} (old : ScriptedMeaning C) (new : SessionMeaning C) (at : P
   same-number = ap session_number id-then
 
   number-is : old.session.coordinator.session ≡ own_number old
-  number-is = sym (ap session_number goes.rest.one.whose)
+  number-is = sym (ap session_number goes.rest.any.one.whose)
 
   whole-call : AsksWhole (own_number old) call called.part
   whole-call = subst (λ n. AsksWhole n call called.part) number-is called.whole
@@ -70,7 +71,7 @@ module _ {C : Type 0} (old : ScriptedMeaning C) (new : SessionMeaning C) (at : P
         ∙ (ap (script_position reruns old.script) (sym called.grown.own)
         ∙ ap (λ n. script_position n old.script new.desk.log.part.own) (sym same-reruns))));
     fits = subst (λ (p : Position). FitsCalls new.coordinator.pipelining p new.coordinator.txn) (sym told)
-        (fits_told old.session new old.at call answer called.part called.whole called.told goes.rest called.rest (id-then ∙ goes.rest.one.whose) called.grown.own goes.fits next called.suits);
+        (fits_told old.session new old.at call answer called.part called.whole called.told goes.rest called.rest (id-then ∙ goes.rest.any.one.whose) called.grown.own goes.fits next called.suits);
   }
 
   scripted-then : IsScripted then
@@ -79,8 +80,8 @@ module _ {C : Type 0} (old : ScriptedMeaning C) (new : SessionMeaning C) (at : P
     whose = subst (λ n. All (λ p. p.entry.actor ≡ actors.Session n) new.desk.log.part.own) (sym same-number)
         (subst (All (λ p. p.entry.actor ≡ actors.Session (own_number old))) (sym called.grown.own)
         (All-append (λ (p : Pair Event). p.entry.actor ≡ actors.Session (own_number old)) (own_list old) called.part scripted.whose whole-call.whose));
-    within = called.rest.track.log.within;
-    given = called.rest.track.given;
+    within = called.rest.any.track.log.within;
+    given = called.rest.any.track.given;
     asks = subst (λ n. AskInOrder n old.script new.desk.log.part.own) (sym same-reruns)
         (subst (AskInOrder reruns old.script) (sym called.grown.own)
         (order_told reruns old.script (own_list old) called.part call called.whole.reading called.whole.between answer scripted.asks events-are called.whole.within next-here));
@@ -97,7 +98,7 @@ module _ {C : Type 0} (old : ScriptedMeaning C) (new : SessionMeaning C) (at : P
   room : length (own_list old) < old.session.desk.log.limit
   room =
       some_room old.session.desk.log.limit (own_list old) called.part some-part
-      (subst (λ own. length own ≤ old.session.desk.log.limit) called.grown.own (subst (λ n. length new.desk.log.part.own ≤ n) limit-then called.rest.track.log.within))
+      (subst (λ own. length own ≤ old.session.desk.log.limit) called.grown.own (subst (λ n. length new.desk.log.part.own ≤ n) limit-then called.rest.any.track.log.within))
 
   pub moved_asked : HasMoved (AsksInTurn old) old then
   moved_asked = record {
@@ -113,6 +114,8 @@ module _ {C : Type 0} (old : ScriptedMeaning C) (new : SessionMeaning C) (at : P
         piped = log-is (λ l. l.pipelining ≡ old.session.desk.log.pipelining) refl;
         beside = log-is (λ l. l.beside ≡ old.session.desk.log.beside) refl;
         stop = log-is (λ l. l.stop ≡ old.session.desk.log.stop) refl;
+        wire = log-is (λ l. l.wire ≡ old.session.desk.log.wire) refl;
+        tries = log-is (λ l. l.tries ≡ old.session.desk.log.tries) refl;
         range_limit = called.limit;
       };
       own = called.grown.own;
@@ -121,6 +124,6 @@ module _ {C : Type 0} (old : ScriptedMeaning C) (new : SessionMeaning C) (at : P
       above = called.grown.above;
       known = called.grown.known;
     };
-    is = λ held says. asks_whole (next_in_script reruns old.script) (ended_in_script old.session.desk.log.limit old.session.desk.log.stop held) (own_number old) (own_list old) called.part
-        (not_ended old.session.desk.log.limit old.session.desk.log.stop held (own_list old) (goes.rest.track.log.before_stop going) goes.rest.closed goes.rest.heard room) call next-here whole-call;
+    is = λ held says plain. asks_whole (next_in_script reruns old.script) (ended_in_script old.session.desk.log.limit old.session.desk.log.stop (verdict_of old.session.desk.log) held) (own_number old) (own_list old) called.part
+        (not_ended old.session.desk.log.limit old.session.desk.log.stop (verdict_of old.session.desk.log) held (own_list old) (goes.rest.any.track.log.before_stop going) (rest_ends_none old.session held plain goes.rest) room) call next-here whole-call;
   }

@@ -67,7 +67,7 @@ was_told_by l session own part call answer whole told log whose grown =
 -- the script's call may be asked
 pub may_be_called : {C : Type 0} (s : SessionMeaning C) (at : Position) (call : Call) → IsAtRest s → FitsCalls s.coordinator.pipelining at s.coordinator.txn → next_call at ≡ Some call → MayBeCalled s call
 may_be_called s at call rest fits next =
-    let held = (rests false s.coordinator (session_knows s) rest.one.knows rest.closed).held in
+    let held = (rests true s.coordinator (session_knows s) rest.any.one.knows rest.any.closed).held in
     record {
       no_round = (first_of (coming at) call (fits_course s.coordinator.pipelining (coming at) s.coordinator.txn fits.now) next).round;
       outside = fits_outside s.coordinator.pipelining (coming at) s.coordinator.txn (session_knows s) call fits.now held next;

@@ -15,7 +15,6 @@ ghost use Rattle.pc_session.specs.Learning.{answer_to_learn};
 ghost use Rattle.pc_session.specs.Session.{IsAtRest};
 ghost use Rattle.pc_work.specs.declared.session.SessionWork.{SessionWork};
 ghost use Rattle.pc_work.specs.declared.workload.Workload.{Workload};
-ghost use Rattle.pc_follows.specs.FinishingJobs.{jobs_of};
 
 use pc_base::{NoMemory, TxnId};
 use pc_clock::Clock;
@@ -162,7 +161,7 @@ impl<'a, N: Named<CommitWorld>, C: Clock + Drop, V: Wire + Drop, G: Gate> Script
     fn step<R: Wait>(&mut self, rt: &R) -> Result<(), NoMemory>
         requires scripted { IsScripted self.old }
         requires going { self.old.session.desk.log.stopped ≡ false }
-        requires some { jobs_of (own_list self.old) ≡ [] → ⊥ }
+        requires some { self.old.session.jobs ≡ [] → ⊥ }
         ensures ok { OnOk result (HasMoved (FinishesInTurn self.old) self.old self.new) }
         ensures rule { C.rule self.new.session.desk.log.clock ≡ C.rule self.old.session.desk.log.clock }
     {
@@ -175,9 +174,7 @@ impl<'a, N: Named<CommitWorld>, C: Clock + Drop, V: Wire + Drop, G: Gate> Script
 
     /// Whether a job waits.
     pub fn has_job(&self) -> bool
-        requires scripted { IsScripted self.now }
-        requires going { self.now.session.desk.log.stopped ≡ false }
-        ensures { IsTrue (not result) ↔ (jobs_of (own_list self.now) ≡ []) }
+        ensures { IsTrue (not result) ↔ (self.now.session.jobs ≡ []) }
     {
         self.session.has_job()
     }

@@ -32,7 +32,7 @@ use Rattle.pc_proto.specs.Requests.{round_of}
 use Rattle.pc_session.proofs.Due.{none_awaits}
 use Rattle.pc_session.proofs.CallKinds.{AsksSo, beat_alone, query_round, refresh_alone}
 use Rattle.pc_session.proofs.OfRun.{one_named}
-use Rattle.pc_session.specs.InCall.{HasOpenCall}
+use Rattle.pc_session.specs.InCall.{HasOpenCall, HasCallOver}
 use Rattle.pc_session.specs.InTurn.{WaitsForReplies}
 use Rattle.pc_session.specs.Session.{SessionMeaning, waits_aside, session_knows}
 use Rattle.pc_txn.specs.Standing.{is_query_of}
@@ -45,6 +45,7 @@ use Rattle.pc_wave.specs.Standing.{goes_beside}
 use Rattle.pc_world.specs.Known.{Known, open_txn}
 use Rattle.pc_world.specs.Known.Traffic.{request_sent}
 use Rattle.pc_world.specs.Known.Transactions.{Txn}
+use Rattle.pc_session.proofs.Away.{quiet_way}
 
 -- ---- where no reply is waited for
 
@@ -99,19 +100,20 @@ own_none k others t opened = All-weaker (λ m. goes_beside m.request ≡ true �
         cc e
     by r none own = own
 
-module _ (c : Coordination) (k : Known) (call : OpenCall) (at : HasCallDue false c k call) (number : ℕ) (request : Request) (waits : wave_awaits number call.wave ≡ true) (said : request_sent number k.sent ≡ Some request) where
+module _ {loses : Bool} (c : Coordination) (k : Known) (call : OpenCall) (at : HasCallDue loses c k call) (number : ℕ) (request : Request) (waits : wave_awaits number call.wave ≡ true) (said : request_sent number k.sent ≡ Some request) where
   abbrev m : Message
   m = (awaited_in number call.wave waits).0
 
   asked : m.request ≡ request
   asked =
       let f = awaited_in number call.wave waits in
-      said_as (setting_of false c) k at.x call.purpose call.wave at.in_call number f.0 f.1 f.2 request said
+      said_as (setting_of loses c) k at.x call.purpose call.wave at.in_call number f.0 f.1 f.2 request said
 
   -- what is so of all messages is so of this one
   pub asks : (test : Request → Bool) → All (AsksSo test) call.wave → test request ≡ true
   asks test all = let f = awaited_in number call.wave waits in ap test (sym asked) ∙ All-contains (AsksSo test) call.wave m all f.1
 
+module _ (c : Coordination) (k : Known) (call : OpenCall) (at : HasCallDue false c k call) (number : ℕ) (request : Request) (waits : wave_awaits number call.wave ≡ true) (said : request_sent number k.sent ≡ Some request) where
   past_by : ((t u : Txn) → Contains k.txns t → Contains k.txns u → u.id ≡ t.id → u ≡ t) → (p : Purpose) → call.purpose ≡ p → round_of request ≡ None → goes_alone request ≡ false → All (λ m. is_to_send m ≡ false) call.wave → All (λ m. is_in_conflict m ≡ false) call.wave → AreAllSentPast c.pipelining k
   past_by named p is plain alone out unmet = by p refl (subst (λ p. Serves (setting_of false c) k w.s w.t at.x w.stages p call.wave) is w.serves)
     where
@@ -131,9 +133,9 @@ module _ (c : Coordination) (k : Known) (call : OpenCall) (at : HasCallDue false
       decided deciding = decided_past (setting_of false c) k at.x call.purpose call.wave w deciding (λ u there same. named w.t u mine there same) others out unmet
 
       by : (q : Purpose) → p ≡ q → Serves (setting_of false c) k w.s w.t at.x w.stages q call.wave → AreAllSentPast c.pipelining k
-      by (purposes.Refresh n puts) e r = absurd (let f : false ≡ true = sym alone ∙ asks goes_alone (refresh_alone (setting_of false c) k w.s w.t at.x w.stages n puts call.wave r) in cc f)
-      by (purposes.LastBeat answer reading) e r = absurd (let f : false ≡ true = sym alone ∙ asks goes_alone (beat_alone (setting_of false c) k w.s w.t at.x w.stages answer reading call.wave r) in cc f)
-      by (purposes.Query n holder puts) e r = absurd (query_round (setting_of false c) k w.s w.t at.x w.stages n holder puts call.wave r request (let f = awaited_in number call.wave waits in subst (λ q. Contains (map (λ (m : Message). m.request) call.wave) q) asked (contains_map (λ (m : Message). m.request) call.wave m f.1)) plain)
+      by (purposes.Refresh n puts) e r = absurd (let f : false ≡ true = sym alone ∙ asks c k call at number request waits said goes_alone (refresh_alone (setting_of false c) k w.s w.t at.x w.stages n puts call.wave r) in cc f)
+      by (purposes.LastBeat answer reading) e r = absurd (let f : false ≡ true = sym alone ∙ asks c k call at number request waits said goes_alone (beat_alone (setting_of false c) k w.s w.t at.x w.stages answer reading call.wave r) in cc f)
+      by (purposes.Query n holder puts) e r = absurd (query_round (setting_of false c) k w.s w.t at.x w.stages n holder puts call.wave r request (let f = awaited_in number call.wave waits in subst (λ q. Contains (map (λ (m : Message). m.request) call.wave) q) (asked c k call at number request waits said) (contains_map (λ (m : Message). m.request) call.wave f.0 f.1)) plain)
       by (purposes.Stage n) e r = decided (ap is_deciding (is ∙ e))
       by (purposes.Commit n) e r = decided (ap is_deciding (is ∙ e))
       by (purposes.Beat kept reading) e r = none (subst (λ p. (r : Request) → WaitsMeanwhile p w.t.id w.t.epoch at.x.in_flight r → ⊥) (sym e) (λ r isnt. isnt))
@@ -143,9 +145,9 @@ module _ (c : Coordination) (k : Known) (call : OpenCall) (at : HasCallDue false
       by (purposes.Abort why) e r = none (subst (λ p. (r : Request) → WaitsMeanwhile p w.t.id w.t.epoch at.x.in_flight r → ⊥) (sym e) (λ r isnt. isnt))
 
 -- all that met intents was sent again
-pub all_again : {C : Type 0} (s : SessionMeaning C) (reading number : ℕ) (request : Request) → HasOpenCall s reading → is_on_way number s.desk ≡ true → request_sent number (session_knows s).sent ≡ Some request → round_of request ≡ None → goes_alone request ≡ false → SendsNoMore s.coordinator.due
+pub all_again : {C : Type 0} (s : SessionMeaning C) (reading number : ℕ) (request : Request) → HasCallOver false s reading → is_on_way number s.desk ≡ true → request_sent number (session_knows s).sent ≡ Some request → round_of request ≡ None → goes_alone request ≡ false → SendsNoMore s.coordinator.due
     → EndsWithSending s.desk.log.part.own → AreAllSentPast s.coordinator.pipelining (session_knows s)
-all_again s reading number request calls on said plain alone silent ends = by s.coordinator.due calls.one.knows.stands (and_first (awaits_number number s.coordinator.due) (not (waits_aside number s.desk)) (sym (calls.way number) ∙ on)) silent (calls.goes_out ends)
+all_again s reading number request calls on said plain alone silent ends = by s.coordinator.due calls.one.knows.stands (and_first (awaits_number number s.coordinator.due) (not (waits_aside number s.desk)) (sym (quiet_way s reading calls number) ∙ on)) silent (calls.goes_out refl ends)
   where
     by : (d : Due) → KnowsAt false s.coordinator (session_knows s) d → awaits_number number d ≡ true → SendsNoMore d → WaitsForReplies d → AreAllSentPast s.coordinator.pipelining (session_knows s)
     by dues.Nothing at waits silent idle = absurd cc

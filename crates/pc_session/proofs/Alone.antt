@@ -117,11 +117,11 @@ or_nil false is = is
 alone_same : (m : Message) (one other : ℕ) → wave_awaits one (m ∷ []) ≡ true → wave_awaits other (m ∷ []) ≡ true → one ≡ other
 alone_same m one other a b = awaits_one one other m.progress (or_nil (awaits_at one m) a) (or_nil (awaits_at other m) b)
 
-module _ (c : Coordination) (k : Known) (one : ℕ) (asked : Request) (knows : Knows false c k) (waits : awaits_number one c.due ≡ true) (said : request_sent one k.sent ≡ Some asked) where
-  abbrev o : IsOpenedAs c k
+module _ {loses : Bool} (c : Coordination) (k : Known) (one : ℕ) (asked : Request) (knows : Knows loses c k) (waits : awaits_number one c.due ≡ true) (said : request_sent one k.sent ≡ Some asked) where
+  abbrev o : IsOpenedAs loses c k
   o = waits_opened c k one knows waits
 
-  w : InCall (setting_of false c) k o.at.x o.o.call.purpose o.o.call.wave
+  w : InCall (setting_of loses c) k o.at.x o.o.call.purpose o.o.call.wave
   w = o.at.in_call
 
   here : wave_awaits one o.o.call.wave ≡ true
@@ -136,17 +136,17 @@ module _ (c : Coordination) (k : Known) (one : ℕ) (asked : Request) (knows : K
       by : (b : Bool) → is_single o.o.call.purpose ≡ b → is_single o.o.call.purpose ≡ true
       by true is = is
       by false isnt =
-          absurd (let e : true ≡ false = sym (so goes_in_wave (waves_all (setting_of false c) k w.s w.t o.at.x w.stages o.o.call.purpose o.o.call.wave isnt w.serves)) ∙ apart in cc e)
+          absurd (let e : true ≡ false = sym (so goes_in_wave (waves_all (setting_of loses c) k w.s w.t o.at.x w.stages o.o.call.purpose o.o.call.wave isnt w.serves)) ∙ apart in cc e)
 
   -- it is waited for alone
   pub awaited_alone : (other : ℕ) → awaits_number other c.due ≡ true → (is_heartbeat asked ≡ true) ⊎ ((t : Txn) × (open_txn k ≡ Some t) × (is_query_of t.id asked ≡ true)) → one ≡ other
   awaited_alone other also alone =
       let apart : goes_in_wave asked ≡ false = elim alone [ inl beats ↦ beat_apart asked beats | inr asks ↦ query_apart asks.0 asked asks.2 ] in
-      let m = single_one (setting_of false c) k w.s w.t o.at.x w.stages o.o.call.purpose o.o.call.wave (single apart) w.serves in
+      let m = single_one (setting_of loses c) k w.s w.t o.at.x w.stages o.o.call.purpose o.o.call.wave (single apart) w.serves in
       alone_same m.0 one other (subst (λ ms. wave_awaits one ms ≡ true) m.1 here) (subst (λ ms. wave_awaits other ms ≡ true) m.1 (sym (ap (awaits_number other) o.due) ∙ also))
 
   -- and beside a query of an own write nothing waits in the outbox
   pub query_clears : (number : ℕ) (t : Txn) → is_query_of t.id asked ≡ true → has_waited number c.later ≡ false
   query_clears number t is =
       ap (has_waited number)
-      (single_query (setting_of false c) k w.s w.t o.at.x w.stages o.o.call.purpose o.o.call.wave (single (query_apart t asked is)) w.serves asked so (query_no_beat t asked is) c.later o.at.aside.joined)
+      (single_query (setting_of loses c) k w.s w.t o.at.x w.stages o.o.call.purpose o.o.call.wave (single (query_apart t asked is)) w.serves asked so (query_no_beat t asked is) c.later o.at.aside.joined)

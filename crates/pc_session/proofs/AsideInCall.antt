@@ -16,11 +16,11 @@ use Rattle.pc_lists.proofs.Lists.{all_from_contains, contains_head, contains_tai
 use Rattle.pc_proto.specs.declared.answer.Answer.TheVariants as answers
 use Rattle.pc_proto.specs.declared.call.Call.{Call}
 use Rattle.pc_proto.specs.Requests.{is_put_of, is_put}
-use Rattle.pc_session.proofs.Away.{aside_not_away, aside_sent}
+use Rattle.pc_session.proofs.Away.{aside_not_away, aside_sent, quiet_way}
 use Rattle.pc_session.proofs.Lost.{row_by}
 use Rattle.pc_session.proofs.Strays.{heard_since, is_open_by, waits_still}
 use Rattle.pc_session.proofs.Waiting.{waits_under, wait_apart, wait_unheard}
-use Rattle.pc_session.specs.InCall.{IsApartNow, IsHeardOrAway, IsOfOpenEpoch, IsPutOfEpoch, LeavesStrays, HasOpenCall}
+use Rattle.pc_session.specs.InCall.{IsApartNow, IsHeardOrAway, IsOfOpenEpoch, IsPutOfEpoch, LeavesStrays, HasOpenCall, HasCallOver}
 use Rattle.pc_session.specs.Session.{SessionMeaning, waits_aside, session_knows}
 use Rattle.pc_txn.specs.declared.txn.OpenTxn.{OpenTxn}
 use Rattle.pc_world.specs.Known.{Known, call_of, open_txn, known_of}
@@ -44,6 +44,8 @@ use Rattle.pc_coord.proofs.Knowing.{rests}
 use Rattle.pc_desk.proofs.Counting.{said_once}
 use Rattle.pc_flight.specs.declared.write.WriteInFlight.{WriteInFlight}
 use Rattle.pc_txn.specs.Opened.{put_at}
+use Rattle.pc_desk.specs.Keeping.{LosesNothing}
+use Rattle.pc_desk.specs.OwnLog.{verdict_of}
 
 any_number : (n : ℕ) (ms : List Sent) → list_any (λ (m : Sent). m.number == n) ms ≡ true → (m : Sent) × Contains ms m × (m.number ≡ n)
 any_number n [] is = absurd cc
@@ -75,7 +77,7 @@ no_begin splits session k s id ts may opened outside is_open =
     let e : true ≡ false = sym is_open ∙ outside asked in
     cc e
 
-module _ {C : Type 0} (s : SessionMeaning C) (track : KeepsTrack s.desk) (knows : Knows false s.coordinator (session_knows s)) (st : Statement) (opened : (session_knows s).statement ≡ Some st) (outside : is_outside st.call ≡ true → (session_knows s).is_open ≡ false)
+module _ {C : Type 0} (s : SessionMeaning C) (track : KeepsTrack s.desk) (quiet : LosesNothing (verdict_of s.desk.log)) (knows : Knows false s.coordinator (session_knows s)) (st : Statement) (opened : (session_knows s).statement ≡ Some st) (outside : is_outside st.call ≡ true → (session_knows s).is_open ≡ false)
     (apart : IsApartNow (session_knows s)) (sent : All (IsHeardOrAway s) (session_knows s).sent_now) where
   abbrev k : Known
   k = session_knows s
@@ -96,7 +98,8 @@ module _ {C : Type 0} (s : SessionMeaning C) (track : KeepsTrack s.desk) (knows 
           let e : true ≡ false = sym ever ∙ f.1 in
           cc e
       none m same (inr (inl on)) = let f = aside_not_away s.desk track m.number (ap (λ n. waits_aside n s.desk) same ∙ aside) in let e : true ≡ false = sym on ∙ f.0 in cc e
-      none m same (inr (inr told)) = let e : dues.Call call ≡ dues.Tell answers.Written = sym due ∙ told.1 in cc e
+      none m same (inr (inr (inl lost))) = let e : false ≡ true = sym (quiet m.number) ∙ lost in cc e
+      none m same (inr (inr (inr told))) = let e : dues.Call call ≡ dues.Tell answers.Written = sym due ∙ told.1 in cc e
 
       by : (b : Bool) → list_any (λ (m : Sent). m.number == number) k.sent_now ≡ b → list_any (λ (m : Sent). m.number == number) k.sent_now ≡ false
       by true is = absurd (let f = any_number number k.sent_now is in none f.0 f.2 (All-contains (IsHeardOrAway s) k.sent_now f.0 sent f.1))
@@ -205,9 +208,9 @@ rest_epoch s track knows closed number waits = by c.txn rest.held rest.outbox
         }
 
 -- what waits there was sent, and puts a write
-pub rest_puts : {C : Type 0} (s : SessionMeaning C) → KeepsTrack s.desk → Knows false s.coordinator (session_knows s) → (session_knows s).statement ≡ None → (number : ℕ) → has_waited number s.coordinator.later ≡ true
+pub rest_puts : {C : Type 0} {loses : Bool} (s : SessionMeaning C) → KeepsTrack s.desk → Knows loses s.coordinator (session_knows s) → (session_knows s).statement ≡ None → (number : ℕ) → has_waited number s.coordinator.later ≡ true
     → (request : Request) × (request_sent number (session_knows s).sent ≡ Some request) × (is_put request ≡ true)
-rest_puts s track knows closed number waits = by c.txn rest.outbox
+rest_puts {loses = loses} s track knows closed number waits = by c.txn rest.outbox
   where
     c : Coordination
     c = s.coordinator
@@ -215,17 +218,17 @@ rest_puts s track knows closed number waits = by c.txn rest.outbox
     k : Known
     k = session_knows s
 
-    rest : Rests false c.session c.clock c.begun c.txn c.later c.job k
-    rest = rests false c k knows closed
+    rest : Rests loses c.session c.clock c.begun c.txn c.later c.job k
+    rest = rests loses c k knows closed
 
-    by : (txn : Option OpenTxn) → IsOutboxOf false txn c.later k → (request : Request) × (request_sent number k.sent ≡ Some request) × (is_put request ≡ true)
+    by : (txn : Option OpenTxn) → IsOutboxOf loses txn c.later k → (request : Request) × (request_sent number k.sent ≡ Some request) × (is_put request ≡ true)
     by None outbox = absurd (let e : false ≡ true = sym (ap (has_waited number) outbox.0) ∙ waits in cc e)
     by (Some x) outbox =
         let u = waits_under k outbox.t x number c.later outbox.stands waits in
         (u.put.request, ap (λ n. request_sent n k.sent) (sym u.numbered) ∙ u.stands.sent, ap is_put u.stands.said)
 
 -- what waits in the outbox, while the call goes on, was sent before it
-pub waits_before : {C : Type 0} (s : SessionMeaning C) (reading : ℕ) → HasOpenCall s reading → (call : OpenCall) → s.coordinator.due ≡ dues.Call call → HasCallDue false s.coordinator (session_knows s) call → (n : ℕ) → has_waited n s.coordinator.later ≡ true
+pub waits_before : {C : Type 0} (s : SessionMeaning C) (reading : ℕ) → HasCallOver false s reading → (call : OpenCall) → s.coordinator.due ≡ dues.Call call → HasCallDue false s.coordinator (session_knows s) call → (n : ℕ) → has_waited n s.coordinator.later ≡ true
     → list_any (λ (m : Sent). m.number == n) (session_knows s).sent_now ≡ false
 waits_before s reading calls call due at n waiting = by (list_any (λ (m : Sent). m.number == n) k.sent_now) refl
   where
@@ -240,9 +243,10 @@ waits_before s reading calls call due at n waiting = by (list_any (λ (m : Sent)
         let f = any_heard m.number k.heard (heard_since k calls.apart m heard) in
         none_heard (f.0, f.1, f.2 ∙ same)
     none m same (inr (inl on)) =
-        let waits : awaits_number m.number s.coordinator.due ≡ true = and_first (awaits_number m.number s.coordinator.due) (not (waits_aside m.number s.desk)) (sym (calls.way m.number) ∙ on) in
+        let waits : awaits_number m.number s.coordinator.due ≡ true = and_first (awaits_number m.number s.coordinator.due) (not (waits_aside m.number s.desk)) (sym (quiet_way s reading calls m.number) ∙ on) in
         wait_apart s.coordinator k call at n waiting (subst (λ i. wave_awaits i call.wave ≡ true) same (sym (ap (awaits_number m.number) due) ∙ waits))
-    none m same (inr (inr told)) = let e : dues.Call call ≡ dues.Tell answers.Written = sym due ∙ told.1 in cc e
+    none m same (inr (inr (inl lost))) = let e : false ≡ true = sym (calls.one.quiet refl m.number) ∙ lost in cc e
+    none m same (inr (inr (inr told))) = let e : dues.Call call ≡ dues.Tell answers.Written = sym due ∙ told.1 in cc e
 
     by : (b : Bool) → list_any (λ (m : Sent). m.number == n) k.sent_now ≡ b → list_any (λ (m : Sent). m.number == n) k.sent_now ≡ false
     by true is = absurd (let f = any_number n k.sent_now is in none f.0 f.2 (All-contains (IsHeardOrAway s) k.sent_now f.0 calls.sent f.1))

@@ -132,7 +132,7 @@ module _ (set : Setting) (k : Known) (s : Statement) (t : Txn) (x : OpenTxn) (st
   read_puts call ms asked = absurd asked
 
 module _ (c : Coordination) (k : Known) (sent : Request) (knows : Knows false c k) (due : request_next (next_of c) ≡ Some sent) where
-  abbrev o : IsOpenedAs c k
+  abbrev o : IsOpenedAs false c k
   o = sends_of c k sent knows due
 
   abbrev w : InCall (setting_of false c) k o.at.x o.o.call.purpose o.o.call.wave

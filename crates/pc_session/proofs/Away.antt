@@ -1,8 +1,8 @@
 -- The messages of a session in its call: each is on its way, or was heard in the call.
-use Rattle.std.proofs.Common.{◌≡◌, ℕ, ◌+◌, ◌≤◌, Bool, true, false, ◌||◌, ◌==◌, All, Contains, IsTrue, List, [], ◌∷◌, ◌++◌, length, cond, count_by, find, inl, inr, Option, None, Some, refl, sym, ap, ◌∙◌, arith}
+use Rattle.std.proofs.Common.{◌≡◌, ℕ, ◌+◌, ◌≤◌, Bool, true, false, ◌||◌, ◌==◌, All, Contains, IsTrue, List, [], ◌∷◌, ◌++◌, length, cond, count_by, find, inl, inr, Option, None, Some, refl, sym, ap, ◌∙◌, arith, subst, ◌&&◌, not, ◌⊎◌}
 use Rattle.std.proofs.lemmas.Bool.{eq-eqb}
 use Rattle.std.proofs.lemmas.List.{append-nil, append_assoc}
-use Rattle.std.proofs.lemmas.List.Elements.{All-contains, All-nil, All-push, All-weaker}
+use Rattle.std.proofs.lemmas.List.Elements.{All-contains, All-nil, All-push, All-weaker, All-head}
 use Rattle.std.proofs.lemmas.List.Folds.{list_any-append}
 use Rattle.std.specs.List.{list_any}
 use Rattle.std.specs.Option.{option_map}
@@ -10,19 +10,23 @@ use Rattle.pc_coord.specs.declared.due.Due.TheVariants as dues
 use Rattle.pc_desk.proofs.Counting.{counts_any, none_beyond, none_counted, said_more, said_new, uncounted}
 use Rattle.pc_desk.proofs.Turns.{counted_has, put_aside}
 use Rattle.pc_desk.specs.declared.answered.Answered.{Answered}
-use Rattle.pc_desk.specs.Desk.{DeskMeaning, WasSetAside, KeepsTrack, Posted, answered_as, as_sent, heard_as_number, is_on_way, posted_as, times_sent}
+use Rattle.pc_desk.specs.Desk.{DeskMeaning, WasSetAside, KeepsTrack, Posted, answered_as, as_sent, heard_as_number, is_on_way, posted_as, times_sent, has_lost}
 use Rattle.pc_lists.proofs.Lists.{all_from_contains, contains_cons, contains_nil}
 use Rattle.pc_proto.specs.declared.answer.Answer.TheVariants as answers
 use Rattle.pc_proto.specs.declared.call.Call.{Call}
 use Rattle.pc_proto.specs.declared.request.Request.{Request}
 use Rattle.pc_session.proofs.Knowing.{with_asked, with_heard, with_sent}
 use Rattle.pc_proto.specs.Requests.{is_put}
-use Rattle.pc_session.specs.InCall.{IsApartNow, IsHeardOrAway}
+use Rattle.pc_session.specs.InCall.{HasCallOver, IsApartNow, IsHeardOrAway}
 use Rattle.pc_session.specs.Session.{SessionMeaning, waits_aside, session_knows}
 use Rattle.pc_follows.specs.WaveOrder.{IsHeardOrPut}
 use Rattle.pc_world.specs.Known.{Known, known_of}
 use Rattle.pc_world.specs.Known.Traffic.{Heard, Sent, request_sent}
 use Rattle.pc_world.specs.Tell.Refusal.{is_heard}
+use Rattle.pc_coord.specs.Coordination.{awaits_number}
+use Rattle.pc_desk.specs.Keeping.{LosesNothing}
+use Rattle.pc_desk.specs.OwnLog.{verdict_of}
+use Rattle.pc_wire.specs.Verdicts.{is_losing}
 
 -- one more message, of another number
 pub said_before : (n : ℕ) (xs : List Sent) (m : Sent) → (m.number == n) ≡ false → request_sent n (xs ++ m ∷ []) ≡ request_sent n xs
@@ -66,9 +70,9 @@ module _ {C : Type 0} (d : DeskMeaning C) (track : KeepsTrack d) where
   abbrev k : Known
   k = known_of d.log.part.own
 
-  -- what was sent and is not on its way was heard, but for puts
-  pub heard_if_back : (m : Sent) → Contains k.sent m → is_on_way m.number d ≡ false → IsHeardOrPut k.heard m
-  heard_if_back m there away = by (list_any (λ (h : Heard). h.number == m.number) k.heard) refl
+  -- where nothing is lost, what was sent and is not on its way was heard, but for puts
+  pub heard_if_back : LosesNothing (verdict_of d.log) → (m : Sent) → Contains k.sent m → is_on_way m.number d ≡ false → IsHeardOrPut k.heard m
+  heard_if_back quiet m there away = by (list_any (λ (h : Heard). h.number == m.number) k.heard) refl
     where
       by : (b : Bool) → list_any (λ (h : Heard). h.number == m.number) k.heard ≡ b → IsHeardOrPut k.heard m
       by true is = inl is
@@ -79,7 +83,7 @@ module _ {C : Type 0} (d : DeskMeaning C) (track : KeepsTrack d) where
           let r : answered_as m.number d.replies ≡ 0 = uncounted (λ (a : Answered). a.number == m.number) d.replies off.1 in
           let h : heard_as_number m.number k ≡ 0 = uncounted (λ (x : Heard). x.number == m.number) k.heard none in
           let all = track.stages m.number in
-          inr (put_aside d track m there (omega (arith, some, p, r, h, all)))
+          inr (put_aside d track quiet m there (omega (arith, some, p, r, h, all)))
 
   -- no message of the next number was heard or sent, or was set aside
   pub none_heard_next : (number : ℕ) → number ≡ d.sends + 1 → (list_any (λ (h : Heard). h.number == number) k.heard ≡ false) × (count_by (λ (m : Sent). m.number == number) k.sent ≡ 0)
@@ -119,24 +123,56 @@ module _ {C : Type 0} (d : DeskMeaning C) (track : KeepsTrack d) where
       (as_sent has.0, is.one, has.2, is.puts)
 
   -- where none is on its way, all that was sent was heard, but for puts
-  pub all_heard : ((number : ℕ) → is_on_way number d ≡ false) → All (IsHeardOrPut k.heard) k.sent
-  all_heard away = all_from_contains (IsHeardOrPut k.heard) k.sent (λ m there. heard_if_back m there (away m.number))
+  pub all_heard : LosesNothing (verdict_of d.log) → ((number : ℕ) → is_on_way number d ≡ false) → All (IsHeardOrPut k.heard) k.sent
+  all_heard quiet away = all_from_contains (IsHeardOrPut k.heard) k.sent (λ m there. heard_if_back quiet m there (away m.number))
+
+  -- and none is lost
+  pub none_lost : LosesNothing (verdict_of d.log) → d.lost ≡ []
+  none_lost quiet = by d.lost refl
+    where
+      P : ℕ → Type 0
+      P number = (is_losing (verdict_of d.log number) ≡ true) × (times_sent number k ≡ 1) × (heard_as_number number k ≡ 0)
+
+      by : (ns : List ℕ) → d.lost ≡ ns → ns ≡ []
+      by [] is = refl
+      by (n ∷ ns) is =
+          let first = All-head P n ns (subst (All P) is track.lost.each) in
+          let e : false ≡ true = sym (quiet n) ∙ first.0 in
+          absurd cc
+
+  pub has_lost_none : LosesNothing (verdict_of d.log) → (number : ℕ) → has_lost number d ≡ false
+  has_lost_none quiet number = ap (list_any (λ n. n == number)) (none_lost quiet)
 
 -- ---- what was sent in the call
 
 module _ {C : Type 0} (s : SessionMeaning C) (m : Sent) (out : IsHeardOrAway s m) where
-  -- it was heard in it, if it is not on its way, and the call is not to be told that it is written
-  pub heard_now_if_back : (s.coordinator.due ≡ dues.Tell answers.Written → ⊥) → is_on_way m.number s.desk ≡ false → IsTrue (is_heard (session_knows s).heard_now m)
-  heard_now_if_back other away = elim out [
-    | inl heard ↦ heard
+  -- it was heard in it, or lost, if it is not on its way, and the call is not to be told that it is written
+  pub heard_or_lost_if_back : (s.coordinator.due ≡ dues.Tell answers.Written → ⊥) → is_on_way m.number s.desk ≡ false → IsTrue (is_heard (session_knows s).heard_now m) ⊎ (is_losing (verdict_of s.desk.log m.number) ≡ true)
+  heard_or_lost_if_back other away = elim out [
+    | inl heard ↦ inl heard
     | inr (inl on) ↦ let e : true ≡ false = sym on ∙ away in absurd cc
-    | inr (inr told) ↦ absurd (other told.1)
+    | inr (inr (inl lost)) ↦ inr lost
+    | inr (inr (inr told)) ↦ absurd (other told.1)
+  ]
+
+  pub heard_now_if_back : LosesNothing (verdict_of s.desk.log) → (s.coordinator.due ≡ dues.Tell answers.Written → ⊥) → is_on_way m.number s.desk ≡ false → IsTrue (is_heard (session_knows s).heard_now m)
+  heard_now_if_back quiet other away = elim (heard_or_lost_if_back other away) [
+    | inl heard ↦ heard
+    | inr lost ↦ let e : false ≡ true = sym (quiet m.number) ∙ lost in absurd cc
   ]
 
 -- where none is on its way, all that was sent in the call was heard in it
-pub all_heard_now : {C : Type 0} (s : SessionMeaning C) → All (IsHeardOrAway s) (session_knows s).sent_now → (s.coordinator.due ≡ dues.Tell answers.Written → ⊥) → ((number : ℕ) → is_on_way number s.desk ≡ false)
+pub all_heard_now : {C : Type 0} (s : SessionMeaning C) → LosesNothing (verdict_of s.desk.log) → All (IsHeardOrAway s) (session_knows s).sent_now → (s.coordinator.due ≡ dues.Tell answers.Written → ⊥) → ((number : ℕ) → is_on_way number s.desk ≡ false)
     → All (λ m. IsTrue (is_heard (session_knows s).heard_now m)) (session_knows s).sent_now
-all_heard_now s out other away = All-weaker (IsHeardOrAway s) (λ m. IsTrue (is_heard (session_knows s).heard_now m)) (λ m o. heard_now_if_back s m o other (away m.number)) (session_knows s).sent_now out
+all_heard_now s quiet out other away = All-weaker (IsHeardOrAway s) (λ m. IsTrue (is_heard (session_knows s).heard_now m)) (λ m o. heard_now_if_back s m o quiet other (away m.number)) (session_knows s).sent_now out
+
+-- what is waited for, and was not set aside, is on its way, where nothing is lost
+pub quiet_way : {C : Type 0} (s : SessionMeaning C) (reading : ℕ) (calls : HasCallOver false s reading) (number : ℕ) → is_on_way number s.desk ≡ (awaits_number number s.coordinator.due && not (waits_aside number s.desk))
+quiet_way s reading calls number = sym (or_none (is_on_way number s.desk) (has_lost number s.desk) (has_lost_none s.desk calls.track (calls.one.quiet refl) number)) ∙ calls.way number
+  where
+    or_none : (a b : Bool) → b ≡ false → (a || b) ≡ a
+    or_none true b none = refl
+    or_none false b none = none
 
 -- where none is on its way, none waits
 pub none_posted : {C : Type 0} (d : DeskMeaning C) → ((number : ℕ) → is_on_way number d ≡ false) → d.posted ≡ []

@@ -77,7 +77,7 @@ asked_turn c k knows sent heard = by c.pipelining refl
 -- ---- a message goes out
 
 module _ (c : Coordination) (k : Known) (request : Request) (knows : Knows false c k) (due : request_next (next_of c) ≡ Some request) (turn : KeepsTurn c.pipelining k c.due) where
-  abbrev o : IsOpenedAs c k
+  abbrev o : IsOpenedAs false c k
   o = sends_of c k request knows due
 
   -- no conflict waits for its round then
@@ -121,7 +121,7 @@ module _ (c e : Coordination) (k : Known) (h : Heard) (knows : Knows false c k) 
   abbrev now_h : Known
   now_h = with_heard h k
 
-  abbrev h_of : IsOpenedAs c k
+  abbrev h_of : IsOpenedAs false c k
   h_of = hears_of c e k now_h h knows waited
 
   abbrev back_ms : List Message
@@ -216,7 +216,7 @@ module _ (c e : Coordination) (k now : Known) (number : ℕ) (conflict : Reply) 
     (met : IsConflictNow (setting_of false c).course k number conflict reader) (turn : KeepsTurn c.pipelining k c.due) (once : AreHeardOnce k) (once_now : AreHeardOnce now) (begun : rounds_begun now ≡ rounds_begun k + 1)
     (made_ends : EndsRound false conflict round k now) (later : IsLaterBeside false c k now) (quiet : (n : ℕ) → awaits_number n e.due ≡ false)
     (comes_then : goes_by_sequence (rounds_of c k number conflict reader knows due).o.call.purpose ≡ false → ComesOfRound round number conflict (wave c k number conflict reader knows due) e.due) where
-  abbrev r_of : IsOpenedAs c k
+  abbrev r_of : IsOpenedAs false c k
   r_of = rounds_of c k number conflict reader knows due
 
   abbrev r_ms : List Message

@@ -12,7 +12,7 @@ use Rattle.pc_session.proofs.OwnWrites.{no_own}
 use Rattle.pc_session.proofs.TurnsOn.{waits_opened}
 use Rattle.pc_coord.specs.Awaiting.{IsAwaitedNext}
 use Rattle.pc_session.proofs.Wanted.{awaited_out, its_puts, nothing_early, proving_wave}
-use Rattle.pc_session.specs.InCall.{HasOpenCall}
+use Rattle.pc_session.specs.InCall.{HasOpenCall, HasCallOver}
 use Rattle.pc_session.specs.Session.{SessionMeaning, session_knows}
 use Rattle.pc_world.specs.Known.{Known}
 use Rattle.pc_world.specs.Known.Traffic.{Heard}
@@ -37,7 +37,7 @@ module _ (c : Coordination) (k : Known) (h : Heard) (knows : Knows false c k) (n
   )
 
 -- what is heard next comes in its turn
-pub comes_in_turn : {C : Type 0} (s : SessionMeaning C) (reading : ℕ) (h : Heard) → HasOpenCall s reading → IsAwaitedNext s.coordinator (session_knows s) h → is_on_way h.number s.desk ≡ true → ((n : ℕ) → awaits_number n s.coordinator.due ≡ true → h.number ≤ n)
+pub comes_in_turn : {C : Type 0} (s : SessionMeaning C) (reading : ℕ) (h : Heard) → HasCallOver false s reading → IsAwaitedNext s.coordinator (session_knows s) h → is_on_way h.number s.desk ≡ true → ((n : ℕ) → awaits_number n s.coordinator.due ≡ true → h.number ≤ n)
     → ComesInTurn s.coordinator.pipelining s.desk.log.part.own h
 comes_in_turn s reading h calls next on least =
     let c = s.coordinator in

@@ -120,19 +120,19 @@ puts_open k request own = put_open k request own
 
 -- ---- where no call is open
 
-idle_at : (c : Coordination) (k : Known) (due : Due) → KnowsAt false c k due → k.statement ≡ None → due ≡ dues.Nothing
-idle_at c k dues.Nothing at none = refl
-idle_at c k (dues.Call call) at none = let e = sym at.in_call.opened ∙ none in absurd cc
-idle_at c k (dues.Tell answer) at none = let e = sym at.may.may.opened ∙ none in absurd cc
+idle_at : (loses : Bool) (c : Coordination) (k : Known) (due : Due) → KnowsAt loses c k due → k.statement ≡ None → due ≡ dues.Nothing
+idle_at loses c k dues.Nothing at none = refl
+idle_at loses c k (dues.Call call) at none = let e = sym at.in_call.opened ∙ none in absurd cc
+idle_at loses c k (dues.Tell answer) at none = let e = sym at.may.may.opened ∙ none in absurd cc
 
 -- nothing is due
-pub idle : (c : Coordination) (k : Known) → Knows false c k → k.statement ≡ None → c.due ≡ dues.Nothing
-idle c k knows none = idle_at c k c.due knows.stands none
+pub idle : {loses : Bool} (c : Coordination) (k : Known) → Knows loses c k → k.statement ≡ None → c.due ≡ dues.Nothing
+idle {loses} c k knows none = idle_at loses c k c.due knows.stands none
 
 held_is : (txn : Option OpenTxn) (k : Known) → IsHeld txn k → is_some txn ≡ k.is_open
 held_is None k held = sym held
 held_is (Some x) k held = sym held.open_in.is_open
 
 -- and the coordinator holds a transaction exactly where the session has one open
-pub holds : (c : Coordination) (k : Known) → Knows false c k → k.statement ≡ None → is_some c.txn ≡ k.is_open
-holds c k knows none = held_is c.txn k (rests false c k knows none).held
+pub holds : {loses : Bool} (c : Coordination) (k : Known) → Knows loses c k → k.statement ≡ None → is_some c.txn ≡ k.is_open
+holds {loses} c k knows none = held_is c.txn k (rests loses c k knows none).held

@@ -27,7 +27,7 @@ use Rattle.pc_session.proofs.PipedWaves.{unmet_waits}
 use Rattle.pc_session.proofs.TurnsOn.{IsOpenedAs, over_now, sends_of, step_sends}
 use Rattle.pc_session.proofs.Resent.{resent}
 use Rattle.pc_session.proofs.Wanted.{behind_proved, beside_puts, in_next_turn}
-use Rattle.pc_session.specs.InCall.{HasOpenCall}
+use Rattle.pc_session.specs.InCall.{HasOpenCall, HasCallOver}
 use Rattle.pc_session.specs.InTurn.{HasRoundsPiped, KeepsTurn}
 use Rattle.pc_session.specs.Session.{SessionMeaning, session_knows}
 use Rattle.pc_txn.specs.Queries.{own_query}
@@ -42,7 +42,7 @@ or_none true b e = let f : true ≡ false = e in absurd cc
 or_none false b e = refl
 
 module _ (c : Coordination) (k : Known) (request : Request) (knows : Knows false c k) (due : request_next (next_of c) ≡ Some request) (turn : KeepsTurn c.pipelining k c.due) (may : IsSendable (setting_of false c) c.session k request) where
-  abbrev o : IsOpenedAs c k
+  abbrev o : IsOpenedAs false c k
   o = sends_of c k request knows due
 
   -- the one message of a wave is the one that goes out
@@ -108,7 +108,7 @@ module _ (c : Coordination) (k : Known) (request : Request) (knows : Knows false
       by false plain = tt
 
 -- what goes out next goes in its turn
-pub goes_in_turn : {C : Type 0} (s : SessionMeaning C) (reading : ℕ) (request : Request) → HasOpenCall s reading → request_next (next_of s.coordinator) ≡ Some request → IsSendable (setting_of false s.coordinator) s.coordinator.session (session_knows s) request
+pub goes_in_turn : {C : Type 0} (s : SessionMeaning C) (reading : ℕ) (request : Request) → HasCallOver false s reading → request_next (next_of s.coordinator) ≡ Some request → IsSendable (setting_of false s.coordinator) s.coordinator.session (session_knows s) request
     → GoesInTurn s.coordinator.pipelining (session_knows s) request
 goes_in_turn s reading request calls due may =
     let c = s.coordinator in
@@ -116,8 +116,8 @@ goes_in_turn s reading request calls due may =
     record {
       again = resent c k request calls.one.knows due may;
       proved = behind_proved c k request calls.one.knows due may;
-      last = nothing_behind c k request calls.one.knows due calls.turn may;
+      last = nothing_behind c k request calls.one.knows due (calls.turn refl) may;
       stages = beside_puts c k request calls.one.knows due may;
-      rounds = makes_rounds c k request calls.one.knows due calls.turn may;
+      rounds = makes_rounds c k request calls.one.knows due (calls.turn refl) may;
       order = next_piece s reading request calls due;
     }

@@ -1,5 +1,5 @@
 -- How a session goes on by parts of its own list.
-use Rattle.std.proofs.Common.{false, ◌≡◌, ℕ, inl, inr, All, List, [], ◌++◌, refl, sym, ap, subst, ◌∙◌}
+use Rattle.std.proofs.Common.{false, ◌≡◌, ℕ, inl, inr, All, List, [], ◌++◌, refl, sym, ap, subst, ◌∙◌, Bool}
 use Rattle.std.proofs.lemmas.List.{map-append}
 use Rattle.std.proofs.lemmas.List.Elements.{All-append, All-nil}
 use Rattle.pc_base.specs.declared.actor.ActorId.TheVariants as actors
@@ -9,7 +9,7 @@ use Rattle.pc_coord.specs.Knows.{Knows}
 use Rattle.pc_desk.specs.declared.halt.Halt.{Halt}
 use Rattle.pc_desk.specs.declared.halt.Halt.TheVariants as halts
 use Rattle.pc_desk.specs.Desk.{DeskMeaning, HasHalted, IsCause}
-use Rattle.pc_desk.specs.OwnLog.{LogMeaning}
+use Rattle.pc_desk.specs.OwnLog.{LogMeaning, verdict_of}
 use Rattle.pc_exchange.proofs.Growing.{grows_both, grows_none}
 use Rattle.pc_exchange.specs.Growing.{HasGrownBy}
 use Rattle.pc_history.specs.declared.pair.Pair.{Pair}
@@ -23,6 +23,7 @@ use Rattle.pc_session.specs.Steps.{HasMadeStep}
 use Rattle.pc_turns.specs.Order.{IsInBetween, events_of}
 use Rattle.pc_world.specs.Known.{known_of}
 use Rattle.pc_world.specs.Local.{Head}
+use Rattle.pc_desk.specs.Keeping.{LosesNothing}
 
 -- a list that grew is of the same actor
 module _ {C : Type 0} (old new : LogMeaning C) (part : List (Pair Event)) (grown : HasGrownBy old new part) where
@@ -35,16 +36,20 @@ module _ {C : Type 0} (old new : LogMeaning C) (part : List (Pair Event)) (grown
   pub piped_same : new.pipelining ≡ old.pipelining
   piped_same = ap (λ (l : LogMeaning C). l.pipelining) grown.rest
 
+  pub verdicts_same : verdict_of new ≡ verdict_of old
+  verdicts_same = ap (λ (l : LogMeaning C). verdict_of l) grown.rest
+
   pub stopped_same : new.stopped ≡ old.stopped
   stopped_same = ap (λ (l : LogMeaning C). l.stopped) grown.rest
 
 -- the desk and the coordinator are still of one session
-pub one_on : {C : Type 0} (old new : DeskMeaning C) (c d : Coordination) (part : List (Pair Event)) → HasGrownBy old.log new.log part → AreOfOneSession old c → d.session ≡ c.session → d.splits ≡ c.splits → d.pipelining ≡ c.pipelining
-    → Knows false d (known_of new.log.part.own) → AreOfOneSession new d
-one_on old new c d part grown one session splits pipelines knows = record {
+pub one_on : {C : Type 0} {loses : Bool} (old new : DeskMeaning C) (c d : Coordination) (part : List (Pair Event)) → HasGrownBy old.log new.log part → AreOfOneSession loses old c → d.session ≡ c.session → d.splits ≡ c.splits → d.pipelining ≡ c.pipelining
+    → Knows loses d (known_of new.log.part.own) → AreOfOneSession loses new d
+one_on {C} old new c d part grown one session splits pipelines knows = record {
   whose = id_same old.log new.log part grown ∙ (one.whose ∙ ap (λ n. actors.Session n) (sym session));
   splits = splits ∙ (one.splits ∙ ap (λ (h : Head). h.splits) (sym (head_same old.log new.log part grown)));
   piped = piped_same old.log new.log part grown ∙ (one.piped ∙ sym pipelines);
+  quiet = λ is. subst LosesNothing (sym (verdicts_same old.log new.log part grown)) (one.quiet is);
   knows = knows;
 }
 

@@ -44,7 +44,7 @@ put_behind k r g put (inr (inr asks)) = asks
 
 -- ---- a reply is heard
 
-module _ (c e : Coordination) (own : List (Pair Event)) (p : Pair Event) (h : Heard) (knows : Knows false c (known_of own)) (call : OpenCall) (at : HasCallDue false c (known_of own) call) (waited : awaits_number h.number c.due ≡ true) (said : request_sent h.number (known_of own).sent ≡ Some h.request)
+module _ {loses : Bool} (c e : Coordination) (own : List (Pair Event)) (p : Pair Event) (h : Heard) (knows : Knows loses c (known_of own)) (call : OpenCall) (at : HasCallDue loses c (known_of own) call) (waited : awaits_number h.number c.due ≡ true) (said : request_sent h.number (known_of own).sent ≡ Some h.request)
     (known : known_of (own ++ p ∷ []) ≡ with_heard h (known_of own)) (after : AwaitsAfter h.number c e.due) (left : (number : ℕ) → has_waited number e.later ≡ true → has_waited number c.later ≡ true) where
   abbrev k : Known
   k = known_of own
@@ -90,7 +90,7 @@ module _ (c e : Coordination) (own : List (Pair Event)) (p : Pair Event) (h : He
 
       apart : (n : ℕ) (request : Request) → (awaits_number n c.due ≡ true) × ((h.number == n) ≡ false) → request_sent n k.sent ≡ Some request → MustComeFirst k request h → ⊥
       apart n request on says (inl beats) = other n on.1 (sym (awaited_alone c k n request knows on.0 says h.number waited (inl beats)))
-      apart n request on says (inr (inl both)) = other n on.1 (one_record false c k knows h.number n h.request request waited on.0 said says both.1 both.0)
+      apart n request on says (inr (inl both)) = other n on.1 (one_record loses c k knows h.number n h.request request waited on.0 said says both.1 both.0)
       apart n request on says (inr (inr asks)) = other n on.1 (awaited_alone c k h.number h.request knows waited said n on.0 (inr asks))
 
   open_same : (t : Txn) → open_txn (known_of (own ++ p ∷ [])) ≡ Some t → (u : Txn) × (open_txn k ≡ Some u) × (t.id ≡ u.id)

@@ -133,22 +133,22 @@ pub record IsOfOpenWrite (k : Known) (request : Request) : Type 0 where
   pub opened : open_txn k ≡ Some t
   pub its : IsOfWriteOf t request
 
-of_due : (c : Coordination) (k : Known) (due : Due) (number : ℕ) (request : Request) → KnowsAt false c k due → awaits_number number due ≡ true → request_sent number k.sent ≡ Some request → IsOfOpenWrite k request
-of_due c k dues.Nothing number request h waits said = absurd cc
-of_due c k (dues.Tell answer) number request h waits said = absurd cc
-of_due c k (dues.Call call) number request h waits said = record {
+of_due : (loses : Bool) (c : Coordination) (k : Known) (due : Due) (number : ℕ) (request : Request) → KnowsAt loses c k due → awaits_number number due ≡ true → request_sent number k.sent ≡ Some request → IsOfOpenWrite k request
+of_due loses c k dues.Nothing number request h waits said = absurd cc
+of_due loses c k (dues.Tell answer) number request h waits said = absurd cc
+of_due loses c k (dues.Call call) number request h waits said = record {
   t = h.in_call.t;
   opened = open_is k h.in_call.t h.in_call.open_in;
-  its = awaited_its (setting_of false c) k h.x call.purpose call.wave h.in_call number request waits said;
+  its = awaited_its (setting_of loses c) k h.x call.purpose call.wave h.in_call number request waits said;
 }
 
 -- what is waited for puts, or asks for, writes of the open transaction alone
-pub of_open_write : (c : Coordination) (k : Known) (number : ℕ) (request : Request) → Knows false c k → awaits_number number c.due ≡ true → request_sent number k.sent ≡ Some request → IsOfOpenWrite k request
-of_open_write c k number request knows waits said = of_due c k c.due number request knows.stands waits said
+pub of_open_write : {loses : Bool} (c : Coordination) (k : Known) (number : ℕ) (request : Request) → Knows loses c k → awaits_number number c.due ≡ true → request_sent number k.sent ≡ Some request → IsOfOpenWrite k request
+of_open_write {loses} c k number request knows waits said = of_due loses c k c.due number request knows.stands waits said
 
 -- ---- so what is heard next lies above what was missed
 
-module _ {C : Type 0} (l : LogMeaning C) (log : IsOwnLog l) (c : Coordination) (k : Known) (h : Heard) (knows : Knows false c k) (waits : awaits_number h.number c.due ≡ true) (said : request_sent h.number k.sent ≡ Some h.request)
+module _ {C : Type 0} {loses : Bool} (l : LogMeaning C) (log : IsOwnLog l) (c : Coordination) (k : Known) (h : Heard) (knows : Knows loses c k) (waits : awaits_number h.number c.due ≡ true) (said : request_sent h.number k.sent ≡ Some h.request)
     (known : known_of l.part.own ≡ with_heard h k) (order : (g : Heard) → Contains k.heard g → MustComeFirst k h.request g → g.step < h.step) where
   abbrev history : List (Entry Event)
   history = history_of l log

@@ -112,7 +112,7 @@ record WaitsBy (k : Known) (messages : List Message) : Type 0 where
 
 module _ (c : Coordination) (k : Known) (number : ℕ) (conflict : Reply) (reader : Option ℕ) (knows : Knows false c k) (due : next_of c ≡ nexts.Conflict number conflict reader) (met : IsConflictNow (setting_of false c).course k number conflict reader) (once : AreHeardOnce k)
     (t : HasRoundsPiped k (rounds_of c k number conflict reader knows due).o.call) (piped : c.pipelining ≡ true) where
-  abbrev o : IsOpenedAs c k
+  abbrev o : IsOpenedAs false c k
   o = rounds_of c k number conflict reader knows due
 
   abbrev ms : List Message

@@ -27,11 +27,11 @@ use Rattle.pc_proto.specs.declared.request.Request.TheVariants as requests
 use Rattle.pc_proto.specs.Requests.{is_put, is_refresh}
 use Rattle.pc_reads.specs.ReadsStanding.{refresh_to}
 use Rattle.pc_session.proofs.Again.{and_first}
-use Rattle.pc_session.proofs.Away.{any_there}
+use Rattle.pc_session.proofs.Away.{any_there, quiet_way}
 use Rattle.pc_session.proofs.InTurn.{pairwise_two}
 use Rattle.pc_session.proofs.TurnsOn.{IsOpenedAs, sends_of, step_sends}
 use Rattle.pc_session.proofs.Wanted.{proves_in_order}
-use Rattle.pc_session.specs.InCall.{HasOpenCall, IsHeardOrAway}
+use Rattle.pc_session.specs.InCall.{HasOpenCall, IsHeardOrAway, HasCallOver}
 use Rattle.pc_session.specs.InTurn.{GoesBefore, GoesOutFirst, HasRoundsInTurn, HasRoundsPiped, KeepsTurn, MayStandBehind}
 use Rattle.pc_session.specs.Session.{SessionMeaning, waits_aside, session_knows}
 use Rattle.pc_txn.specs.Opened.{own_get, own_scan}
@@ -177,18 +177,18 @@ pairs_and R S (m ∷ ms) one other = (
   pairs_and R S ms one.1 other.1,
 )
 
-module _ {C : Type 0} (s : SessionMeaning C) (reading : ℕ) (request : Request) (calls_are : HasOpenCall s reading) (due : request_next (next_of s.coordinator) ≡ Some request) where
+module _ {C : Type 0} (s : SessionMeaning C) (reading : ℕ) (request : Request) (calls_are : HasCallOver false s reading) (due : request_next (next_of s.coordinator) ≡ Some request) where
   abbrev c : Coordination
   c = s.coordinator
 
   abbrev k : Known
   k = session_knows s
 
-  abbrev o : IsOpenedAs c k
+  abbrev o : IsOpenedAs false c k
   o = sends_of c k request calls_are.one.knows due
 
   first_order : Pairwise (GoesOutFirst k) o.o.call.wave
-  first_order = by c.pipelining calls_are.turn
+  first_order = by c.pipelining (calls_are.turn refl)
     where
       by : (b : Bool) → KeepsTurn b k c.due → Pairwise (GoesOutFirst k) o.o.call.wave
       by false t = let plain : HasRoundsInTurn k o.o.call.wave = subst (KeepsTurn false k) o.due t in pairs_weaker GoesBefore (GoesOutFirst k) (plain_first k) o.o.call.wave plain.order
@@ -203,7 +203,7 @@ module _ {C : Type 0} (s : SessionMeaning C) (reading : ℕ) (request : Request)
 
   on_way_before : (m : Sent) → Contains k.sent_now m → is_on_way m.number s.desk ≡ true → MayGoBefore request m.request
   on_way_before m there on =
-      let waits : awaits_number m.number c.due ≡ true = and_first (awaits_number m.number c.due) (not (waits_aside m.number s.desk)) (sym (calls_are.way m.number) ∙ on) in
+      let waits : awaits_number m.number c.due ≡ true = and_first (awaits_number m.number c.due) (not (waits_aside m.number s.desk)) (sym (quiet_way s reading calls_are m.number) ∙ on) in
       let f = awaited_in m.number o.o.call.wave (sym (ap (awaits_number m.number) o.due) ∙ waits) in
       let y = f.0 in
       let said : request_sent m.number k.sent ≡ Some m.request = All-contains (λ (m : Sent). request_sent m.number k.sent ≡ Some m.request) k.sent_now m calls_are.apart.said there in
@@ -234,5 +234,6 @@ module _ {C : Type 0} (s : SessionMeaning C) (reading : ℕ) (request : Request)
       (all_from_contains (λ m. IsTrue (is_heard k.heard_now m) ⊎ MayGoBefore request m.request) k.sent_now (λ m there. elim (All-contains (IsHeardOrAway s) k.sent_now m calls_are.sent there) [
         | inl heard ↦ inl heard
         | inr (inl on) ↦ inr (on_way_before m there on)
-        | inr (inr told) ↦ absurd (not_told told.1)
+        | inr (inr (inl lost)) ↦ absurd (let e : false ≡ true = sym (calls_are.one.quiet refl m.number) ∙ lost in cc e)
+        | inr (inr (inr told)) ↦ absurd (not_told told.1)
       ]))

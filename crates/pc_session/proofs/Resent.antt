@@ -84,7 +84,7 @@ one_message (m ∷ ms) differ a b here there same = elim (contains_cons m ms a h
 ]
 
 module _ (c : Coordination) (k : Known) (request : Request) (knows : Knows false c k) (due : request_next (next_of c) ≡ Some request) (may : IsSendable (setting_of false c) c.session k request) where
-  abbrev o : IsOpenedAs c k
+  abbrev o : IsOpenedAs false c k
   o = sends_of c k request knows due
 
   -- the message that goes out

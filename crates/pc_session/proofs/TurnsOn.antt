@@ -57,23 +57,23 @@ use Rattle.pc_proto.specs.declared.meta.TxnMeta.{TxnMeta}
 -- ---- the open call
 
 -- The coordinator is at the messages of this open call.
-pub record IsOpenedAs (c : Coordination) (k : Known) : Type 0 where
+pub record IsOpenedAs (loses : Bool) (c : Coordination) (k : Known) : Type 0 where
   pub o : Opened
   pub opened : opened_by c.txn c.due ≡ Some o
   pub held : c.txn ≡ Some o.txn
   pub due : c.due ≡ dues.Call o.call
-  pub at : HasCallDue false c k o.call
-  pub in_call : InCall (setting_of false c) k o.txn o.call.purpose o.call.wave
+  pub at : HasCallDue loses c k o.call
+  pub in_call : InCall (setting_of loses c) k o.txn o.call.purpose o.call.wave
 
 abbrev IsOfCall : Due → Type 0
 IsOfCall dues.Nothing = ⊥
 IsOfCall (dues.Call call) = Unit {0}
 IsOfCall (dues.Tell answer) = ⊥
 
-pub opened_at : (c : Coordination) (k : Known) (d : Due) → c.due ≡ d → KnowsAt false c k d → IsOfCall d → IsOpenedAs c k
-opened_at c k dues.Nothing is at of = absurd of
-opened_at c k (dues.Tell answer) is at of = absurd of
-opened_at c k (dues.Call call) is at of = record {
+pub opened_at : (loses : Bool) (c : Coordination) (k : Known) (d : Due) → c.due ≡ d → KnowsAt loses c k d → IsOfCall d → IsOpenedAs loses c k
+opened_at loses c k dues.Nothing is at of = absurd of
+opened_at loses c k (dues.Tell answer) is at of = absurd of
+opened_at loses c k (dues.Call call) is at of = record {
   o = record { call = call; txn = at.x };
   opened = ap (λ (d : Due). opened_by c.txn d) is ∙ ap (λ txn. opened_by txn (dues.Call call)) at.held;
   held = at.held;
@@ -98,8 +98,8 @@ waits_call n (dues.Call call) e = tt
 waits_call n (dues.Tell answer) e = absurd cc
 
 -- a coordinator that waits for a reply is at an open call
-pub waits_opened : (c : Coordination) (k : Known) (n : ℕ) → Knows false c k → awaits_number n c.due ≡ true → IsOpenedAs c k
-waits_opened c k n knows waits = opened_at c k c.due refl knows.stands (waits_call n c.due waits)
+pub waits_opened : {loses : Bool} (c : Coordination) (k : Known) (n : ℕ) → Knows loses c k → awaits_number n c.due ≡ true → IsOpenedAs loses c k
+waits_opened {loses} c k n knows waits = opened_at loses c k c.due refl knows.stands (waits_call n c.due waits)
 
 -- none of its messages was lost
 pub unlost : (c : Coordination) (k : Known) (ms : List Message) → All (MessageStands (setting_of false c).course k) ms → All IsUnlost ms
@@ -156,15 +156,16 @@ asked_plain c k knows sent heard b is plain = by c.due knows.stands
 
 -- ---- a message goes out
 
-module _ (c : Coordination) (k : Known) (request : Request) (knows : Knows false c k) (due : request_next (next_of c) ≡ Some request) where
-  abbrev pub sends_of : IsOpenedAs c k
-  sends_of = opened_at c k c.due refl knows.stands (sends_call c c.due request due)
+module _ {loses : Bool} (c : Coordination) (k : Known) (request : Request) (knows : Knows loses c k) (due : request_next (next_of c) ≡ Some request) where
+  abbrev pub sends_of : IsOpenedAs loses c k
+  sends_of = opened_at loses c k c.due refl knows.stands (sends_call c c.due request due)
 
   pub step_sends : step_of sends_of.o.call.wave ≡ steps.Send request
   step_sends = sends_step c sends_of.o.txn sends_of.o.call request sends_of.held sends_of.due due
 
-  pub unlost_sends : All IsUnlost sends_of.o.call.wave
-  unlost_sends = unlost c k sends_of.o.call.wave sends_of.in_call.wave.stand
+module _ (c : Coordination) (k : Known) (request : Request) (knows : Knows false c k) (due : request_next (next_of c) ≡ Some request) where
+  pub unlost_sends : All IsUnlost (sends_of c k request knows due).o.call.wave
+  unlost_sends = unlost c k (sends_of c k request knows due).o.call.wave (sends_of c k request knows due).in_call.wave.stand
 
   -- each of its messages that is out has a number that the next one has not
   below-far : (n : ℕ) → n ≡ next_number k → (co : Course) (r : Request) (conflicts : ℕ) (p : Progress) → IsAsFar co k r conflicts p → IsBelowNumber n p
@@ -173,31 +174,31 @@ module _ (c : Coordination) (k : Known) (request : Request) (knows : Knows false
   below-far n next co r conflicts (progresses.Met number conflict) far = tt
   below-far n next co r conflicts (progresses.Answered number reply) far = tt
 
-  pub below_next : (n : ℕ) → n ≡ next_number k → All (λ (m : Message). IsBelowNumber n m.progress) sends_of.o.call.wave
+  pub below_next : (n : ℕ) → n ≡ next_number k → All (λ (m : Message). IsBelowNumber n m.progress) (sends_of c k request knows due).o.call.wave
   below_next n next =
       let co = (setting_of false c).course in
-      All-weaker (MessageStands co k) (λ (m : Message). IsBelowNumber n m.progress) (λ m s. below-far n next co m.request m.conflicts m.progress s.as_far) sends_of.o.call.wave sends_of.in_call.wave.stand
+      All-weaker (MessageStands co k) (λ (m : Message). IsBelowNumber n m.progress) (λ m s. below-far n next co m.request m.conflicts m.progress s.as_far) (sends_of c k request knows due).o.call.wave (sends_of c k request knows due).in_call.wave.stand
 
   module _ (turn : KeepsTurn false k c.due) where
-    pub turn_of : HasRoundsInTurn k sends_of.o.call.wave
-    turn_of = subst (KeepsTurn false k) sends_of.due turn
+    pub turn_of : HasRoundsInTurn k (sends_of c k request knows due).o.call.wave
+    turn_of = subst (KeepsTurn false k) (sends_of c k request knows due).due turn
 
     -- no conflict is left then
     pub over_now : AreConflictsOver k
-    over_now = conflicts_over k sends_of.o.call.wave request unlost_sends step_sends turn_of
+    over_now = conflicts_over k (sends_of c k request knows due).o.call.wave request unlost_sends (step_sends c k request knows due) turn_of
 
-    pub unmet_plain : list_any is_in_conflict sends_of.o.call.wave ≡ false
-    unmet_plain = sends_none sends_of.o.call.wave request unlost_sends step_sends turn_of.apart
+    pub unmet_plain : list_any is_in_conflict (sends_of c k request knows due).o.call.wave ≡ false
+    unmet_plain = sends_none (sends_of c k request knows due).o.call.wave request unlost_sends (step_sends c k request knows due) turn_of.apart
 
     pub sent_plain : (now : Known) (number range : ℕ) → now.sent_now ≡ k.sent_now ++ record { number = number; range = range; request = request } ∷ [] → now.heard_now ≡ k.heard_now → goal_in request ≡ None → number ≡ next_number k
-        → HasRoundsInTurn now (first_changed is_to_send (sent_under number) sends_of.o.call.wave)
+        → HasRoundsInTurn now (first_changed is_to_send (sent_under number) (sends_of c k request knows due).o.call.wave)
     sent_plain now number range sent heard plain next =
-        turn_sent k now (record { number = number; range = range; request = request }) sends_of.o.call.wave sent heard plain unlost_sends step_sends (below_next number next) turn_of
+        turn_sent k now (record { number = number; range = range; request = request }) (sends_of c k request knows due).o.call.wave sent heard plain unlost_sends (step_sends c k request knows due) (below_next number next) turn_of
 
 -- ---- a reply is heard
 
 module _ (c e : Coordination) (k now : Known) (h : Heard) (knows : Knows false c k) (waited : awaits_number h.number c.due ≡ true) where
-  abbrev pub hears_of : IsOpenedAs c k
+  abbrev pub hears_of : IsOpenedAs false c k
   hears_of = waits_opened c k h.number knows waited
 
   -- The messages once this was heard.
@@ -245,7 +246,7 @@ module _ (c e : Coordination) (k now : Known) (h : Heard) (knows : Knows false c
     (silent : SendsNoMore c.due) (least : (n : ℕ) → awaits_number n c.due ≡ true → h.number ≤ n) (once : AreHeardOnce now) (nothing : now.sent_now ≡ k.sent_now)
     (after : AwaitsAfter h.number c e.due) (goes : (other : ℕ) → (awaits_number other c.due && not (h.number == other)) ≡ true → GoesOnBy (back c e k now h knows waited) e.due)
     (comes : goes_by_sequence (hears_of c e k now h knows waited).o.call.purpose ≡ false → ComesOf (back c e k now h knows waited) e.due) where
-  abbrev o : IsOpenedAs c k
+  abbrev o : IsOpenedAs false c k
   o = hears_of c e k now h knows waited
 
   abbrev ms : List Message
@@ -294,8 +295,8 @@ module _ (c e : Coordination) (k now : Known) (h : Heard) (knows : Knows false c
 -- ---- a round is made
 
 module _ (c : Coordination) (k : Known) (number : ℕ) (conflict : Reply) (reader : Option ℕ) (knows : Knows false c k) (due : next_of c ≡ nexts.Conflict number conflict reader) where
-  abbrev pub rounds_of : IsOpenedAs c k
-  rounds_of = opened_at c k c.due refl knows.stands (meets_call c c.due number conflict reader due)
+  abbrev pub rounds_of : IsOpenedAs false c k
+  rounds_of = opened_at false c k c.due refl knows.stands (meets_call c c.due number conflict reader due)
 
   -- The messages of the open call.
   abbrev pub wave : List Message

@@ -42,7 +42,7 @@ waits_under k t x number (put ∷ puts) stands waits = by (waits_under k t x num
 pub has_own : (x : OpenTxn) (anchor : List ℕ) (ts : ℕ) (w : WriteInFlight) (r : Request) → r ≡ put_at x anchor ts w → has_put w.seq r ≡ true
 has_own x anchor ts w r said = ap (has_put w.seq) said ∙ eq-eqb w.seq w.seq refl
 
-module _ (c : Coordination) (k : Known) (call : OpenCall) (at : HasCallDue false c k call) where
+module _ {loses : Bool} (c : Coordination) (k : Known) (call : OpenCall) (at : HasCallDue loses c k call) where
   abbrev t : Txn
   t = at.aside.outbox.has.t
 
@@ -64,7 +64,7 @@ module _ (c : Coordination) (k : Known) (call : OpenCall) (at : HasCallDue false
       let u = wait_of number waits in
       let m = awaited_in number call.wave awaited in
       let same : m.0.request ≡ u.put.request =
-      said_as (setting_of false c) k at.x call.purpose call.wave at.in_call number m.0 m.1 m.2 u.put.request (wait_said number waits).0 in
+      said_as (setting_of loses c) k at.x call.purpose call.wave at.in_call number m.0 m.1 m.2 u.put.request (wait_said number waits).0 in
       let w = u.stands in
       let put : has_put w.w.seq u.put.request ≡ true = has_own at.x w.anchor w.ts w.w u.put.request w.said in
       let none : has_put w.w.seq m.0.request ≡ false =

@@ -32,7 +32,7 @@ use Rattle.pc_proto.specs.Requests.{is_put}
 use Rattle.pc_session.proofs.Again.{and_first, asks}
 use Rattle.pc_session.proofs.CallKinds.{AsksSo, sequence_commits}
 use Rattle.pc_session.proofs.Knowing.{with_heard}
-use Rattle.pc_session.specs.InCall.{HasOpenCall, IsWholeOut, LeavesNoPut}
+use Rattle.pc_session.specs.InCall.{HasOpenCall, IsWholeOut, LeavesNoPut, HasCallOver, IsQuietWhole}
 use Rattle.pc_session.specs.Session.{SessionMeaning, waits_aside, session_knows}
 use Rattle.pc_txn.specs.declared.txn.OpenTxn.{OpenTxn}
 use Rattle.pc_txn.specs.Opened.{own_scan}
@@ -58,6 +58,7 @@ use Rattle.pc_world.specs.Known.Transactions.{Txn, txn_heard}
 use Rattle.pc_world.specs.RangeOf.{pieces}
 use Rattle.pc_world.specs.StageFate.{SentStage}
 use Rattle.pc_world.specs.Tell.Refusal.{is_heard}
+use Rattle.pc_session.proofs.Away.{quiet_way}
 
 -- ---- where messages are delivered, none is to be sent
 
@@ -149,10 +150,10 @@ module _ (set : Setting) (k : Known) (s : Statement) (t : Txn) (x : OpenTxn) (st
   scan-serves (purposes.Abort why) ms span other is r = let e : calls.Scan span ≡ calls.Rollback = sym is ∙ r.call in absurd cc
 
 -- where a wave is due, none of the call's messages is to be sent
-pub silent_wave : (c : Coordination) (k : Known) → Knows false c k → next_of c ≡ nexts.Wave → SendsNoMore c.due
-silent_wave c k knows due = by c.due refl knows.stands due
+pub silent_wave : {loses : Bool} (c : Coordination) (k : Known) → Knows loses c k → next_of c ≡ nexts.Wave → SendsNoMore c.due
+silent_wave {loses} c k knows due = by c.due refl knows.stands due
   where
-    by : (d : Due) → c.due ≡ d → KnowsAt false c k d → next_at c.pipelining c.txn d ≡ nexts.Wave → SendsNoMore c.due
+    by : (d : Due) → c.due ≡ d → KnowsAt loses c k d → next_at c.pipelining c.txn d ≡ nexts.Wave → SendsNoMore c.due
     by dues.Nothing is at e = absurd cc
     by (dues.Tell answer) is at e = absurd cc
     by (dues.Call call) is at e =
@@ -161,14 +162,14 @@ silent_wave c k knows due = by c.due refl knows.stands due
 
 -- ---- the wave
 
-module _ {C : Type 0} (s : SessionMeaning C) (reading : ℕ) (calls_are : HasOpenCall s reading) (joined : (number : ℕ) → awaits_number number s.coordinator.due ≡ true → waits_aside number s.desk ≡ false) (puts : EndsPutWaves s.desk.log.part.own) where
+module _ {C : Type 0} (s : SessionMeaning C) (reading : ℕ) (calls_are : HasCallOver false s reading) (joined : (number : ℕ) → awaits_number number s.coordinator.due ≡ true → waits_aside number s.desk ≡ false) (puts : EndsPutWaves s.desk.log.part.own) where
   abbrev known : Known
   known = session_knows s
 
   awaited : (number : ℕ) → is_on_way number s.desk ≡ true → awaits_number number s.coordinator.due ≡ true
-  awaited number on = and_first (awaits_number number s.coordinator.due) (not (waits_aside number s.desk)) (sym (calls_are.way number) ∙ on)
+  awaited number on = and_first (awaits_number number s.coordinator.due) (not (waits_aside number s.desk)) (sym (quiet_way s reading calls_are number) ∙ on)
 
-  whole-by : (d : Due) → s.coordinator.due ≡ d → KnowsAt false s.coordinator known d → next_at s.coordinator.pipelining s.coordinator.txn d ≡ nexts.Wave → IsWholeOut s
+  whole-by : (d : Due) → s.coordinator.due ≡ d → KnowsAt false s.coordinator known d → next_at s.coordinator.pipelining s.coordinator.txn d ≡ nexts.Wave → IsQuietWhole s
   whole-by dues.Nothing is at e = absurd cc
   whole-by (dues.Tell answer) is at e = absurd cc
   whole-by (dues.Call call) is at e = record {
@@ -212,12 +213,12 @@ module _ {C : Type 0} (s : SessionMeaning C) (reading : ℕ) (calls_are : HasOpe
       refreshed number request waited said = tt
 
   -- what is delivered is whole
-  pub whole_wave : next_of s.coordinator ≡ nexts.Wave → IsWholeOut s
+  pub whole_wave : next_of s.coordinator ≡ nexts.Wave → IsQuietWhole s
   whole_wave due = whole-by s.coordinator.due refl calls_are.one.knows.stands due
 
 -- it is so where nothing was sent or heard since
 pub whole_still : {C : Type 0} (s t : SessionMeaning C) → t.desk.log.head.splits ≡ s.desk.log.head.splits → t.desk.log.part.own ≡ s.desk.log.part.own → ((n : ℕ) → is_on_way n t.desk ≡ is_on_way n s.desk) → ((n : ℕ) → waits_aside n t.desk ≡ waits_aside n s.desk)
-    → t.coordinator ≡ s.coordinator → IsWholeOut s → IsWholeOut t
+    → t.coordinator ≡ s.coordinator → IsQuietWhole s → IsQuietWhole t
 whole_still s t splits own way aside same w =
     let known : session_knows t ≡ session_knows s = ap known_of own in
     record {
@@ -253,7 +254,7 @@ refresh-still h k request all = tt
 
 -- and where a reply was heard
 pub whole_heard : {C : Type 0} (s t : SessionMeaning C) (h : Heard) → t.desk.log.head.splits ≡ s.desk.log.head.splits → session_knows t ≡ with_heard h (session_knows s) → ((n : ℕ) → is_on_way n t.desk ≡ true → is_on_way n s.desk ≡ true) → ((n : ℕ) → is_on_way n t.desk ≡ true → SendsNoMore t.coordinator.due)
-    → ((n : ℕ) → is_on_way n t.desk ≡ true → (number : ℕ) → awaits_number number t.coordinator.due ≡ true → waits_aside number t.desk ≡ false) → LeavesNoPut t → IsWholeOut s → IsWholeOut t
+    → ((n : ℕ) → is_on_way n t.desk ≡ true → (number : ℕ) → awaits_number number t.coordinator.due ≡ true → waits_aside number t.desk ≡ false) → LeavesNoPut t → IsQuietWhole s → IsQuietWhole t
 whole_heard s t h splits known way silent joined puts w = record {
   pieces = λ n q on said plain no_put.
       subst (λ cut. SentAllPieces cut (session_knows t)) (sym splits)

@@ -1,31 +1,29 @@
-ghost use Rattle.std.specs.Prelude.{◌≡◌, ℕ, ◌+◌, ◌++◌, [], true, false, is_some, length, map, All, IfErr, IfOk, IfSome, OnOk, Some};
+ghost use Rattle.std.specs.Prelude.{◌≡◌, ℕ, Bool, ◌+◌, ◌++◌, [], true, false, is_some, length, map, All, IfErr, IfOk, IfSome, OnOk, Some};
 ghost use Rattle.std.specs.List.Sorted.{IsStrictlySortedBy};
 ghost use Rattle.std.specs.Option.{option_to_list};
 ghost use Rattle.std.specs.Ordering.{nat_cmp};
 ghost use Rattle.pc_base.specs.declared.transaction.TxnId.{TxnId};
-ghost use Rattle.pc_call.specs.Outbox.{has_waited};
 ghost use Rattle.pc_coord.specs.Coordination.{next_of, without_job};
 ghost use Rattle.pc_coord.specs.declared.due.Due.TheVariants as dues;
 ghost use Rattle.pc_coord.specs.declared.next.Next.TheVariants as nexts;
-ghost use Rattle.pc_coord.specs.Knows.{Knows, MayCome, MayFinishJob};
+ghost use Rattle.pc_coord.specs.Knows.{Knows, MayFinishJob};
 ghost use Rattle.pc_desk.specs.Commits.{TellsCommitAt};
 ghost use Rattle.pc_desk.specs.declared.halt.Halt.TheVariants as halts;
 ghost use Rattle.pc_desk.specs.Desk.{HasHalted};
 ghost use Rattle.pc_desk.specs.Ending.{EndsOnly};
-ghost use Rattle.pc_desk.specs.Late.{HasDeliveredDue};
+ghost use Rattle.pc_desk.specs.Late.{HasDeliveredDue, HasNoneLostFirst};
 ghost use Rattle.pc_desk.specs.Rest.{IsReadyLeft, IsRestOf};
 ghost use Rattle.pc_desk.specs.Keeping.{ReadsEach};
 ghost use Rattle.pc_desk.specs.OwnLog.{IsOwnLog};
 ghost use Rattle.pc_exchange.specs.Ending.{BreaksOff};
-ghost use Rattle.pc_follows.specs.WaveOrder.{EndsPutWaves};
 ghost use Rattle.pc_proto.specs.declared.answer.Answer.TheVariants as answers;
 ghost use Rattle.pc_proto.specs.declared.call.Call.TheVariants as calls;
 ghost use Rattle.pc_proto.specs.declared.event.Event.TheVariants as events;
 ghost use Rattle.pc_session.specs.Calls.{HasCalled, MayBeCalled};
 ghost use Rattle.pc_session.specs.Ending.{AreOfBrokenCall, AreOfOpenCall};
-ghost use Rattle.pc_session.specs.InCall.{ends_epoch, is_rollback, GoesOnOrTold, HasAsked, HasCallWithLost, HasDroppedAtMost, HasGoneInside, HasJoinedIfAwaited, HasOpenCall, IsBetweenWaves, IsWholeOut};
+ghost use Rattle.pc_session.specs.InCall.{EndsPutsQuietly, ends_epoch, is_rollback, GoesOnOrTold, HasAsked, HasCallWithLost, HasDroppedAtMost, HasGoneInside, HasJoinedIfAwaited, HasOpenCall, HasPutsAside, IsBetweenWaves, IsWholeOut, MayComeNow};
 ghost use Rattle.pc_session.specs.Learning.{AreOfBrokenLearn, HasAskedToLearn, HasLearnt, HasMet, IsLearning};
-ghost use Rattle.pc_session.specs.Session.{IsAtRest, waits_aside, session_knows};
+ghost use Rattle.pc_session.specs.Session.{IsAtRest, jobs_spared, waits_aside, session_knows};
 ghost use Rattle.pc_session.specs.Steps.{HasStepped};
 ghost use Rattle.pc_turns.specs.Order.{IsInBetween};
 ghost use Rattle.pc_wire.specs.Outbox.{first_from};
@@ -34,7 +32,7 @@ ghost use Rattle.pc_world.specs.Known.{Known};
 use crate::token::{Token, commit_at};
 use pc_base::{NoMemory, Timestamp, TryCopy, TxnId};
 use pc_clock::Clock;
-use pc_coord::{Coordinator, Job, Next, coordinating_goes_on};
+use pc_coord::{Coordinator, Job, Next, Round, coordinating_goes_on};
 use pc_desk::{Desk, Halt, Rest};
 use pc_exchange::{finish_job, make_round};
 use pc_history::{Actor, Named};
@@ -122,8 +120,8 @@ impl<'a, N: Named<CommitWorld>, C: Clock, V: Wire, G: Gate> Office<'a, N, C, V, 
         requires learning { IsLearning self.old token.id }
         requires between { IsBetweenWaves self.old.desk }
         ensures calls { OnOk result (HasOpenCall self.new reading) }
-        ensures puts { OnOk result (EndsPutWaves self.new.desk.log.part.own) }
-        ensures aside { (number : ℕ) → OnOk result (waits_aside number self.new.desk ≡ has_waited number self.new.coordinator.later) }
+        ensures puts { OnOk result (EndsPutsQuietly self.new.desk) }
+        ensures aside { OnOk result (HasPutsAside self.new) }
         ensures due { OnOk result (self.new.coordinator.due ≡ dues.Tell answers.Learnt) }
         ensures met { OnOk result (HasMet self.old self.new token.id token.step) }
         ensures err { IfErr result (HasHalted self.old.desk self.new.desk) }
@@ -193,7 +191,7 @@ impl<'a, N: Named<CommitWorld>, C: Clock, V: Wire, G: Gate> Office<'a, N, C, V, 
     fn due(&mut self, reading: u64) -> Result<Next, Halt>
         requires { HasOpenCall self.old reading }
         ensures due { IfOk result (λ next. next ≡ next_of self.new.coordinator) }
-        ensures may { IfOk result (MayCome true self.new.coordinator (session_knows self.new)) }
+        ensures may { IfOk result (MayComeNow self.new) }
         ensures calls { OnOk result (HasOpenCall self.new reading) }
         ensures same { OnOk result (self.new ≡ self.old) }
         ensures err { IfErr result (HasHalted self.old.desk self.new.desk) }
@@ -211,7 +209,7 @@ impl<'a, N: Named<CommitWorld>, C: Clock, V: Wire, G: Gate> Office<'a, N, C, V, 
         requires calls { HasOpenCall self.old reading }
         requires between { IsBetweenWaves self.old.desk }
         requires due { next_of self.old.coordinator ≡ nexts.Send request }
-        requires may { MayCome true self.old.coordinator (session_knows self.old) (nexts.Send request) }
+        requires may { MayComeNow self.old (nexts.Send request) }
         ensures ok { IfOk result (GoesOnOrTold self.old self.new reading) }
         ensures err { IfErr result (HasHalted self.old.desk self.new.desk) }
         ensures ended { IfErr result (BreaksOff (All IsInBetween) self.old.desk self.new.desk) }
@@ -229,7 +227,7 @@ impl<'a, N: Named<CommitWorld>, C: Clock, V: Wire, G: Gate> Office<'a, N, C, V, 
         requires calls { HasOpenCall self.old reading }
         requires between { IsBetweenWaves self.old.desk }
         requires due { next_of self.old.coordinator ≡ nexts.Later request }
-        requires may { MayCome true self.old.coordinator (session_knows self.old) (nexts.Later request) }
+        requires may { MayComeNow self.old (nexts.Later request) }
         ensures ok { IfOk result (GoesOnOrTold self.old self.new reading) }
         ensures err { IfErr result (HasHalted self.old.desk self.new.desk) }
         ensures ended { IfErr result (BreaksOff (All IsInBetween) self.old.desk self.new.desk) }
@@ -321,11 +319,14 @@ impl<'a, N: Named<CommitWorld>, C: Clock, V: Wire, G: Gate> Office<'a, N, C, V, 
 
     /// The coordinator is told that the message of this number was lost, for which it waits.
     fn lose(&mut self, reading: u64, number: u64) -> Result<bool, Halt>
-        requires knows { HasCallWithLost self.old reading number }
+        requires lost { HasCallWithLost self.old reading number }
         ensures calls { OnOk result (HasOpenCall self.new reading) }
+        ensures whole { OnOk result (IsWholeOut self.new) }
+        ensures goes { OnOk result (HasGoneInside self.old self.new) }
         ensures desk { OnOk result (self.new.desk ≡ self.old.desk) }
         ensures made { IfOk result (λ more. more ≡ true) }
         ensures err { IfErr result (HasHalted self.old.desk self.new.desk) }
+        ensures ended { IfErr result (BreaksOff (All IsInBetween) self.old.desk self.new.desk) }
         ensures clock { self.new.desk.log.clock ≡ self.old.desk.log.clock }
     {
         match self.coordinator.lost(number) {
@@ -339,10 +340,12 @@ impl<'a, N: Named<CommitWorld>, C: Clock, V: Wire, G: Gate> Office<'a, N, C, V, 
         requires calls { HasOpenCall self.old reading }
         requires whole { IsWholeOut self.old }
         requires none_waits { self.old.desk.posted ≡ [] }
+        requires none_lost { HasNoneLostFirst self.old.desk }
         ensures calls { OnOk result (HasOpenCall self.new reading) }
         ensures whole { OnOk result (IsWholeOut self.new) }
         ensures goes { OnOk result (HasGoneInside self.old self.new) }
         ensures posted { OnOk result (self.new.desk.posted ≡ self.old.desk.posted) }
+        ensures lost { OnOk result (self.new.desk.lost ≡ self.old.desk.lost) }
         ensures none { IfOk result (λ more. more ≡ false → self.new.desk.replies ≡ []) }
         ensures fewer { IfOk result (λ more. more ≡ true → length self.old.desk.replies ≡ length self.new.desk.replies + 1) }
         ensures err { IfErr result (HasHalted self.old.desk self.new.desk) }
@@ -373,7 +376,7 @@ impl<'a, N: Named<CommitWorld>, C: Clock, V: Wire, G: Gate> Office<'a, N, C, V, 
     ) -> Result<Option<Answer>, Halt>
         requires calls { HasOpenCall self.old reading }
         requires due { next_of self.old.coordinator ≡ nexts.Conflict number conflict reader }
-        requires may { MayCome true self.old.coordinator (session_knows self.old) (nexts.Conflict number conflict reader) }
+        requires may { MayComeNow self.old (nexts.Conflict number conflict reader) }
         ensures ok { IfOk result (GoesOnOrTold self.old self.new reading) }
         ensures err { IfErr result (HasHalted self.old.desk self.new.desk) }
         ensures ended { IfErr result (BreaksOff (All IsInBetween) self.old.desk self.new.desk) }
@@ -383,11 +386,24 @@ impl<'a, N: Named<CommitWorld>, C: Clock, V: Wire, G: Gate> Office<'a, N, C, V, 
             Some(pusher) => pusher,
             None => unreachable!(),
         };
+        let holder = conflict.holder();
         let (round, ts) = make_round(&mut self.desk, rt, pusher, reading, conflict, reader)?;
+        self.spare_jobs(round, holder);
         self.coordinator.raise(ts);
         match self.coordinator.settled(number, round) {
             Ok(()) => Ok(None),
             Err(NoMemory) => Err(self.want_memory()),
+        }
+    }
+
+    /// Where the round of this holder was lost, its own job is dropped: nothing tells any more that its record may be committed.
+    fn spare_jobs(&mut self, round: Round, holder: Option<TxnId>)
+        ensures desk { self.new.desk ≡ self.old.desk }
+        ensures coordinator { self.new.coordinator ≡ self.old.coordinator }
+        ensures jobs { self.new.jobs ≡ jobs_spared round holder self.old.jobs }
+    {
+        if let (Round::Lost { .. }, Some(holder)) = (round, holder) {
+            self.jobs.retain(|job| job.meta.id != holder);
         }
     }
 
@@ -396,7 +412,7 @@ impl<'a, N: Named<CommitWorld>, C: Clock, V: Wire, G: Gate> Office<'a, N, C, V, 
         requires calls { HasOpenCall self.old reading }
         requires between { IsBetweenWaves self.old.desk }
         requires due { next_of self.old.coordinator ≡ nexts.Tell answer }
-        requires may { MayCome true self.old.coordinator (session_knows self.old) (nexts.Tell answer) }
+        requires may { MayComeNow self.old (nexts.Tell answer) }
         ensures ok { IfOk result (GoesOnOrTold self.old self.new reading) }
         ensures told { IfOk result (λ told. told ≡ Some answer) }
         ensures err { IfErr result (HasHalted self.old.desk self.new.desk) }
@@ -412,11 +428,11 @@ impl<'a, N: Named<CommitWorld>, C: Clock, V: Wire, G: Gate> Office<'a, N, C, V, 
         requires calls { HasOpenCall self.old reading }
         requires between { IsBetweenWaves self.old.desk }
         requires due { next_of self.old.coordinator ≡ nexts.Tell answer.now }
-        requires may { MayCome true self.old.coordinator (session_knows self.old) (nexts.Tell answer.now) }
+        requires may { MayComeNow self.old (nexts.Tell answer.now) }
         ensures calls { OnOk result (HasOpenCall self.new reading) }
-        ensures puts { OnOk result (EndsPutWaves self.new.desk.log.part.own) }
-        ensures aside { (number : ℕ) → OnOk result (waits_aside number self.new.desk ≡ has_waited number self.new.coordinator.later) }
-        ensures may { OnOk result (MayCome true self.new.coordinator (session_knows self.new) (nexts.Tell answer.now)) }
+        ensures puts { OnOk result (EndsPutsQuietly self.new.desk) }
+        ensures aside { OnOk result (HasPutsAside self.new) }
+        ensures may { OnOk result (MayComeNow self.new (nexts.Tell answer.now)) }
         ensures dropped { OnOk result (HasDroppedAtMost self.old self.new) }
         ensures err { IfErr result (HasHalted self.old.desk self.new.desk) }
         ensures ended { IfErr result (EndsOnly (λ made. ⊥) self.old.desk self.new.desk) }
@@ -431,10 +447,10 @@ impl<'a, N: Named<CommitWorld>, C: Clock, V: Wire, G: Gate> Office<'a, N, C, V, 
     /// The open call is told its answer; what its transaction left becomes the newest job.
     fn tell(&mut self, reading: u64, answer: Answer) -> Result<Option<Answer>, Halt>
         requires calls { HasOpenCall self.old reading }
-        requires puts { EndsPutWaves self.old.desk.log.part.own }
-        requires aside { (number : ℕ) → waits_aside number self.old.desk ≡ has_waited number self.old.coordinator.later }
+        requires puts { EndsPutsQuietly self.old.desk }
+        requires aside { HasPutsAside self.old }
         requires due { next_of self.old.coordinator ≡ nexts.Tell answer }
-        requires may { MayCome true self.old.coordinator (session_knows self.old) (nexts.Tell answer) }
+        requires may { MayComeNow self.old (nexts.Tell answer) }
         ensures ok { IfOk result (GoesOnOrTold self.old self.new reading) }
         ensures told { IfOk result (λ told. told ≡ Some answer) }
         ensures err { IfErr result (HasHalted self.old.desk self.new.desk) }
@@ -458,8 +474,8 @@ impl<'a, N: Named<CommitWorld>, C: Clock, V: Wire, G: Gate> Office<'a, N, C, V, 
         ensures desk { self.new.desk ≡ self.old.desk }
         ensures made { self.new.coordinator ≡ without_job self.old.coordinator }
         ensures jobs { OnOk result (self.new.jobs ≡ self.old.jobs ++ option_to_list self.old.coordinator.job) }
-        ensures knows { (k : Known) → Knows true self.old.coordinator k → self.old.coordinator.due ≡ dues.Nothing → Knows true self.new.coordinator k }
-        ensures may { (k : Known) → Knows true self.old.coordinator k → self.old.coordinator.due ≡ dues.Nothing → IfSome self.old.coordinator.job (MayFinishJob k) }
+        ensures knows { (loses : Bool) (k : Known) → Knows loses self.old.coordinator k → self.old.coordinator.due ≡ dues.Nothing → Knows loses self.new.coordinator k }
+        ensures may { (loses : Bool) (k : Known) → Knows loses self.old.coordinator k → self.old.coordinator.due ≡ dues.Nothing → IfSome self.old.coordinator.job (MayFinishJob k) }
     {
         if let Some(job) = self.coordinator.job() {
             self.jobs.push_back(job)?;

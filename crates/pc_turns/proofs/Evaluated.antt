@@ -1,5 +1,5 @@
 -- A message is evaluated as often as the uses of its sending allow, and at least once where its sender was told so.
-use Rattle.std.proofs.Common.{◌≡◌, ℕ, ◌+◌, ◌≤◌, Bool, true, false, ◌&&◌, ◌==◌, cond, inl, inr, List, [], ◌∷◌, ◌++◌, Contains, Some, count_by, slice_index, refl, sym, ap, subst, ◌∙◌, arith}
+use Rattle.std.proofs.Common.{◌≡◌, ℕ, ◌+◌, ◌≤◌, Bool, true, false, ◌&&◌, ◌==◌, cond, inl, inr, List, [], ◌∷◌, ◌++◌, ◌⊎◌, Contains, Some, count_by, slice_index, refl, sym, ap, subst, ◌∙◌, arith}
 use Rattle.std.proofs.lemmas.Bool.{and_from, and_parts, eq-eqb, eqb-true, false≢true}
 use Rattle.std.proofs.lemmas.List.{append_assoc}
 use Rattle.std.proofs.lemmas.List.Elements.{All-contains, Contains-append_left}
@@ -34,6 +34,19 @@ module _ {X : Type 0} (f : X → Bool) where
         | inl same ↦ (let one : f y ≡ true = ap f same ∙ is in let counted : count_by f (y ∷ ys) ≡ 1 + count_by f ys = whole ∙ ap (λ b. cond b 1 0 + count_by f ys) one in omega arith)
         | inr later ↦ (let rest : 1 ≤ count_by f ys = count-some ys x later is in omega arith)
       ]
+
+  count-first : (x : X) (xs : List X) → f x ≡ true → 1 ≤ count_by f xs → 2 ≤ count_by f (x ∷ xs)
+  count-first x xs is rest = let counted : count_by f (x ∷ xs) ≡ 1 + count_by f xs = count-cons f x xs ∙ ap (λ b. cond b 1 0 + count_by f xs) is in omega arith
+
+  count-two : (xs : List X) (x y : X) → Contains xs x → Contains xs y → f x ≡ true → f y ≡ true → (x ≡ y → ⊥) → 2 ≤ count_by f xs
+  count-two [] x y c d is also differ = absurd (contains_nil x c)
+  count-two (z ∷ zs) x y c d is also differ = by (λ c d. count-two zs x y c d is also differ) (contains_cons z zs x c) (contains_cons z zs y d)
+    where
+      by : (Contains zs x → Contains zs y → 2 ≤ count_by f zs) → (z ≡ x) ⊎ Contains zs x → (z ≡ y) ⊎ Contains zs y → 2 ≤ count_by f (z ∷ zs)
+      by rest (inl one) (inl other) = absurd (differ (sym one ∙ other))
+      by rest (inl one) (inr other) = count-first z zs (ap f one ∙ is) (count-some zs y other also)
+      by rest (inr one) (inl other) = count-first z zs (ap f other ∙ also) (count-some zs x one is)
+      by rest (inr one) (inr other) = let whole = count-cons f z zs in omega (arith, whole, rest one other)
 
 evaluation-is : (sender : ActorId) (number : ℕ) (event : Event) → Evaluates sender number event → is_evaluation_of sender number event ≡ true
 evaluation-is sender number (events.Eval actor sent reply) h = and_from (same_id sender actor) (sent == number) (same_id-equal sender actor (sym h.0)) (eq-eqb sent number h.1)
@@ -85,14 +98,24 @@ module _ (head : Head) (history : List (Entry Event)) (run : IsRun head history)
       let right = count-cons spends_it p (pairs_after (protocol head) (before ++ x ∷ []) xs) in
       omega (arith, left, right, first, rest)
 
-  at-most : evaluations_of send.actor number history ≤ spenders (protocol head) send.step history
-  at-most = counted [] history refl run
+  -- it is evaluated no more often than its sending is spent
+  pub evaluated_most : evaluations_of send.actor number history ≤ spenders (protocol head) send.step history
+  evaluated_most = counted [] history refl run
+
+module _ (sender : ActorId) (number : ℕ) (history : List (Entry Event)) where
+  -- it is evaluated where an entry evaluates it
+  pub evaluated_some : (e : Entry Event) → Contains history e → Evaluates sender number e.event → 1 ≤ evaluations_of sender number history
+  evaluated_some e there of_it = count-some (λ (x : Entry Event). is_evaluation_of sender number x.event) history e there (evaluation-is sender number e.event of_it)
+
+  -- and twice where two do
+  pub evaluated_twice : (e f : Entry Event) → Contains history e → Contains history f → Evaluates sender number e.event → Evaluates sender number f.event → (e ≡ f → ⊥) → 2 ≤ evaluations_of sender number history
+  evaluated_twice e f there also of_it of_it_too differ =
+      count-two (λ (x : Entry Event). is_evaluation_of sender number x.event) history e f there also (evaluation-is sender number e.event of_it) (evaluation-is sender number f.event of_it_too) differ
 
 pub served_is_evaluated_once : ServedIsEvaluatedOnce
 served_is_evaluated_once head history sender number run served =
-    let most : evaluations_of served.send.actor number history ≤ spenders (protocol head) served.send.step history = at-most head history run served.send number served.sent served.says in
-    let least : 1 ≤ evaluations_of sender number history =
-    count-some (λ (e : Entry Event). is_evaluation_of sender number e.event) history served.evaluation served.evaluated (evaluation-is sender number served.evaluation.event served.of_it) in
+    let most : evaluations_of served.send.actor number history ≤ spenders (protocol head) served.send.step history = evaluated_most head history run served.send number served.sent served.says in
+    let least = evaluated_some sender number history served.evaluation served.evaluated served.of_it in
     let same : evaluations_of served.send.actor number history ≡ evaluations_of sender number history = ap (λ id. evaluations_of id number history) served.whose in
     omega (arith, served.spent)
 
@@ -115,7 +138,7 @@ pub unspent_is_never_evaluated : UnspentIsNeverEvaluated
 unspent_is_never_evaluated head history part place number p run closed at says kept =
     let own_has : Contains (own (protocol head) part.id history) p = subst (λ ps. Contains ps p) (sym closed.list) (get_contains part.own place p at) in
     let there = own-contains (protocol head) part.id history p own_has in
-    let most : evaluations_of p.entry.actor number history ≤ spenders (protocol head) p.entry.step history = at-most head history run p.entry number there.0 says in
+    let most : evaluations_of p.entry.actor number history ≤ spenders (protocol head) p.entry.step history = evaluated_most head history run p.entry number there.0 says in
     let uses = closed.uses place p at in
     let same : evaluations_of p.entry.actor number history ≡ evaluations_of part.id number history = ap (λ id. evaluations_of id number history) there.1 in
     omega arith

@@ -40,8 +40,8 @@ unreachable-requires g c =
 pub returns-clause-heard : goal.returns-clause-heard
 returns-clause-heard g c =
     let none = subst (λ o. IfNone o (HasNoneLostFirst c.args.desk.now × (c.take_lost.new.self ≡ c.args.desk.now))) c.in_default.is c.take_lost.ensures.none in
-    let first = subst (λ heard. IfSome heard (HasHeardFirst c.take_lost.new.self c.hear.new.self)) c.in-Some.is c.in_ok-heard.ensures.ok in
-    subst (λ d. WasHeardLast d c.hear.new.self c.in-Some.answered.reply) none.1 (heard_last c.take_lost.new.self c.hear.new.self (subst HasOneOut (sym none.1) c.requires.out) c.in-Some.answered first)
+    let first = subst (λ heard. IfSome heard (HasHeardFirst c.take_lost.new.self c.hear.new.self)) c.in-Some-heard.is c.in_ok-heard.ensures.ok in
+    subst (λ d. WasHeardLast d c.hear.new.self c.in-Some-heard.answered.reply) none.1 (heard_last c.take_lost.new.self c.hear.new.self (subst HasOneOut (sym none.1) c.requires.out) c.in-Some-heard.answered first)
 
 pub returns-in_err-heard-clause-ended : goal.returns-in_err-heard-clause-ended
 returns-in_err-heard-clause-ended g c =
