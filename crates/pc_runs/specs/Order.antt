@@ -6,6 +6,7 @@ use Rattle.pc_proto.specs.declared.call.Call.{Call}
 use Rattle.pc_proto.specs.declared.event.Event.{Event}
 use Rattle.pc_script.specs.Script.{next_call, script_position}
 use Rattle.pc_scripted.specs.Ended.{list_has_ended}
+use Rattle.pc_runs.specs.Wires.{verdicts_in}
 use Rattle.pc_scripted.specs.Taking.{are_items_over}
 use Rattle.pc_turns.specs.Order.{GoInTurns, GoOnThreads, entries_by}
 use Rattle.pc_work.specs.declared.recoverer.RecovererWork.{RecovererWork}

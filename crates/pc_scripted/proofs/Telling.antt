@@ -1,5 +1,5 @@
 -- What a session was told may be told, and its script goes on by it.
-use Rattle.std.proofs.Common.{◌≡◌, ℕ, false, is_some, List, [], ◌∷◌, ◌++◌, drop, Option, None, Some, zero, suc, refl, sym, ap, subst, ◌∙◌}
+use Rattle.std.proofs.Common.{◌≡◌, ℕ, true, false, is_some, List, [], ◌∷◌, ◌++◌, drop, Option, None, Some, zero, suc, refl, sym, ap, subst, ◌∙◌}
 use Rattle.std.proofs.lemmas.List.{append_assoc}
 use Rattle.pc_base.specs.declared.actor.ActorId.{ActorId}
 use Rattle.pc_base.specs.declared.actor.ActorId.TheVariants as actors
@@ -84,7 +84,7 @@ pub fits_told : {C : Type 0} (old new : SessionMeaning C) (at : Position) (call 
     → SuitsNext new.coordinator.pipelining answer call new.coordinator.txn → FitsCalls new.coordinator.pipelining (after_told answer at) new.coordinator.txn
 fits_told old new at call answer part whole told rest after whose grown fits next suits =
     let own = old.desk.log.part.own in
-    let w = was_told_by new.desk.log old.coordinator.session own part call answer whole told after.track.log whose grown in
+    let w = was_told_by new.desk.log old.coordinator.session own part call answer whole told after.any.track.log whose grown in
     let may = may_be_called old at call rest fits next in
     let opens : (session_knows new).is_open ≡ is_open_told answer w.k.is_open =
     ap (λ own. (known_of own).is_open) grown ∙ (open_told own part call whole.reading whole.between answer (whole.whole ∙ ap (λ a. events.Ask call whole.reading ∷ (whole.between ++ events.Tell a ∷ [])) told) whole.within ∙ ap (is_open_told answer) (sym w.open_then)) in
@@ -94,7 +94,7 @@ fits_told old new at call answer part whole told rest after whose grown fits nex
       next = next ∙ ap Some (sym w.asked);
       outside = λ out. w.open_then ∙ may.outside (sym (ap is_outside w.asked) ∙ out);
       suits = subst (λ c. SuitsNext new.coordinator.pipelining answer c new.coordinator.txn) (sym w.asked) suits;
-      closed = λ none. none_is new.coordinator.txn (after.holds ∙ (opens ∙ none));
+      closed = λ none. none_is new.coordinator.txn (after.any.holds ∙ (opens ∙ none));
     }) w.may
 
 pub opened_reruns : (items : List Item) (reruns : ℕ) → (opened items reruns).reruns ≡ reruns
