@@ -9,7 +9,7 @@ use Rattle.pc_desk.proofs.Learning.{knowing, track_knowing}
 use Rattle.pc_desk.proofs.Outgoing.{answered_desk, bag_answered, bag_free, bag_lost, first_evaluated, first_sent, lost_desk, lost_still, none_left, track_answered, track_lost, way_answered, way_lost}
 use Rattle.pc_desk.specs.declared.answered.Answered.{Answered}
 use Rattle.pc_desk.specs.declared.errand.Errand.{Errand}
-use Rattle.pc_desk.specs.Desk.{DeskMeaning, HasDelivered, IsLate, IsOfBag, IsOneSent, KeepsTrack, Posted, as_sent, has_lost, is_on_way, is_repeating, posted_as, posting, straying, with_late}
+use Rattle.pc_desk.specs.Desk.{DeskMeaning, HasDelivered, IsLate, IsOfBag, IsOneSent, KeepsTrack, Posted, as_sent, due_of, has_lost, is_on_way, is_repeating, posted_as, posting, straying, with_late}
 use Rattle.pc_desk.specs.Errand.{HasPassedFirst, HasSetOutFirst, IsErrandOf, IsItsCopy, IsRepeated, due_by, held_by, is_not_now, lost_by, with_copy}
 use Rattle.pc_desk.specs.Evaluating.{HasEvaluated, kept_by}
 use Rattle.pc_desk.specs.OwnLog.{IsOwnLog, verdict_of}
@@ -52,7 +52,7 @@ module _ {C : Type 0} (d : DeskMeaning C) (m : Posted) (rest : List Posted) (tra
       record {
         track = track_lost d m rest track first later (with_late due m d.bag) still (ap is_losing is) (inr (inl (late_now due m d.bag free)))
             (insert_every m.number (straying due m) (IsOfBag (lost_desk d m.number rest (with_late due m d.bag))) d.bag free (bag_lost d m rest track first later (with_late due m d.bag) still)
-            (record { one = first_sent d m rest track first later; number = refl; late = ap is_late is; gone = none_left d m rest track first later }));
+            (record { one = first_sent d m rest track first later; number = refl; late = ap is_late is; due = ap (λ v. due_of v m.number) (sym is); gone = none_left d m rest track first later }));
         way = way_lost d m rest track first later (with_late due m d.bag) still;
         kept = λ n was. lost_still d.lost m.number n was;
       }
@@ -114,7 +114,7 @@ module _ {C N : Type 0} {G : Ghosts N CommitWorld} (d : DeskMeaning C) (message 
     kept = λ n was. lost_still d.lost message.number n was;
   }
 
-  module _ (sends : ℕ) (is : verdict_of d.log message.number ≡ verdicts.Repeat sends) (due : ℕ) (copy : Message N G) (number : copy.number ≡ message.number) (range : copy.range ≡ message.range) (request : copy.request ≡ message.request) where
+  module _ (sends : ℕ) (is : verdict_of d.log message.number ≡ verdicts.Repeat sends) (due : ℕ) (copy : Message N G) (by-verdict : due ≡ due_by message.number sends) (number : copy.number ≡ message.number) (range : copy.range ≡ message.range) (request : copy.request ≡ message.request) where
     -- What is put into the bag.
     abbrev c : Posted
     c = posted_of copy
@@ -140,6 +140,7 @@ module _ {C N : Type 0} {G : Ghosts N CommitWorld} (d : DeskMeaning C) (message 
             one = subst (λ (x : Sent). Contains (known_of d.log.part.own).sent x) (sym same) (first_sent d m rest track first later);
             number = refl;
             late = ap (λ (n : ℕ). is_late (verdict_of d.log n)) number ∙ ap is_late is;
+            due = subst (λ (n : ℕ). due ≡ due_of (verdict_of d.log n) n) (sym number) (by-verdict ∙ ap (λ v. due_of v message.number) (sym is));
             gone = subst (λ (n : ℕ). posted_as n rest + posted_as n d.later ≡ 0) (sym number) (none_left d m rest track first later);
           })) behind after;
       way = λ n. ap (λ (z : Bool). z || has_lost n d) (way_answered d m rest track first later (with_late due c d.bag) still a to n);
@@ -154,7 +155,7 @@ module _ {C N : Type 0} {G : Ghosts N CommitWorld} (d : DeskMeaning C) (message 
       let same = repeated.same in
       subst (λ (b : Bool). StandsAs d (gone-out (verdicts.Repeat sends) b errand.sequel.copy)) (sym repeated.heard)
       (subst (λ (o : Option (Stray (Message N G))). StandsAs d (gone-out (verdicts.Repeat sends) true o)) (sym repeated.there)
-      (repeated-at sends is repeated.copy.due repeated.copy.message same.alike.number same.alike.range same.alike.request))
+      (repeated-at sends is repeated.copy.due repeated.copy.message repeated.due same.alike.number same.alike.range same.alike.request))
   evaluated-by verdicts.LoseRequest is errand errand_of = absurd errand_of
   evaluated-by (verdicts.Hold sends) is errand errand_of = absurd errand_of
 

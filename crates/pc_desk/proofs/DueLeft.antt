@@ -1,5 +1,5 @@
 -- What is due in the bag is evaluated, and nobody hears the replies.
-use Rattle.std.proofs.Common.{◌≡◌, ℕ, ◌+◌, ◌-◌, ◌<◌, ◌≤◌, ◌==◌, ◌⊎◌, Bool, true, false, cond, find, filter, not, All, Contains, inl, inr, List, [], ◌∷◌, ◌++◌, length, length-append, map, None, Option, Some, refl, sym, ap, subst, ◌∙◌, arith}
+use Rattle.std.proofs.Common.{◌≡◌, ℕ, ◌+◌, ◌-◌, ◌<◌, ◌≤◌, ◌==◌, ◌⊎◌, Bool, true, false, cond, find, filter, nat_le, not, All, Contains, inl, inr, List, [], ◌∷◌, ◌++◌, length, length-append, map, None, Option, Some, refl, sym, ap, subst, ◌∙◌, arith}
 use Rattle.std.proofs.lemmas.Bool.Decides.{nat_tests}
 use Rattle.std.proofs.lemmas.List.{append_assoc, map-append}
 use Rattle.std.proofs.lemmas.List.Elements.{All-contains, All-nil, All-weaker, Contains-append_cases, Contains-append_left, Contains-append_right, Contains-push}
@@ -19,8 +19,8 @@ use Rattle.pc_desk.proofs.StraysLeft.{one_bag, repeated_same}
 use Rattle.pc_desk.specs.declared.halt.Halt.{Halt}
 use Rattle.pc_desk.specs.declared.halt.Halt.TheVariants as halts
 use Rattle.pc_desk.specs.declared.late.Late.{Late}
-use Rattle.pc_desk.specs.Desk.{ComesAfterFirst, DeskMeaning, IsDropped, IsLate, IsOfBag, IsOneSent, IsReadyLate, IsRepeatedOrLate, IsUnheard, KeepsTrack, LateMessage, Posted, TellsFirst, WasEvaluatedAt, as_sent, first_told, is_repeating, late_as, posted_as, posting, straying, told_first, times_first, uses_by}
-use Rattle.pc_desk.specs.Ending.{EndsOnly, HasEnded, all_waiting}
+use Rattle.pc_desk.specs.Desk.{ComesAfterFirst, DeskMeaning, IsDropped, IsLate, IsOfBag, IsOneSent, IsReadyLate, IsRepeatedOrLate, IsUnheard, KeepsTrack, LateMessage, Posted, TellsFirst, WasEvaluatedAt, as_sent, due_of, first_told, is_repeating, late_as, posted_as, posting, straying, told_first, times_first, uses_by}
+use Rattle.pc_desk.specs.Ending.{EndsOnly, HasEnded, WasLateAndDue, all_waiting}
 use Rattle.pc_desk.specs.Late.{HasDeliveredDue, HasEvaluatedLate, HasLateBack, IsRefusedLate, copy_told, not_due}
 use Rattle.pc_desk.specs.OwnLog.{IsOwnLog, LogMeaning, verdict_of}
 use Rattle.pc_desk.specs.Wave.{posted_of}
@@ -360,9 +360,20 @@ module _ {C N : Type 0} {G : Ghosts N CommitWorld} (mid new : DeskMeaning C) (ba
   of-bag : IsOfBag mid (seen e)
   of-bag = All-contains (IsOfBag mid) mid.bag (seen e) track.late (subst (λ b. Contains b (seen e)) (sym was-bag) (it-was (map seen cut-of.front) (map seen cut-of.back) (seen e)))
 
+  due-low : e.1.due ≤ mid.sends
+  due-low = let due : nat_le e.1.due mid.sends ≡ true = (found-there (is_due_by mid.sends) bag e found).1 in grind (arith, nat_tests, due)
+
+  due-now : WasLateAndDue mid (as_sent the-message)
+  due-now = (
+    sym (ap (λ n. is_late (verdict_of mid.log n)) of-bag.number) ∙ of-bag.late,
+    subst (λ n. due_of (verdict_of mid.log n) n ≤ length (known_of mid.log.part.own).sent) of-bag.number
+        (subst (λ n. n ≤ length (known_of mid.log.part.own).sent) of-bag.due
+        (subst (λ n. e.1.due ≤ n) track.counted due-low)),
+  )
+
   ended-back : HasLateBack taken-from new e.1.message → HasEnded mid new
   ended-back back = ended_full mid new the-message track broken of-bag.one (was_given_back new.range_limit new.log.part the-message e.1.message.message back.last (mid.log.part.known ++ first) known-is full whose refl ready.use_left)
-      (λ plain. absurd (let bad : true ≡ false = sym of-bag.late ∙ (ap (λ n. is_late (verdict_of mid.log n)) of-bag.number ∙ plain) in cc bad))
+      (inr due-now)
     where
       -- What its first evaluation's note told.
       first : List (KnownEntry Event)

@@ -9,8 +9,8 @@ use Rattle.pc_desk.proofs.Turns.{counted_has}
 use Rattle.pc_desk.specs.declared.answered.Answered.{Answered}
 use Rattle.pc_desk.specs.declared.halt.Halt.{Halt}
 use Rattle.pc_desk.specs.declared.halt.Halt.TheVariants as halts
-use Rattle.pc_desk.specs.Desk.{DeskMeaning, IsAnsweredBy, IsDropped, IsLate, IsOneSent, IsRepeatedOrLate, IsUnheard, KeepsTrack, Posted, WasEvaluatedAt, WasSetAside, as_sent, is_repeating, posted_as, posting, straying, times_sent}
-use Rattle.pc_desk.specs.Ending.{EndsBy, EndsOnly, HasEnded, HasMadeLast, IsNotLost, IsRepeatedOrWaits, IsSomewhere, IsSpent, KnowsEvaluation, KnowsTwo, PutsInCall, WaitsStill, WaitsUnheard, all_waiting}
+use Rattle.pc_desk.specs.Desk.{DeskMeaning, IsAnsweredBy, IsDropped, IsLate, IsOneSent, IsRepeatedOrLate, IsUnheard, KeepsTrack, Posted, WasEvaluatedAt, WasSetAside, as_sent, due_of, is_repeating, posted_as, posting, straying, times_sent}
+use Rattle.pc_desk.specs.Ending.{EndsBy, EndsOnly, HasEnded, HasMadeLast, IsNotLost, IsRepeatedOrWaits, IsSomewhere, IsSpent, KnowsEvaluation, KnowsTwo, PutsInCall, WaitsStill, WaitsUnheard, WasLateAndDue, WasWaitedFor, all_waiting, holds_back}
 use Rattle.pc_desk.specs.OwnLog.{HasStopped, IsHalt, LogMeaning, verdict_of}
 use Rattle.pc_desk.specs.Refused.{WasGivenBack}
 use Rattle.pc_history.specs.declared.view.Known.{Known as KnownEntry}
@@ -183,7 +183,7 @@ pub record HasBrokenOff {C : Type 0} (old new : DeskMeaning C) (m : Posted) : Ty
   pub later : All (λ p. m.number < p.number) new.posted
 
 module _ {C : Type 0} (old new : DeskMeaning C) (m : Posted) (track : KeepsTrack old) (broken : HasBrokenOff old new m) (one : IsOneSent (known_of old.log.part.own).sent m) (refused : WasGivenBack new.range_limit new.log.part (as_sent m))
-    (inside : is_late (verdict_of old.log m.number) ≡ false → PutsInCall (known_of old.log.part.own) m.request) where
+    (why : WasWaitedFor old (as_sent m) ⊎ WasLateAndDue old (as_sent m)) where
   -- The messages that were sent.
   abbrev sent-then : List Sent
   sent-then = (known_of old.log.part.own).sent
@@ -250,6 +250,17 @@ module _ {C : Type 0} (old new : DeskMeaning C) (m : Posted) (track : KeepsTrack
   wait-still : (p : Posted) → WaitsUnheard (known_of old.log.part.own) p → WaitsUnheard (known_of new.log.part.own) p
   wait-still p waits = subst (λ (k : Known). WaitsUnheard k p) (sym known-same) waits
 
+  why-still : WasWaitedFor old (as_sent m) ⊎ WasLateAndDue old (as_sent m) → WasWaitedFor new (as_sent m) ⊎ WasLateAndDue new (as_sent m)
+  why-still (inl waited) = inl (record {
+    unheard = subst (λ (k : Known). is_heard k.heard (as_sent m) ≡ false) (sym known-same) waited.unheard;
+    unheld = ap holds_back (verdict-same m.number) ∙ waited.unheld;
+    in_call = subst (λ (k : Known). PutsInCall k m.request) (sym known-same) waited.in_call;
+  })
+  why-still (inr late) = inr (
+    ap is_late (verdict-same m.number) ∙ late.0,
+    subst (λ (k : Known). due_of (verdict_of new.log m.number) m.number ≤ length k.sent) (sym known-same) (subst (λ v. due_of v m.number ≤ length sent-then) (sym (verdict-same m.number)) late.1),
+  )
+
   pub ended_full : HasEnded old new
   ended_full = record {
     known = broken.more;
@@ -259,7 +270,7 @@ module _ {C : Type 0} (old new : DeskMeaning C) (m : Posted) (track : KeepsTrack
       message = as_sent m;
       sent = subst (λ (k : Known). IsOneSent k.sent m) (sym known-same) one;
       spent = record { refused = refused };
-      in_call = λ plain. subst (λ (k : Known). PutsInCall k m.request) (sym known-same) (inside (sym (ap is_late (verdict-same m.number)) ∙ plain));
+      why = why-still why;
       others = subst (λ (k : Known). All (λ (x : Sent). IsSpent new x ⊎ IsNotLost new x) k.sent) (sym known-same)
           (all_from_contains (λ (x : Sent). IsSpent new x ⊎ IsNotLost new x) sent-then (λ x there. one-still x there (All-contains (IsNotLost old) sent-then x (not_lost old track) there)));
       waits = all_from_contains (WaitsUnheard (known_of new.log.part.own)) (new.posted ++ new.later) (λ p there. wait-still p (All-contains (WaitsUnheard (known_of old.log.part.own)) (old.posted ++ old.later) p (all_wait old track) (broken.left p there)));

@@ -1,18 +1,19 @@
 -- An actor whose first message was set out, and refused by its range.
 use Rattle.std.proofs.Common.{◌≡◌, ℕ, ◌+◌, ◌<◌, ◌≤◌, ◌⊎◌, true, All, Contains, IfErr, List, [], ◌∷◌, ◌++◌, map, Option, None, Some, Result, Ok, Err, inl, inr, refl, sym, ap, subst, ◌∙◌}
 use Rattle.std.proofs.lemmas.List.{append_assoc}
-use Rattle.std.proofs.lemmas.List.Elements.{Contains-append_left, Contains-append_right}
+use Rattle.std.proofs.lemmas.List.Elements.{All-contains, Contains-append_left, Contains-append_right}
 use Rattle.pc_base.specs.declared.actor.ActorId.TheVariants as actors
 use Rattle.pc_desk.proofs.Delivering.{errand_message}
-use Rattle.pc_desk.proofs.Ending.{HasBrokenOff, ended_full}
+use Rattle.pc_desk.proofs.Ending.{HasBrokenOff, all_wait, ended_full}
 use Rattle.pc_desk.proofs.Outgoing.{first_sent}
 use Rattle.pc_desk.proofs.Refusing.{refused_still, was_given_back}
+use Rattle.pc_desk.proofs.StraysLeft.{never_held}
 use Rattle.pc_desk.specs.declared.errand.Errand.{Errand}
 use Rattle.pc_desk.specs.declared.errand.Sequel.{Sequel}
 use Rattle.pc_desk.specs.declared.halt.Halt.{Halt}
 use Rattle.pc_desk.specs.declared.halt.Halt.TheVariants as halts
 use Rattle.pc_desk.specs.Desk.{DeskMeaning, HasHalted, KeepsTrack, KnowsFull, Posted, as_sent, posting}
-use Rattle.pc_desk.specs.Ending.{EndsOnly, HasEnded, PutsInCall, all_waiting}
+use Rattle.pc_desk.specs.Ending.{EndsOnly, HasEnded, PutsInCall, WaitsUnheard, WasWaitedFor, all_waiting}
 use Rattle.pc_desk.specs.Errand.{HasSetOutFirst, lost_by}
 use Rattle.pc_desk.specs.Evaluating.{EndsAtFault, HasErrandBack, IsFullFault, IsRefusedErrand, told_copy}
 use Rattle.pc_desk.specs.OwnLog.{LogMeaning, verdict_of}
@@ -103,8 +104,15 @@ module _ {C N : Type 0} {G : Ghosts N CommitWorld} (old mid new : DeskMeaning C)
     later = subst (All (λ (p : Posted). m.number < p.number)) (sym (ap (λ (x : DeskMeaning C). x.posted) back-then.rest)) out.taken.later;
   }
 
+  waited : WasWaitedFor old (as_sent m)
+  waited = record {
+    unheard = (All-contains (WaitsUnheard (known_of old.log.part.own)) (old.posted ++ old.later) m (all_wait old track) (Contains-append_left old.posted old.later m (subst (λ l. Contains l m) (sym out.taken.first) (contains_head m mid.posted)))).unheard;
+    unheld = never_held (verdict_of old.log out.message.number) out.message errand out.errand_of;
+    in_call = inside;
+  }
+
   pub ended_errand : HasEnded old new
-  ended_errand = ended_full old new m track broken (first_sent old m mid.posted track out.taken.first out.taken.later) refused (λ plain. inside)
+  ended_errand = ended_full old new m track broken (first_sent old m mid.posted track out.taken.first out.taken.later) refused (inl waited)
 
 -- so its list ends, or memory was wanted
 pub ends_refused : {C N : Type 0} {G : Ghosts N CommitWorld} (old mid new : DeskMeaning C) (errand : Errand N G) (halt : Halt) → KeepsTrack old → HasSetOutFirst old mid errand → ((out : HasSetOutFirst old mid errand) → PutsInCall (known_of old.log.part.own) out.message.request) → IsRefusedErrand mid new errand halt → EndsOnly (λ made. ⊥) old new halt

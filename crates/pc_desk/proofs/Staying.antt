@@ -5,7 +5,7 @@ use Rattle.std.specs.List.Sorted.{IsStrictlySortedBy}
 use Rattle.std.specs.Ordering.{nat_cmp}
 use Rattle.pc_base.specs.declared.actor.ActorId.{ActorId}
 use Rattle.pc_desk.specs.declared.answered.Answered.{Answered}
-use Rattle.pc_desk.specs.Desk.{AreLost, DeskMeaning, IsAnsweredBy, IsDropped, IsLate, IsOfBag, IsOneSent, IsRepeatedOrLate, IsUnheard, Posted, WasEvaluatedAt, WasSetAside, answered_as, heard_as_number, is_repeating, posted_as, times_sent}
+use Rattle.pc_desk.specs.Desk.{AreLost, DeskMeaning, IsAnsweredBy, IsDropped, IsLate, IsOfBag, IsOneSent, IsRepeatedOrLate, IsUnheard, Posted, WasEvaluatedAt, WasSetAside, answered_as, due_of, heard_as_number, is_repeating, posted_as, times_sent}
 use Rattle.pc_desk.specs.OwnLog.{LogMeaning, verdict_of}
 use Rattle.pc_history.specs.declared.view.Known.{Known as KnownEntry}
 use Rattle.pc_lists.proofs.Lists.{all_from_contains}
@@ -82,7 +82,7 @@ module _ {C : Type 0} (old new : DeskMeaning C) (more : HasMore old new) where
 
   -- it is of the bag still
   pub of_bag_on : (e : ℕ × Stray Posted) → posted_as e.0 new.posted + posted_as e.0 new.later ≡ 0 → IsOfBag old e → IsOfBag new e
-  of_bag_on e gone in_bag = record { one = more.sent e.1.message in_bag.one; number = in_bag.number; late = ap is_late (verdict_still old.log new.log more.log e.0) ∙ in_bag.late; gone = gone }
+  of_bag_on e gone in_bag = record { one = more.sent e.1.message in_bag.one; number = in_bag.number; late = ap is_late (verdict_still old.log new.log more.log e.0) ∙ in_bag.late; due = in_bag.due ∙ ap (λ v. due_of v e.0) (sym (verdict_still old.log new.log more.log e.0)); gone = gone }
 
   pub every_unheard : (unheard : List Posted) → All (IsUnheard old) unheard → All (IsUnheard new) unheard
   every_unheard unheard each = All-weaker (IsUnheard old) (IsUnheard new) unheard_on unheard each

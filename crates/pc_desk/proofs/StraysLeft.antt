@@ -10,7 +10,8 @@ use Rattle.pc_desk.proofs.Counting.{counted_once}
 use Rattle.pc_desk.proofs.Still.{dropped_on, evaluated_on, repeated_on, then, track_then, unheard_on}
 use Rattle.pc_desk.specs.Aside.{HasDropped, HasDroppedFirst}
 use Rattle.pc_desk.specs.declared.errand.Errand.{Errand}
-use Rattle.pc_desk.specs.Desk.{DeskMeaning, IsDropped, IsLate, IsOfBag, IsOneSent, IsRepeatedOrLate, IsUnheard, KeepsTrack, Posted, WasEvaluatedAt, WasSetAside, as_sent, is_repeating, posted_as, posting, straying, times_sent, with_late}
+use Rattle.pc_desk.specs.Desk.{DeskMeaning, IsDropped, IsLate, IsOfBag, IsOneSent, IsRepeatedOrLate, IsUnheard, KeepsTrack, Posted, WasEvaluatedAt, WasSetAside, as_sent, due_of, is_repeating, posted_as, posting, straying, times_sent, with_late}
+use Rattle.pc_desk.specs.Ending.{holds_back}
 use Rattle.pc_desk.specs.Errand.{IsErrandOf, due_by, held_by, is_not_now, with_copy}
 use Rattle.pc_desk.specs.Evaluating.{HasEvaluated}
 use Rattle.pc_desk.specs.OwnLog.{IsOwnLog, LogMeaning, verdict_of}
@@ -57,6 +58,7 @@ one_bag {C} old new e own wire gone of = record {
   one = subst (λ o. IsOneSent (known_of o).sent e.1.message) (sym own) of.one;
   number = of.number;
   late = subst (λ w. is_late (verdict_of (record old.log { wire = w }) e.0) ≡ true) (sym wire) of.late;
+  due = subst (λ w. e.1.due ≡ due_of (verdict_of (record old.log { wire = w }) e.0) e.0) (sym wire) of.due;
   gone = gone;
 }
 
@@ -130,13 +132,13 @@ module _ {C : Type 0} (old : DeskMeaning C) (m : Posted) (rest : List Posted) (t
         (λ e there. subst (λ b. Contains b e) (sym same) there) (λ e there. inl (subst (λ b. Contains b e) same there))
 
     -- it, or its copy, was put into the bag
-    left-late : (due uses : ℕ) → bag ≡ with_late due (posting m.number m.range m.request uses) old.bag → is_late (verdict_of old.log m.number) ≡ true → IsOwnLog after.log → IsDropped after m → (is_repeating (verdict_of old.log m.number) ≡ true → IsRepeatedOrLate after m) → HasDroppedFirst old after
-    left-late due uses is late log its twice =
+    left-late : (due uses : ℕ) → bag ≡ with_late due (posting m.number m.range m.request uses) old.bag → is_late (verdict_of old.log m.number) ≡ true → due ≡ due_of (verdict_of old.log m.number) m.number → IsOwnLog after.log → IsDropped after m → (is_repeating (verdict_of old.log m.number) ≡ true → IsRepeatedOrLate after m) → HasDroppedFirst old after
+    left-late due uses is late by-verdict log its twice =
         has-dropped
         (track-left log (λ p waits. record { due = waits.due; uses = waits.uses; there = in-bag (p.number, straying waits.due (posting p.number p.range p.request waits.uses)) waits.there })
         (subst (All (IsOfBag after)) (sym is) (insert_every m.number (straying due it) (IsOfBag after) old.bag free
         (All-weaker (IsOfBag old) (IsOfBag after) (λ e of. one_bag old after e refl refl (rest-gone e.0 of.gone) of) old.bag track.late)
-        (record { one = its-aside.one; number = refl; late = late; gone = its-gone }))) its twice)
+        (record { one = its-aside.one; number = refl; late = late; due = by-verdict; gone = its-gone }))) its twice)
         in-bag (λ e there. All-contains (λ x. Contains old.bag x ⊎ (Contains (map as_sent old.later) (as_sent x.1.message) × (is_late (verdict_of old.log x.0) ≡ true))) bag e put there)
       where
         -- What was put there.
@@ -157,7 +159,7 @@ module _ {C : Type 0} (old : DeskMeaning C) (m : Posted) (rest : List Posted) (t
   pub stray_passed : (verdict : Verdict) → verdict ≡ verdict_of old.log m.number → is_not_now verdict ≡ true → HasDroppedFirst old (then old old.log.part.known rest (held_by verdict m old.bag))
   stray_passed verdicts.LoseRequest is now = left-same old.log.part.known old.bag (λ k there. there) refl track.log (inl (sym is)) (λ repeats. absurd (let e : false ≡ true = ap is_repeating is ∙ repeats in cc e))
   stray_passed (verdicts.Hold sends) is now =
-      left-late old.log.part.known (with_late (due_by m.number sends) m old.bag) (λ k there. there) (due_by m.number sends) m.uses refl (sym (ap is_late is)) track.log
+      left-late old.log.part.known (with_late (due_by m.number sends) m old.bag) (λ k there. there) (due_by m.number sends) m.uses refl (sym (ap is_late is)) (ap (λ v. due_of v m.number) is) track.log
       (inr (inl (record { due = due_by m.number sends; uses = m.uses; there = insert_has m.number (straying (due_by m.number sends) m) old.bag free })))
       (λ repeats. absurd (let e : false ≡ true = ap is_repeating is ∙ repeats in cc e))
   stray_passed verdicts.Deliver is now = absurd cc
@@ -166,7 +168,15 @@ module _ {C : Type 0} (old : DeskMeaning C) (m : Posted) (rest : List Posted) (t
 
 -- ---- it was evaluated
 
--- one that is evaluated now is not held
+-- one that is evaluated now is not held back
+pub never_held : {N : Type 0} {G : Ghosts N CommitWorld} (verdict : Verdict) (message : Message N G) (errand : Errand N G) → IsErrandOf verdict message errand → holds_back verdict ≡ false
+never_held verdicts.Deliver message errand is = refl
+never_held verdicts.LoseRequest message errand is = refl
+never_held verdicts.LoseReply message errand is = refl
+never_held (verdicts.Repeat sends) message errand is = refl
+never_held (verdicts.Hold sends) message errand is = absurd is
+
+-- so the bag is as it was
 pub not_held : {N : Type 0} {G : Ghosts N CommitWorld} (verdict : Verdict) (message : Message N G) (errand : Errand N G) (m : Posted) (bag : List (ℕ × Stray Posted)) → IsErrandOf verdict message errand → held_by verdict m bag ≡ bag
 not_held verdicts.Deliver message errand m bag is = refl
 not_held verdicts.LoseRequest message errand m bag is = absurd is
@@ -191,7 +201,7 @@ module _ {C N : Type 0} {G : Ghosts N CommitWorld} (old : DeskMeaning C) (messag
       ap (λ n. posting n of.copy.message.range of.copy.message.request uses) of.same.alike.number ∙ (ap (λ r. posting message.number r of.copy.message.request uses) of.same.alike.range ∙ ap (λ r. posting message.number message.range r uses) of.same.alike.request) in
       let bag-is : with_copy errand.sequel.copy old.bag ≡ with_late of.copy.due (posting message.number message.range message.request uses) old.bag =
       ap (λ (c : Option (Stray (Message N G))). with_copy c old.bag) of.there ∙ ap (λ (p : Posted). with_late of.copy.due p old.bag) it in
-      left-late old (posted_of message) rest track first known (with_copy errand.sequel.copy old.bag) more of.copy.due uses bag-is (sym (ap is_late is)) log (inr (inr (step, was)))
+      left-late old (posted_of message) rest track first known (with_copy errand.sequel.copy old.bag) more of.copy.due uses bag-is (sym (ap is_late is)) (of.due ∙ ap (λ v. due_of v message.number) is) log (inr (inr (step, was)))
       (λ repeats. inl (
         record {
           due = of.copy.due;

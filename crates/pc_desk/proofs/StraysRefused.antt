@@ -1,14 +1,14 @@
 -- The first of what was set aside is delivered as a stray, and its range, which is full, refuses it.
 use Rattle.std.proofs.Common.{◌≡◌, ℕ, ◌<◌, ◌≤◌, ◌⊎◌, true, false, All, Contains, inl, inr, List, [], ◌∷◌, ◌++◌, length, map, None, Option, Some, refl, sym, ap, subst, ◌∙◌}
 use Rattle.std.proofs.lemmas.List.{append-nil, append_assoc}
-use Rattle.std.proofs.lemmas.List.Elements.{All-head, All-nil, Contains-append_cases, Contains-append_left, Contains-append_right}
-use Rattle.pc_desk.proofs.Ending.{HasBrokenOff, ended_full}
+use Rattle.std.proofs.lemmas.List.Elements.{All-contains, All-head, All-nil, Contains-append_cases, Contains-append_left, Contains-append_right}
+use Rattle.pc_desk.proofs.Ending.{HasBrokenOff, all_wait, ended_full}
 use Rattle.pc_desk.proofs.Refusing.{refused_still, was_given_back}
 use Rattle.pc_desk.specs.declared.errand.Errand.{Errand}
 use Rattle.pc_desk.specs.declared.halt.Halt.{Halt}
 use Rattle.pc_desk.specs.declared.halt.Halt.TheVariants as halts
 use Rattle.pc_desk.specs.Desk.{DeskMeaning, IsOneSent, KeepsTrack, Posted, WasSetAside, as_sent, posting}
-use Rattle.pc_desk.specs.Ending.{EndsOnly, HasEnded, PutsInCall, all_waiting}
+use Rattle.pc_desk.specs.Ending.{EndsOnly, HasEnded, PutsInCall, WaitsUnheard, all_waiting, holds_back}
 use Rattle.pc_desk.specs.Errand.{IsErrandOf}
 use Rattle.pc_desk.specs.Evaluating.{HasErrandBack, IsRefusedErrand, told_copy}
 use Rattle.pc_desk.specs.OwnLog.{LogMeaning, verdict_of}
@@ -19,7 +19,7 @@ use Rattle.pc_history.specs.declared.named.Named.{Ghosts}
 use Rattle.pc_history.specs.declared.view.Known.{Known as KnownEntry}
 use Rattle.pc_history.specs.declared.view.Part.{Part}
 use Rattle.pc_history.specs.Parts.{told}
-use Rattle.pc_lists.proofs.Lists.{contains_cons, contains_tail}
+use Rattle.pc_lists.proofs.Lists.{contains_cons, contains_head, contains_tail}
 use Rattle.pc_proto.specs.declared.event.Event.{Event}
 use Rattle.pc_proto.specs.declared.request.Request.{Request}
 use Rattle.pc_range.specs.declared.commit_world.CommitWorld.{CommitWorld}
@@ -30,6 +30,7 @@ use Rattle.pc_wire.specs.declared.verdict.Verdict.{Verdict}
 use Rattle.pc_wire.specs.declared.verdict.Verdict.TheVariants as verdicts
 use Rattle.pc_world.specs.Known.{known_of}
 use Rattle.pc_world.specs.Known.Traffic.{Sent}
+use Rattle.pc_world.specs.Tell.Refusal.{is_heard}
 
 -- who takes a copy's note, if there is one, knows what that tells
 pub told_copy_is : {N : Type 0} {G : Ghosts N CommitWorld} (copy : Option (Stray (Message N G))) (part : Part Event) → told_copy copy part ≡ told (copy_note copy) part
@@ -47,7 +48,7 @@ errand_sent (verdicts.Repeat sends) message errand is =
 errand_sent (verdicts.Hold sends) message errand is = absurd is
 
 module _ {C N : Type 0} {G : Ghosts N CommitWorld} (old new : DeskMeaning C) (message : Message N G) (rest : List Posted) (track : KeepsTrack old) (first : old.later ≡ posted_of message ∷ rest) (none : old.posted ≡ []) (errand : Errand N G) (may : MayGo old errand.message)
-    (sent : as_sent (posted_of errand.message) ≡ as_sent (posted_of message)) (inside : PutsInCall (known_of old.log.part.own) message.request) where
+    (sent : as_sent (posted_of errand.message) ≡ as_sent (posted_of message)) (unheld : holds_back (verdict_of old.log message.number) ≡ false) (inside : PutsInCall (known_of old.log.part.own) message.request) where
   -- What waited.
   abbrev m : Posted
   m = posted_of message
@@ -59,8 +60,11 @@ module _ {C N : Type 0} {G : Ghosts N CommitWorld} (old new : DeskMeaning C) (me
   its-one : IsOneSent (known_of old.log.part.own).sent m
   its-one = (All-head (WasSetAside (known_of old.log.part.own).sent) m rest (subst (All (WasSetAside (known_of old.log.part.own).sent)) first track.aside)).one
 
+  unheard : is_heard (known_of old.log.part.own).heard (as_sent m) ≡ false
+  unheard = (All-contains (WaitsUnheard (known_of old.log.part.own)) (old.posted ++ old.later) m (all_wait old track) (Contains-append_right old.posted old.later m (subst (λ l. Contains l m) (sym first) (contains_head m rest)))).unheard
+
   ended-back : HasErrandBack taken-aside new errand → HasEnded old new
-  ended-back back = ended_full old new m track broken its-one given (λ plain. inside)
+  ended-back back = ended_full old new m track broken its-one given (inl (record { unheard = unheard; unheld = unheld; in_call = inside }))
     where
       -- What the note of its sending tells.
       note : List (KnownEntry Event)

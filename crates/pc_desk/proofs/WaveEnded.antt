@@ -12,6 +12,7 @@ use Rattle.pc_desk.proofs.Counting.{counted_once}
 use Rattle.pc_desk.proofs.Ending.{all_wait, any_gives, any_there, not_lost}
 use Rattle.pc_desk.proofs.Halting.{wants_memory}
 use Rattle.pc_desk.proofs.Refusing.{refused_still, was_given_back}
+use Rattle.pc_desk.proofs.StraysLeft.{never_held}
 use Rattle.pc_desk.proofs.StraysRefused.{errand_sent}
 use Rattle.pc_desk.proofs.WaveSteps.{errand_number}
 use Rattle.pc_desk.specs.declared.errand.Errand.{Errand}
@@ -19,7 +20,7 @@ use Rattle.pc_desk.specs.declared.errand.Sequel.{Sequel}
 use Rattle.pc_desk.specs.declared.halt.Halt.{Halt}
 use Rattle.pc_desk.specs.declared.halt.Halt.TheVariants as halts
 use Rattle.pc_desk.specs.Desk.{DeskMeaning, HasHalted, IsOfBag, IsOneSent, KeepsTrack, Posted, as_sent, is_repeating, straying, with_late}
-use Rattle.pc_desk.specs.Ending.{EndsBy, EndsOnly, HasEnded, IsNotLost, IsRepeatedOrWaits, IsSomewhere, IsSpent, KnowsEvaluation, KnowsTwo, PostsInCall, PutsInCall, WaitsStill, WaitsUnheard, all_waiting}
+use Rattle.pc_desk.specs.Ending.{EndsBy, EndsOnly, HasEnded, IsNotLost, IsRepeatedOrWaits, IsSomewhere, IsSpent, KnowsEvaluation, KnowsTwo, PostsInCall, PutsInCall, WaitsStill, WaitsUnheard, all_waiting, holds_back}
 use Rattle.pc_desk.specs.Errand.{HasPassedFirst, HasSetOutFirst, IsErrandOf, due_by, held_by, is_not_now, with_copy}
 use Rattle.pc_desk.specs.OwnLog.{LogMeaning, verdict_of}
 use Rattle.pc_desk.specs.Refused.{WasGivenBack}
@@ -375,11 +376,12 @@ module _ {C N : Type 0} {G : Ghosts N CommitWorld} (old taken new : DeskMeaning 
       message : Posted
       within : Contains old.posted message
       at-is : at ≡ message.range
+      unheld : holds_back (verdict_of old.log message.number) ≡ false
       back : WasGivenBack old.range_limit last-part (as_sent message)
 
-    -- What was set out says what waited.
+    -- What was set out says what waited, and is not held back.
     abbrev WasPosted : Errand N G → Type 0
-    WasPosted e = (p : Posted) × Contains old.posted p × (as_sent (posted_of e.message) ≡ as_sent p)
+    WasPosted e = (p : Posted) × Contains old.posted p × (holds_back (verdict_of old.log p.number) ≡ false) × (as_sent (posted_of e.message) ≡ as_sent p)
 
     posted-still : (mid : DeskMeaning C) (es : List (Errand N G)) → SetsOut old mid es → (p : Posted) → Contains mid.posted p → Contains old.posted p
     posted-still mid es NoneYet p there = there
@@ -393,6 +395,7 @@ module _ {C N : Type 0} {G : Ghosts N CommitWorld} (old taken new : DeskMeaning 
         All-push WasPosted errands errand (was-posted now errands so_far) (
           posted_of out.message,
           posted-still now errands so_far (posted_of out.message) (subst (λ l. Contains l (posted_of out.message)) (sym out.taken.first) (contains_head (posted_of out.message) mid2.posted)),
+          subst (λ (l : LogMeaning C). holds_back (verdict_of l out.message.number) ≡ false) (ap (λ (d : DeskMeaning C). d.log) (set_out_rest old now errands so_far)) (never_held (verdict_of now.log out.message.number) out.message errand out.errand_of),
           errand_sent (verdict_of now.log out.message.number) out.message errand out.errand_of,
         )
 
@@ -405,7 +408,7 @@ module _ {C N : Type 0} {G : Ghosts N CommitWorld} (old taken new : DeskMeaning 
           let was = All-head WasPosted e es posted in
           let full : IsFullAt e.message.range old.range_limit e.message (faults.Full at last message) = subst (Came old old.range_limit e.message) here came.0 in
           let back : WasGivenBack old.range_limit last-part (as_sent (posted_of e.message)) = subst (EndOf old last-part refl last-bag e) here end.0 in
-          record { message = was.0; within = was.1; at-is = full.0 ∙ ap (λ (s : Sent). s.range) was.2; back = subst (WasGivenBack old.range_limit last-part) was.2 back }
+          record { message = was.0; within = was.1; unheld = was.2; at-is = full.0 ∙ ap (λ (s : Sent). s.range) was.3; back = subst (WasGivenBack old.range_limit last-part) was.3 back }
       | inr later ↦ given-back at last message es os (All-tail WasPosted e es posted) came.1 end.1 later
     ]
 
@@ -421,7 +424,11 @@ module _ {C N : Type 0} {G : Ghosts N CommitWorld} (old taken new : DeskMeaning 
         message = as_sent b.message;
         sent = posted-sent b.message b.within;
         spent = record { refused = b.back };
-        in_call = λ plain. All-contains (λ (p : Posted). PutsInCall (known_of old.log.part.own) p.request) old.posted b.message in_call b.within;
+        why = inl (record {
+          unheard = (All-contains (WaitsUnheard (known_of old.log.part.own)) (old.posted ++ old.later) b.message (all_wait old track) (Contains-append_left old.posted old.later b.message b.within)).unheard;
+          unheld = b.unheld;
+          in_call = All-contains (λ (p : Posted). PutsInCall (known_of old.log.part.own) p.request) old.posted b.message in_call b.within;
+        });
         others = all_from_contains (λ (x : Sent). IsSpent over x ⊎ IsNotLost over x) sent-all (λ x there. others x there (All-contains (IsNotLost old) sent-all x (not_lost old track) there));
         waits = all_from_contains (WaitsUnheard (known_of old.log.part.own)) old.later
             (λ p there. All-contains (WaitsUnheard (known_of old.log.part.own)) (old.posted ++ old.later) p (all_wait old track) (Contains-append_right old.posted old.later p there));

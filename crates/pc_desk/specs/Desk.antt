@@ -1,5 +1,5 @@
 -- The messages of an actor on their way: each that it sent stands at one stage.
-use Rattle.std.specs.Prelude.{◌≡◌, ℕ, ◌+◌, ◌-◌, ◌<◌, ◌≤◌, Bool, true, false, ◌&&◌, ◌||◌, ◌==◌, cond, not, ◌⊎◌, Option, None, Some, List, [], ◌∷◌, ◌++◌, length, count_by, slice_get, All, Contains, ⊤}
+use Rattle.std.specs.Prelude.{◌≡◌, ℕ, ◌+◌, ◌-◌, ◌^◌, ◌<◌, ◌≤◌, min, Bool, true, false, ◌&&◌, ◌||◌, ◌==◌, cond, not, ◌⊎◌, Option, None, Some, List, [], ◌∷◌, ◌++◌, length, count_by, slice_get, All, Contains, ⊤}
 use Rattle.std.specs.BTreeMap.{insert_entry}
 use Rattle.std.specs.List.{AllZip, list_any}
 use Rattle.std.specs.List.Sorted.{IsStrictlySortedBy}
@@ -88,6 +88,12 @@ uses_by verdicts.LoseRequest = 0
 uses_by verdicts.LoseReply = 1
 uses_by (verdicts.Repeat later) = 2
 uses_by (verdicts.Hold later) = 1
+
+-- How many messages a sender has sent when that is due of its message of this number which this verdict has evaluated late.
+abbrev pub due_of : Verdict → ℕ → ℕ
+due_of (verdicts.Repeat later) number = min (number + later) (2 ^ 64 - 1)
+due_of (verdicts.Hold later) number = min (number + later) (2 ^ 64 - 1)
+due_of _ number = 0
 
 -- How many of these messages have this number.
 abbrev pub posted_as : ℕ → List Posted → ℕ
@@ -247,11 +253,12 @@ is_repeating _ = false
 abbrev pub IsRepeatedOrLate : {C : Type 0} → DeskMeaning C → Posted → Type 0
 IsRepeatedOrLate d m = (IsLate d.bag m × ((step : ℕ) × WasEvaluatedAt d.log m step)) ⊎ ((one other : ℕ) × (one < other) × WasEvaluatedAt d.log m one × WasEvaluatedAt d.log m other)
 
--- What is in the bag was sent, and waits nowhere else to be evaluated; its verdict holds it, or repeats it.
+-- What is in the bag was sent, and waits nowhere else to be evaluated; its verdict holds it, or repeats it, and says when it is due.
 pub record IsOfBag {C : Type 0} (d : DeskMeaning C) (e : ℕ × Stray Posted) : Type 0 where
   pub one : IsOneSent (known_of d.log.part.own).sent e.1.message
   pub number : e.0 ≡ e.1.message.number
   pub late : is_late (verdict_of d.log e.0) ≡ true
+  pub due : e.1.due ≡ due_of (verdict_of d.log e.0) e.0
   pub gone : posted_as e.0 d.posted + posted_as e.0 d.later ≡ 0
 
 -- The numbers of messages that were lost and are not asked for yet: they rise, and each was sent, lost by its verdict, and not heard, and no reply to it waits.

@@ -1,10 +1,10 @@
 -- How an actor's list ends before its work does: where it has as many entries as it may have, or a range has, or at its stated stop; and what
 -- becomes of its messages then.
-use Rattle.std.specs.Prelude.{◌≡◌, ℕ, ◌<◌, true, false, ◌⊎◌, Some, List, [], ◌∷◌, ◌++◌, length, map, is_some, All, Contains, IsTrue, ⊤}
+use Rattle.std.specs.Prelude.{◌≡◌, ℕ, ◌<◌, ◌≤◌, Bool, true, false, ◌⊎◌, Some, List, [], ◌∷◌, ◌++◌, length, map, is_some, All, Contains, IsTrue, ⊤}
 use Rattle.pc_desk.specs.OwnLog.{verdict_of}
 use Rattle.pc_desk.specs.declared.halt.Halt.{Halt}
 use Rattle.pc_desk.specs.declared.halt.Halt.TheVariants as halts
-use Rattle.pc_desk.specs.Desk.{DeskMeaning, KeepsTrack, Posted, as_sent, is_repeating}
+use Rattle.pc_desk.specs.Desk.{DeskMeaning, KeepsTrack, Posted, as_sent, due_of, is_repeating}
 use Rattle.pc_desk.specs.Refused.{WasGivenBack}
 use Rattle.pc_history.specs.declared.pair.Pair.{Pair}
 use Rattle.pc_history.specs.declared.view.Known.{Known as KnownEntry}
@@ -13,6 +13,7 @@ use Rattle.pc_history.specs.Parts.{knowledge}
 use Rattle.pc_proto.specs.declared.event.Event.{Event}
 use Rattle.pc_proto.specs.declared.request.Request.{Request}
 use Rattle.pc_proto.specs.Requests.{is_put}
+use Rattle.pc_wire.specs.declared.verdict.Verdict.{Verdict}
 use Rattle.pc_wire.specs.declared.verdict.Verdict.TheVariants as verdicts
 use Rattle.pc_wire.specs.Verdicts.{is_late}
 use Rattle.pc_world.specs.Caused.{Evaluates}
@@ -87,13 +88,28 @@ PutsInCall k request = is_put request ≡ true → is_some k.statement ≡ true
 abbrev pub PostsInCall : {C : Type 0} → DeskMeaning C → Type 0
 PostsInCall d = All (λ m. PutsInCall (known_of d.log.part.own) m.request) d.posted
 
--- A range has as many entries as it may have, and refused this message, in an open call where it puts a write and is not late. No message was lost but those that
--- are spent so, and those that wait to be evaluated, and were not set aside, were sent later.
+-- The verdict holds the message back.
+abbrev pub holds_back : Verdict → Bool
+holds_back (verdicts.Hold later) = true
+holds_back _ = false
+
+-- The actor waited for the message: it heard no reply, the verdict does not hold it back, and a call is open where it puts a write.
+pub record WasWaitedFor {C : Type 0} (d : DeskMeaning C) (m : Sent) : Type 0 where
+  pub unheard : is_heard (known_of d.log.part.own).heard m ≡ false
+  pub unheld : holds_back (verdict_of d.log m.number) ≡ false
+  pub in_call : PutsInCall (known_of d.log.part.own) m.request
+
+-- The message is evaluated late, or a copy of it, and that is due.
+abbrev pub WasLateAndDue : {C : Type 0} → DeskMeaning C → Sent → Type 0
+WasLateAndDue d m = (is_late (verdict_of d.log m.number) ≡ true) × (due_of (verdict_of d.log m.number) m.number ≤ length (known_of d.log.part.own).sent)
+
+-- A range has as many entries as it may have, and refused this message, for which the actor waited, or what was late of it and due. No message was lost but those
+-- that are spent so, and those that wait to be evaluated, and were not set aside, were sent later.
 pub record IsAtFullRange {C : Type 0} (d : DeskMeaning C) : Type 0 where
   pub message : Sent
   pub sent : Contains (known_of d.log.part.own).sent message
   pub spent : IsSpent d message
-  pub in_call : is_late (verdict_of d.log message.number) ≡ false → PutsInCall (known_of d.log.part.own) message.request
+  pub why : WasWaitedFor d message ⊎ WasLateAndDue d message
   pub others : All (λ m. IsSpent d m ⊎ IsNotLost d m) (known_of d.log.part.own).sent
   pub waits : All (WaitsUnheard (known_of d.log.part.own)) (d.posted ++ d.later)
   pub later : All (λ p. message.number < p.number) d.posted

@@ -20,6 +20,10 @@ use Rattle.pc_wire.specs.Outbox.{is_due_by}
 abbrev pub not_due : ℕ → List (ℕ × Stray Posted) → List (ℕ × Stray Posted)
 not_due sends bag = filter (λ e. not (is_due_by sends e)) bag
 
+-- Nothing in the bag is due.
+abbrev pub NoneDue : {C : Type 0} → DeskMeaning C → Type 0
+NoneDue d = All (λ e. d.sends < e.1.due) d.bag
+
 -- All that is due was evaluated, and nobody hears the replies; the actor made no entry, and what it knew it knows still.
 pub record HasDeliveredDue {C : Type 0} (old new : DeskMeaning C) : Type 0 where
   pub own : new.log ≡ record old.log { part = record old.log.part { known = new.log.part.known } }

@@ -24,7 +24,7 @@ use Rattle.pc_desk.specs.Late.{HasDeliveredDue}
 use Rattle.pc_desk.specs.OwnLog.{LogMeaning, terms_of, verdict_of}
 use Rattle.pc_exchange.proofs.Called.{next_unsent}
 use Rattle.pc_exchange.proofs.Ending.{breaks_only, hears_within, made_by, within_then}
-use Rattle.pc_exchange.proofs.Growing.{grows_both, grows_else, grows_entered}
+use Rattle.pc_exchange.proofs.Growing.{grows_both, grows_else, grows_entered, none_due_left}
 use Rattle.pc_exchange.proofs.HeardKinds.{heard_kind, heard_possible}
 use Rattle.pc_exchange.proofs.Learned.{first_kept, heard_then}
 use Rattle.pc_exchange.proofs.Unsent.{own_before}
@@ -375,6 +375,7 @@ module _ {C : Type 0} (old mid late : DeskMeaning C) (request : Request) (number
       back = back_due;
       limit = ap (λ (d : DeskMeaning C). d.range_limit) due.rest ∙ (limit ∙ (delivered.limit ∙ sent.limit));
       later = ap (λ (d : DeskMeaning C). d.later) due.rest ∙ (later ∙ (delivered.later ∙ sent.later));
+      due = λ none. none_due_left then new due;
     }
 
   -- the exchange

@@ -1,10 +1,12 @@
 -- An actor's own list grows by entries, one behind another.
-use Rattle.std.proofs.Common.{◌≡◌, ℕ, ◌+◌, ◌<◌, ◌≤◌, false, cond, inl, inr, All, Contains, List, [], ◌∷◌, ◌++◌, map, refl, sym, ap, subst, ◌∙◌, arith}
+use Rattle.std.proofs.Common.{◌≡◌, ℕ, ◌+◌, ◌<◌, ◌≤◌, Bool, true, false, not, nat_le, cond, inl, inr, All, Contains, List, [], ◌∷◌, ◌++◌, map, refl, sym, ap, subst, ◌∙◌, arith}
+use Rattle.std.proofs.lemmas.Bool.Decides.{nat_tests}
 use Rattle.std.proofs.lemmas.List.{append-nil, append_assoc, map-append}
 use Rattle.std.proofs.lemmas.List.Elements.{All-append, All-contains, All-cons, All-nil, All-weaker, Contains-append_cases, Contains-append_left, Contains-append_right}
 use Rattle.pc_base.specs.declared.entry.Entry.{Entry}
 use Rattle.pc_desk.proofs.Making.{added, own_after}
-use Rattle.pc_desk.specs.Desk.{DeskMeaning}
+use Rattle.pc_desk.specs.Desk.{DeskMeaning, Posted}
+use Rattle.pc_desk.specs.Late.{HasDeliveredDue, NoneDue, not_due}
 use Rattle.pc_desk.specs.OwnLog.{HasEntered, LogMeaning}
 use Rattle.pc_exchange.specs.Growing.{HasAllBack, HasGoneBeside, HasGrownBy}
 use Rattle.pc_history.proofs.Callers.{knows-known, knows-own}
@@ -18,6 +20,7 @@ use Rattle.pc_proto.specs.declared.event.Event.{Event}
 use Rattle.pc_turns.specs.Clients.{RisesFrom}
 use Rattle.pc_turns.specs.Laws.{AreAboveKnown}
 use Rattle.pc_turns.specs.Order.{IsInBetween}
+use Rattle.pc_wire.specs.declared.outbox.Stray.{Stray}
 use Rattle.pc_world.specs.Run.{protocol, spends}
 
 -- The entry has a greater step than each of these.
@@ -109,7 +112,7 @@ grows_else {C} old new given known same more =
 
 -- by nothing
 pub goes_none : {C : Type 0} (d : DeskMeaning C) → HasAllBack d → HasGoneBeside d d []
-goes_none d back = record { grown = grows_none d.log; within = All-nil IsInBetween; back = back; limit = refl; later = refl }
+goes_none d back = record { grown = grows_none d.log; within = All-nil IsInBetween; back = back; limit = refl; later = refl; due = λ none. none }
 
 -- by these entries and then by those
 pub goes_both : {C : Type 0} (a b d : DeskMeaning C) (p q : List (Pair Event)) → HasGoneBeside a b p → HasGoneBeside b d q → HasGoneBeside a d (p ++ q)
@@ -119,4 +122,20 @@ goes_both a b d p q x y = record {
   back = y.back;
   limit = y.limit ∙ x.limit;
   later = y.later ∙ x.later;
+  due = λ none. y.due (x.due none);
 }
+
+-- what is left of a bag once all that is due was taken
+not-due-left : (sends : ℕ) (bag : List (ℕ × Stray Posted)) → All (λ e. sends < e.1.due) (not_due sends bag)
+not-due-left sends [] = All-nil (λ (e : ℕ × Stray Posted). sends < e.1.due)
+not-due-left sends (x ∷ xs) = by (nat_le x.1.due sends) refl (not-due-left sends xs)
+  where
+    by : (b : Bool) → nat_le x.1.due sends ≡ b → All (λ (e : ℕ × Stray Posted). sends < e.1.due) (not_due sends xs) → All (λ (e : ℕ × Stray Posted). sends < e.1.due) (not_due sends (x ∷ xs))
+    by true due left = subst (All (λ (e : ℕ × Stray Posted). sends < e.1.due)) (sym (ap (λ b. cond (not b) (x ∷ not_due sends xs) (not_due sends xs)) due)) left
+    by false ahead left =
+        let more : sends < x.1.due = grind (arith, nat_tests, ahead) in
+        subst (All (λ (e : ℕ × Stray Posted). sends < e.1.due)) (sym (ap (λ b. cond (not b) (x ∷ not_due sends xs) (not_due sends xs)) ahead))
+        (All-cons (λ (e : ℕ × Stray Posted). sends < e.1.due) x (not_due sends xs) more left)
+
+pub none_due_left : {C : Type 0} (d new : DeskMeaning C) → HasDeliveredDue d new → NoneDue new
+none_due_left {C} d new due = subst (λ (e : DeskMeaning C). NoneDue e) (sym due.rest) (not-due-left d.sends d.bag)

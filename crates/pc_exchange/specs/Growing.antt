@@ -1,6 +1,7 @@
 -- How an actor's own list goes on by entries of its own, and its desk by messages that are each evaluated and heard at once.
 use Rattle.std.specs.Prelude.{◌≡◌, [], ◌++◌, List, All, Contains}
 use Rattle.pc_desk.specs.Desk.{DeskMeaning, KeepsTrack}
+use Rattle.pc_desk.specs.Late.{NoneDue}
 use Rattle.pc_desk.specs.OwnLog.{LogMeaning}
 use Rattle.pc_history.specs.declared.pair.Pair.{Pair}
 use Rattle.pc_history.specs.declared.view.Known.{Known as KnownEntry}
@@ -36,10 +37,11 @@ pub record HasAllBack {C : Type 0} (d : DeskMeaning C) : Type 0 where
   pub lost : d.lost ≡ []
 
 -- The actor's list went on by these entries, by which no call is asked and no answer told; no message of it is on its way, what was set aside is so
--- still, and of the bag what was due by then was evaluated.
+-- still, and where nothing in the bag was due, nothing is then.
 pub record HasGoneBeside {C : Type 0} (old new : DeskMeaning C) (part : List (Pair Event)) : Type 0 where
   pub grown : HasGrownBy old.log new.log part
   pub within : All IsInBetween (events_of part)
   pub back : HasAllBack new
   pub limit : new.range_limit ≡ old.range_limit
   pub later : new.later ≡ old.later
+  pub due : NoneDue old → NoneDue new

@@ -1,9 +1,10 @@
 -- A recoverer is between its rounds once it knows a mark, and once it made a round or halted.
-use Rattle.std.proofs.Common.{◌≡◌, ℕ, true, false, List, Result, Ok, Err, IfErr, OnOk, sym, ap, ◌∙◌}
+use Rattle.std.proofs.Common.{◌≡◌, ℕ, true, false, List, Result, Ok, Err, IfErr, OnOk, sym, ap, subst, ◌∙◌}
 use Rattle.pc_base.specs.declared.actor.ActorId.TheVariants as actors
 use Rattle.pc_base.specs.declared.transaction.Priority.{Priority}
 use Rattle.pc_desk.specs.declared.halt.Halt.{Halt}
 use Rattle.pc_desk.specs.Desk.{DeskMeaning, HasHalted, KeepsTrack}
+use Rattle.pc_desk.specs.Late.{NoneDue}
 use Rattle.pc_desk.specs.OwnLog.{LogMeaning}
 use Rattle.pc_history.specs.declared.view.Known.{Known as KnownEntry}
 use Rattle.pc_history.specs.Parts.{told}
@@ -31,6 +32,8 @@ module _ {C : Type 0} (number : ℕ) (level : Priority) (d e : DeskMeaning C) wh
               replies = ap (λ (d : DeskMeaning C). d.replies) is ∙ old.back.replies;
               lost = ap (λ (d : DeskMeaning C). d.lost) is ∙ old.back.lost;
             };
+            aside = ap (λ (d : DeskMeaning C). d.later) is ∙ old.aside;
+            due = subst (λ (d : DeskMeaning C). NoneDue d) (sym is) old.due;
             closed = ap (λ (d : DeskMeaning C). (known_of d.log.part.own).statement) is ∙ old.closed;
             unbegun = ap (λ (d : DeskMeaning C). (known_of d.log.part.own).txns) is ∙ old.unbegun;
           };

@@ -15,7 +15,7 @@ use Rattle.pc_desk.specs.Keeping.{KeepsAs}
 use Rattle.pc_desk.specs.Late.{HasDeliveredDue}
 use Rattle.pc_desk.specs.OwnLog.{LogMeaning, terms_of, verdict_of}
 use Rattle.pc_exchange.proofs.Called.{next_unsent}
-use Rattle.pc_exchange.proofs.Growing.{grows_both, grows_else, grows_entered, grows_none}
+use Rattle.pc_exchange.proofs.Growing.{grows_both, grows_else, grows_entered, grows_none, none_due_left}
 use Rattle.pc_exchange.proofs.HeardKinds.{heard_kind, heard_possible}
 use Rattle.pc_exchange.proofs.Learned.{heard_then}
 use Rattle.pc_exchange.specs.Exchange.{HasOneOut, WasHeardLast, WasLostLast, heard_pair, sent_pair}
@@ -227,6 +227,7 @@ module _ {C : Type 0} (old mid late : DeskMeaning C) (request : Request) (number
           };
           limit = ap (λ (d : DeskMeaning C). d.range_limit) due.rest ∙ (was.heard.limit ∙ (delivered.limit ∙ sent.limit));
           later = ap (λ (d : DeskMeaning C). d.later) due.rest ∙ (was.heard.later ∙ (delivered.later ∙ sent.later));
+          due = λ none. none_due_left done new due;
         }
 
     -- it was heard
@@ -280,6 +281,7 @@ module _ {C : Type 0} (old mid late : DeskMeaning C) (request : Request) (number
             };
             limit = ap (λ (d : DeskMeaning C). d.range_limit) due.rest ∙ (ap (λ (d : DeskMeaning C). d.range_limit) was.taken.rest ∙ (delivered.limit ∙ sent.limit));
             later = ap (λ (d : DeskMeaning C). d.later) due.rest ∙ (ap (λ (d : DeskMeaning C). d.later) was.taken.rest ∙ (delivered.later ∙ sent.later));
+            due = λ none. none_due_left done new due;
           };
           loses = sym (ap (λ v. is_losing (v next)) verdict-late) ∙ (sym (ap (λ n. is_losing (verdict_of late.log n)) (lost-is was.number lost-there ∙ next-is)) ∙ loses);
         }

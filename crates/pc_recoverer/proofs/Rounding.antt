@@ -12,6 +12,7 @@ use Rattle.pc_desk.specs.declared.halt.Halt.TheVariants as halts
 use Rattle.pc_desk.specs.Desk.{DeskMeaning, HasDone, KeepsTrack}
 use Rattle.pc_desk.specs.Ending.{EndsOnly}
 use Rattle.pc_desk.specs.Keeping.{KeepsNext}
+use Rattle.pc_desk.specs.Late.{NoneDue}
 use Rattle.pc_desk.specs.OwnLog.{LogMeaning, MayEnter, terms_of}
 use Rattle.pc_exchange.proofs.Ending.{made_by}
 use Rattle.pc_exchange.proofs.Growing.{grows_both, grows_entered, grows_none}
@@ -175,6 +176,8 @@ module _ {C : Type 0} (number : ℕ) (level : Priority) (reading : ℕ) (old d :
       replies = ap (λ (x : DeskMeaning C). x.replies) done.rest ∙ between.back.replies;
       lost = ap (λ (x : DeskMeaning C). x.lost) done.rest ∙ between.back.lost;
     };
+    aside = ap (λ (x : DeskMeaning C). x.later) done.rest ∙ between.aside;
+    due = subst (λ (x : DeskMeaning C). NoneDue x) (sym done.rest) between.due;
     whose = ap (λ (l : LogMeaning C). l.part.id) done.entered.stored ∙ whose;
     opened = ap (λ (k : Known). k.statement) learnt;
     unbegun = ap (λ (k : Known). k.txns) learnt ∙ between.unbegun;
@@ -270,6 +273,8 @@ module _ {C : Type 0} (number : ℕ) (level : Priority) (reading : ℕ) (old d :
                 replies = ap (λ (x : DeskMeaning C). x.replies) told.rest ∙ making-late.back.replies;
                 lost = ap (λ (x : DeskMeaning C). x.lost) told.rest ∙ making-late.back.lost;
               };
+              aside = ap (λ (x : DeskMeaning C). x.later) told.rest ∙ making-late.aside;
+              due = subst (λ (x : DeskMeaning C). NoneDue x) (sym told.rest) making-late.due;
               closed = ap (λ (k : Known). k.statement) known;
               unbegun = ap (λ (k : Known). k.txns) known ∙ none-told (known_of late.log.part.own) making-late.unbegun;
             };

@@ -60,10 +60,10 @@ stays-step statement event h top high k message low stays = absurd cc
 pub stays_later : (statement : Option Statement) (since now : Known) → IsLater since now → (since.statement ≡ statement) × (since.txns ≡ []) → (now.statement ≡ statement) × (now.txns ≡ [])
 stays_later statement since now later stays = kept_later (StaysAt statement) (stays-step statement) since now later stays
 
-pub making_later : {C : Type 0} (d new : DeskMeaning C) (part : List (Pair Event)) → HasGrownBy d.log new.log part → HasAllBack new → IsLater (known_of d.log.part.own) (known_of new.log.part.own) → (maker : RoundMaker) → IsMakingRound maker d → IsMakingRound maker new
-making_later {C} d new part grown back later maker making =
+pub making_later : {C : Type 0} (d new : DeskMeaning C) (part : List (Pair Event)) → HasGoneBeside d new part → IsLater (known_of d.log.part.own) (known_of new.log.part.own) → (maker : RoundMaker) → IsMakingRound maker d → IsMakingRound maker new
+making_later {C} d new part goes later maker making =
     let stays = stays_later _ (known_of d.log.part.own) (known_of new.log.part.own) later (making.opened, making.unbegun) in
-    record { back = back; whose = ap (λ (l : LogMeaning C). l.part.id) grown.rest ∙ making.whose; opened = stays.0; unbegun = stays.1 }
+    record { back = goes.back; aside = goes.later ∙ making.aside; due = goes.due making.due; whose = ap (λ (l : LogMeaning C). l.part.id) goes.grown.rest ∙ making.whose; opened = stays.0; unbegun = stays.1 }
 
 -- ---- one exchange
 
@@ -98,7 +98,7 @@ module _ {C : Type 0} (d new : DeskMeaning C) (request : Request) (reply : Reply
 
   -- the round goes on
   pub still_making : (maker : RoundMaker) → IsMakingRound maker d → IsMakingRound maker new
-  still_making maker making = making_later d new (x.some.lost ++ once-part) goes-all.grown goes-all.back later_by maker making
+  still_making maker making = making_later d new (x.some.lost ++ once-part) goes-all later_by maker making
 
   -- the message was made
   pub made_one : (request ≡ requests.Records → EachSendsTo x.once.range request x.some.lost) → HasMadeTraffic d new (message_of ∷ [])
@@ -139,7 +139,7 @@ module _ {C : Type 0} (d new : DeskMeaning C) (request : Request) (range : ℕ) 
         each = exchange_alone s given_up_of x.some.lost
             (record { losses = x.some.lost; end = []; whole = sym (append-nil x.some.lost); lost = subst (λ n. AreSentInVain s given_up_of n x.some.lost) x.all lost; ends = (refl, refl) });
         later = only-sent.later;
-        stays = making_later d new x.some.lost x.some.goes.grown x.some.goes.back only-sent.later;
+        stays = making_later d new x.some.lost x.some.goes only-sent.later;
       }
 
 -- ---- none, and several

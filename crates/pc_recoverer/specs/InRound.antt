@@ -4,6 +4,7 @@ use Rattle.pc_base.specs.declared.actor.ActorId.{ActorId}
 use Rattle.pc_base.specs.declared.actor.ActorId.TheVariants as actors
 use Rattle.pc_base.specs.declared.transaction.TxnId.{TxnId}
 use Rattle.pc_desk.specs.Desk.{DeskMeaning, HasSentNext}
+use Rattle.pc_desk.specs.Late.{NoneDue}
 use Rattle.pc_desk.specs.OwnLog.{LogMeaning, verdict_of}
 use Rattle.pc_exchange.specs.Exchange.{HasLostAll, HasLostSome, WasExchanged, WasExchangedOnce, sent_pair}
 use Rattle.pc_exchange.specs.Growing.{HasAllBack, HasGoneBeside}
@@ -84,9 +85,11 @@ pub record WasLostWith {C : Type 0} (range : ℕ) (old new : DeskMeaning C) (req
   pub lost : HasLostAll old new request
   pub there : EachSendsTo range request lost.some.lost
 
--- The recoverer is in this round, no message of it is on its way, and it began no transaction.
+-- The recoverer is in this round, no message of it is on its way or set aside, nothing in its bag is due, and it began no transaction.
 pub record IsMakingRound {C : Type 0} (maker : RoundMaker) (d : DeskMeaning C) : Type 0 where
   pub back : HasAllBack d
+  pub aside : d.later ≡ []
+  pub due : NoneDue d
   pub whose : d.log.part.id ≡ actors.Recoverer maker.number
   pub opened : (known_of d.log.part.own).statement ≡ Some (record { call = calls.Round; reading = maker.reading })
   pub unbegun : (known_of d.log.part.own).txns ≡ []

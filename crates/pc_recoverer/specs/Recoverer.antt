@@ -3,6 +3,7 @@ use Rattle.std.specs.Prelude.{◌≡◌, ℕ, false, None, List, []}
 use Rattle.pc_base.specs.declared.actor.ActorId.TheVariants as actors
 use Rattle.pc_base.specs.declared.transaction.Priority.{Priority}
 use Rattle.pc_desk.specs.Desk.{DeskMeaning}
+use Rattle.pc_desk.specs.Late.{NoneDue}
 use Rattle.pc_exchange.specs.Growing.{HasAllBack, HasGrownBy}
 use Rattle.pc_history.specs.declared.pair.Pair.{Pair}
 use Rattle.pc_proto.specs.declared.event.Event.{Event}
@@ -16,9 +17,12 @@ pub record RecovererMeaning (C : Type 0) : Type 0 where
   pub number : ℕ
   pub level : Priority
 
--- The recoverer is between its rounds: no message of it is on its way, no round is open, and it began no transaction.
+-- The recoverer is between its rounds: no message of it is on its way or set aside, nothing in its bag is due, no round is open, and it began no
+-- transaction.
 pub record IsBetweenRounds {C : Type 0} (d : DeskMeaning C) : Type 0 where
   pub back : HasAllBack d
+  pub aside : d.later ≡ []
+  pub due : NoneDue d
   pub closed : (known_of d.log.part.own).statement ≡ None
   pub unbegun : (known_of d.log.part.own).txns ≡ []
 

@@ -9,7 +9,6 @@ use Rattle.pc_base.specs.declared.transaction.Priority.{Priority}
 use Rattle.pc_desk.specs.declared.halt.Halt.{Halt}
 use Rattle.pc_desk.specs.declared.halt.Halt.TheVariants as halts
 use Rattle.pc_desk.specs.OwnLog.{LogMeaning, verdict_of}
-use Rattle.pc_exchange.proofs.Called.{all_heard_ever}
 use Rattle.pc_exchange.specs.Ending.{HasBrokenOff, IsEndedBy}
 use Rattle.pc_history.specs.declared.pair.Pair.{Pair}
 use Rattle.pc_proto.specs.declared.event.Event.{Event}
@@ -20,14 +19,14 @@ use Rattle.pc_recoverer.specs.Recoverer.{RecovererMeaning}
 use Rattle.pc_recoverer.specs.Round.{IsWholeRound}
 use Rattle.pc_rounds.proofs.Events.{ended_events, ended_round, heard_asks, whole_asks, whole_events}
 use Rattle.pc_rounds.proofs.Making.{made_left}
+use Rattle.pc_rounds.proofs.Served.{none_ends}
 use Rattle.pc_rounds.specs.Counted.{AsksOnlyRounds, CountedMeaning, GoesInRounds, GoesOnInRounds, HasMadeNext, entries_made}
 use Rattle.pc_rounds.specs.Made.{AreWholeRounds, StopsBefore}
+use Rattle.pc_scripted.proofs.Saying.{says_before}
 use Rattle.pc_scripted.proofs.Tests.{has_ended_now, no_room, only_at_limit}
 use Rattle.pc_scripted.specs.Ended.{SaysHeldUp, list_has_ended}
 use Rattle.pc_turns.specs.Order.{MakesRoundAfter, MakesRoundIfLeft, UnlessEnded, rounds_asked}
 use Rattle.pc_world.specs.Known.Traffic.{Sent}
-use Rattle.pc_desk.specs.Keeping.{LosesNothing}
-use Rattle.pc_wire.specs.Verdicts.{is_losing}
 
 -- what ended the list, where memory was not wanted
 ended_off : (halt : Halt) (So : Type 0) → (halt ≡ halts.NoMemory → ⊥) → IsEndedBy halt So → So
@@ -122,25 +121,28 @@ module _ {C : Type 0} (old : CountedMeaning C) (new : RecovererMeaning C) (count
   }
 
   -- the list has ended
-  ended-then : (held : Sent → Bool) → SaysHeldUp held new.desk → list_has_ended old.recoverer.desk.log.limit old.recoverer.desk.log.stop held (entries_made old ++ part) ≡ true
+  ended-then : (held : Sent → Bool) → SaysHeldUp held new.desk → list_has_ended old.recoverer.desk.log.limit old.recoverer.desk.log.stop (verdict_of old.recoverer.desk.log) held (entries_made old ++ part) ≡ true
   ended-then held says =
-      subst (λ own. list_has_ended old.recoverer.desk.log.limit old.recoverer.desk.log.stop held own ≡ true) broke.own
-      (subst (λ n. list_has_ended n old.recoverer.desk.log.stop held new.desk.log.part.own ≡ true) limit-then
-      (subst (λ stop. list_has_ended new.desk.log.limit stop held new.desk.log.part.own ≡ true) stop-then (has_ended_now new.desk held says broke.end)))
+      let verdict : verdict_of new.desk.log ≡ verdict_of old.recoverer.desk.log = log-is (λ l. verdict_of l ≡ verdict_of old.recoverer.desk.log) refl in
+      subst (λ own. list_has_ended old.recoverer.desk.log.limit old.recoverer.desk.log.stop (verdict_of old.recoverer.desk.log) held own ≡ true) broke.own
+      (subst (λ v. list_has_ended old.recoverer.desk.log.limit old.recoverer.desk.log.stop v held new.desk.log.part.own ≡ true) verdict
+      (subst (λ n. list_has_ended n old.recoverer.desk.log.stop (verdict_of new.desk.log) held new.desk.log.part.own ≡ true) limit-then
+      (subst (λ stop. list_has_ended new.desk.log.limit stop (verdict_of new.desk.log) held new.desk.log.part.own ≡ true) stop-then (has_ended_now new.desk held says broke.end))))
 
-  lossless : (held : Sent → Bool) → SaysHeldUp held new.desk → LosesNothing (verdict_of old.recoverer.desk.log)
-  lossless held says n = ap is_losing (sym (log-is (λ l. verdict_of l n ≡ verdict_of old.recoverer.desk.log n) refl) ∙ says.delivers n)
+  says-then : (held : Sent → Bool) → SaysHeldUp held new.desk → SaysHeldUp held old.recoverer.desk
+  says-then held says =
+      says_before held old.recoverer.desk new.desk broke.part broke.limit (log-is (λ l. l.part.id ≡ old.recoverer.desk.log.part.id) refl) (log-is (λ l. l.wire ≡ old.recoverer.desk.log.wire) refl) broke.own broke.known says
 
-  makes-so : (held : Sent → Bool) → SaysHeldUp held new.desk → (b : Bool) → list_has_ended old.recoverer.desk.log.limit old.recoverer.desk.log.stop held (entries_made old) ≡ b
-      → MakesRoundAfter (list_has_ended old.recoverer.desk.log.limit old.recoverer.desk.log.stop held) old.rounds old.recoverer.number (entries_made old) part
+  makes-so : (held : Sent → Bool) → SaysHeldUp held new.desk → (b : Bool) → list_has_ended old.recoverer.desk.log.limit old.recoverer.desk.log.stop (verdict_of old.recoverer.desk.log) held (entries_made old) ≡ b
+      → MakesRoundAfter (list_has_ended old.recoverer.desk.log.limit old.recoverer.desk.log.stop (verdict_of old.recoverer.desk.log) held) old.rounds old.recoverer.number (entries_made old) part
   makes-so held says true is =
-      let ended = list_has_ended old.recoverer.desk.log.limit old.recoverer.desk.log.stop held in
+      let ended = list_has_ended old.recoverer.desk.log.limit old.recoverer.desk.log.stop (verdict_of old.recoverer.desk.log) held in
       let none : part ≡ [] = no_room old.recoverer.desk.log.limit (entries_made old) part
-      (only_at_limit old.recoverer.desk.log.limit old.recoverer.desk.log.stop held (entries_made old) (goes.between.back.track.log.before_stop going) goes.between.closed (all_heard_ever old.recoverer.desk goes.between.back (lossless held says)) is)
+      (only_at_limit old.recoverer.desk.log.limit old.recoverer.desk.log.stop (verdict_of old.recoverer.desk.log) held (entries_made old) (goes.between.back.track.log.before_stop going) (none_ends old.recoverer.desk goes.between held (says-then held says)) is)
       (subst (λ own. length own ≤ old.recoverer.desk.log.limit) broke.own (subst (λ n. length new.desk.log.part.own ≤ n) limit-then broke.within)) in
       subst (λ b. UnlessEnded b part (MakesRoundIfLeft ended old.recoverer.number (nat_lt (rounds_asked (entries_made old)) old.rounds) (entries_made old) part)) (sym is) none
   makes-so held says false is =
-      let ended = list_has_ended old.recoverer.desk.log.limit old.recoverer.desk.log.stop held in
+      let ended = list_has_ended old.recoverer.desk.log.limit old.recoverer.desk.log.stop (verdict_of old.recoverer.desk.log) held in
       let some : part ≡ [] → ⊥ = λ none. (
       let now : ended (entries_made old) ≡ true = ap ended (sym (append-nil (entries_made old)) ∙ ap (λ p. entries_made old ++ p) (sym none)) ∙ ended-then held says in
       let e : true ≡ false = sym now ∙ is in absurd cc) in
@@ -173,7 +175,7 @@ module _ {C : Type 0} (old : CountedMeaning C) (new : RecovererMeaning C) (count
       above = broke.above;
       known = broke.known;
     };
-    is = λ held says. makes-so held says (list_has_ended old.recoverer.desk.log.limit old.recoverer.desk.log.stop held (entries_made old)) refl;
+    is = λ held says. makes-so held says (list_has_ended old.recoverer.desk.log.limit old.recoverer.desk.log.stop (verdict_of old.recoverer.desk.log) held (entries_made old)) refl;
     onward = λ still more. let e : true ≡ false = sym (log-is (λ l. l.stopped ≡ true) refl) ∙ still in absurd cc;
   }
 

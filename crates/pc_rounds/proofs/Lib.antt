@@ -2,3 +2,4 @@ pub mod Breaking
 pub mod Events
 pub mod Making
 pub mod Resting
+pub mod Served

@@ -3,19 +3,20 @@ use Rattle.std.proofs.Common.{◌≡◌, ℕ, suc, ◌+◌, ◌<◌, ◌≤◌, 
 use Rattle.std.proofs.lemmas.List.Elements.{All-append}
 use Rattle.pc_base.specs.declared.actor.ActorId.TheVariants as actors
 use Rattle.pc_desk.specs.OwnLog.{LogMeaning, verdict_of}
-use Rattle.pc_exchange.proofs.Called.{all_heard_ever}
 use Rattle.pc_history.specs.declared.pair.Pair.{Pair}
 use Rattle.pc_proto.specs.declared.event.Event.{Event}
 use Rattle.pc_recoverer.specs.Exchanges.{Sending}
 use Rattle.pc_recoverer.specs.InRound.{sending_of}
 use Rattle.pc_recoverer.specs.Recoverer.{HasMadeWholeRound, RecovererMeaning}
 use Rattle.pc_rounds.proofs.Events.{one_more_round, some_left, whole_asks, whole_events}
+use Rattle.pc_rounds.proofs.Served.{none_ends}
 use Rattle.pc_rounds.specs.Counted.{AsksOnlyRounds, CountedMeaning, GoesInRounds, GoesOnInRounds, HasMadeNext, entries_made}
 use Rattle.pc_rounds.specs.Made.{AreWholeRounds}
+use Rattle.pc_scripted.proofs.Saying.{says_before}
 use Rattle.pc_scripted.proofs.Tests.{not_ended, some_room}
-use Rattle.pc_scripted.specs.Ended.{list_has_ended}
+use Rattle.pc_scripted.specs.Ended.{SaysHeldUp, list_has_ended}
 use Rattle.pc_turns.specs.Order.{MakesRoundAfter, MakesRoundIfLeft, UnlessEnded, rounds_asked}
-use Rattle.pc_wire.specs.Verdicts.{is_losing}
+use Rattle.pc_world.specs.Known.Traffic.{Sent}
 
 -- a part that is made of a round that was left
 pub made_left : (ended : List (Pair Event) → Bool) (rounds number : ℕ) (mine part : List (Pair Event)) → ended mine ≡ false → rounds_asked mine < rounds → MakesRoundIfLeft ended number true mine part → MakesRoundAfter ended rounds number mine part
@@ -80,6 +81,10 @@ module _ {C : Type 0} (old : CountedMeaning C) (new : RecovererMeaning C) (made 
       some_room old.recoverer.desk.log.limit (entries_made old) h.part some-part
       (subst (λ own. length own ≤ old.recoverer.desk.log.limit) h.grown.own (subst (λ n. length new.desk.log.part.own ≤ n) limit-then h.between.back.track.log.within))
 
+  says-then : (held : Sent → Bool) → SaysHeldUp held new.desk → SaysHeldUp held old.recoverer.desk
+  says-then held says =
+      says_before held old.recoverer.desk new.desk h.part h.limit (log-is (λ l. l.part.id ≡ old.recoverer.desk.log.part.id) refl) (log-is (λ l. l.wire ≡ old.recoverer.desk.log.wire) refl) h.grown.own h.grown.known says
+
   pub made_round : HasMadeNext old then
   made_round = record {
     part = h.part;
@@ -104,9 +109,8 @@ module _ {C : Type 0} (old : CountedMeaning C) (new : RecovererMeaning C) (made 
     };
     is = λ held says.
         let before = goes.counted in
-        made_left (list_has_ended old.recoverer.desk.log.limit old.recoverer.desk.log.stop held) old.rounds old.recoverer.number (entries_made old) h.part
-        (not_ended old.recoverer.desk.log.limit old.recoverer.desk.log.stop held (entries_made old) (goes.between.back.track.log.before_stop going) goes.between.closed (all_heard_ever old.recoverer.desk goes.between.back
-        (λ n. ap is_losing (sym (log-is (λ l. verdict_of l n ≡ verdict_of old.recoverer.desk.log n) refl) ∙ says.delivers n))) room) (omega arith)
+        made_left (list_has_ended old.recoverer.desk.log.limit old.recoverer.desk.log.stop (verdict_of old.recoverer.desk.log) held) old.rounds old.recoverer.number (entries_made old) h.part
+        (not_ended old.recoverer.desk.log.limit old.recoverer.desk.log.stop (verdict_of old.recoverer.desk.log) held (entries_made old) (goes.between.back.track.log.before_stop going) (none_ends old.recoverer.desk goes.between held (says-then held says)) room) (omega arith)
         (inl (whole_events (sending_of old.recoverer.desk.log) old.recoverer.desk.log.head.splits old.recoverer.number old.recoverer.level h.part h.whole));
     onward = λ still more. (going, is);
   }

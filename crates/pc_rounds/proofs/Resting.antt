@@ -5,7 +5,7 @@ use Rattle.std.proofs.lemmas.List.{append-nil}
 use Rattle.std.proofs.lemmas.List.Elements.{All-append, All-nil}
 use Rattle.pc_base.specs.declared.actor.ActorId.TheVariants as actors
 use Rattle.pc_base.specs.declared.entry.Entry.{Entry}
-use Rattle.pc_desk.specs.OwnLog.{LogMeaning}
+use Rattle.pc_desk.specs.OwnLog.{LogMeaning, verdict_of}
 use Rattle.pc_exchange.proofs.Growing.{grows_both}
 use Rattle.pc_exchange.specs.Growing.{HasGrownBy}
 use Rattle.pc_history.specs.declared.pair.Pair.{Pair}
@@ -55,7 +55,7 @@ module _ {C : Type 0} (r : CountedMeaning C) (counted : GoesInRounds r) where
     part = [];
     by = gone_none;
     is = λ held says.
-        let ended = list_has_ended r.recoverer.desk.log.limit r.recoverer.desk.log.stop held in
+        let ended = list_has_ended r.recoverer.desk.log.limit r.recoverer.desk.log.stop (verdict_of r.recoverer.desk.log) held in
         let over : ended (entries_made r) ≡ true = has_ended_now r.recoverer.desk held says (counted.ends stopped).end in
         subst (λ b. UnlessEnded b [] (MakesRoundIfLeft ended r.recoverer.number (nat_lt (rounds_asked (entries_made r)) r.rounds) (entries_made r) [])) (sym over) refl;
     onward = λ still more. let e : true ≡ false = sym stopped ∙ still in absurd cc;
@@ -66,7 +66,7 @@ module _ {C : Type 0} (r : CountedMeaning C) (counted : GoesInRounds r) where
     part = [];
     by = gone_none;
     is = λ held says.
-        let ended = list_has_ended r.recoverer.desk.log.limit r.recoverer.desk.log.stop held in
+        let ended = list_has_ended r.recoverer.desk.log.limit r.recoverer.desk.log.stop (verdict_of r.recoverer.desk.log) held in
         let before = (counted.goes going).counted in
         by ended (ended (entries_made r)) (none_left (rounds_asked (entries_made r)) r.rounds (omega arith));
     onward = λ still more. absurd (omega arith);

@@ -1,9 +1,9 @@
 -- A recoverer that makes so many rounds and no more: how it stands between its turns, and what each turn makes. Own profile.
 use Rattle.std.specs.Prelude.{◌≡◌, ℕ, ◌+◌, ◌<◌, ◌≤◌, ◌⊎◌, Bool, false, true, List, ◌++◌, length, All, Contains, ⊤}
-use Rattle.pc_desk.specs.OwnLog.{verdict_of}
 use Rattle.pc_base.specs.declared.actor.ActorId.TheVariants as actors
 use Rattle.pc_desk.specs.Desk.{GivesByVerdicts}
 use Rattle.pc_desk.specs.Ending.{EndsEarly}
+use Rattle.pc_desk.specs.OwnLog.{verdict_of}
 use Rattle.pc_history.specs.declared.pair.Pair.{Pair}
 use Rattle.pc_history.specs.declared.view.Known.{Known as KnownEntry}
 use Rattle.pc_history.specs.Parts.{knowledge}
@@ -88,7 +88,7 @@ pub record HasMadeNext {C : Type 0} (old new : CountedMeaning C) : Type 0 where
   pub by : HasGoneInRounds old new part
   pub is :
       (held : Sent → Bool) → SaysHeldUp held new.recoverer.desk
-      → MakesRoundAfter (list_has_ended old.recoverer.desk.log.limit old.recoverer.desk.log.stop held) old.rounds old.recoverer.number (entries_made old) part
+      → MakesRoundAfter (list_has_ended old.recoverer.desk.log.limit old.recoverer.desk.log.stop (verdict_of old.recoverer.desk.log) held) old.rounds old.recoverer.number (entries_made old) part
   pub onward : new.recoverer.desk.log.stopped ≡ false → new.made < new.rounds → (old.recoverer.desk.log.stopped ≡ false) × (new.made ≡ old.made + 1)
 
 -- The recoverer made the rounds that were left.

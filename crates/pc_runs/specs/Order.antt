@@ -6,6 +6,7 @@ use Rattle.pc_proto.specs.declared.call.Call.{Call}
 use Rattle.pc_proto.specs.declared.event.Event.{Event}
 use Rattle.pc_script.specs.Script.{next_call, script_position}
 use Rattle.pc_scripted.specs.Ended.{list_has_ended}
+use Rattle.pc_runs.specs.Wires.{verdicts_in}
 use Rattle.pc_scripted.specs.Taking.{are_items_over}
 use Rattle.pc_turns.specs.Order.{GoInTurns, GoOnThreads, entries_by}
 use Rattle.pc_work.specs.declared.recoverer.RecovererWork.{RecovererWork}
@@ -41,7 +42,7 @@ stop_of_work (Some session) = session.stop
 
 -- After these entries of its own the list of the session of this number has ended; this says which messages of whom are held up.
 abbrev pub ended_in_work : Workload → (ActorId → Sent → Bool) → ℕ → List (Pair Event) → Bool
-ended_in_work work held number own = list_has_ended work.limit (stop_of_work (slice_get work.sessions (number - 1))) (held (actors.Session number)) own
+ended_in_work work held number own = list_has_ended work.limit (stop_of_work (slice_get work.sessions (number - 1))) (verdicts_in work (actors.Session number)) (held (actors.Session number)) own
 
 -- The number of entries that is stated for a recoverer's stop, if one is; none where the workload has no such recoverer.
 abbrev pub recoverer_stop : Option RecovererWork → Option ℕ
@@ -50,7 +51,7 @@ recoverer_stop (Some recoverer) = recoverer.stop
 
 -- After these entries of its own the list of the recoverer of this number has ended; this says which messages of whom are held up.
 abbrev pub recoverer_ended_in_work : Workload → (ActorId → Sent → Bool) → ℕ → List (Pair Event) → Bool
-recoverer_ended_in_work work held number own = list_has_ended work.limit (recoverer_stop (slice_get work.recoverers (number - 1))) (held (actors.Recoverer number)) own
+recoverer_ended_in_work work held number own = list_has_ended work.limit (recoverer_stop (slice_get work.recoverers (number - 1))) (verdicts_in work (actors.Recoverer number)) (held (actors.Recoverer number)) own
 
 -- How many rounds a recoverer makes; none where the workload has no such recoverer.
 abbrev pub rounds_of_work : Option RecovererWork → ℕ

@@ -1,5 +1,5 @@
 -- A session that asked its script's next call and was told its answer.
-use Rattle.std.proofs.Common.{◌≡◌, ℕ, ◌<◌, ◌≤◌, Bool, false, true, All, [], ◌∷◌, ◌++◌, length, Some, refl, sym, ap, subst, ◌∙◌}
+use Rattle.std.proofs.Common.{◌≡◌, ℕ, ◌<◌, ◌≤◌, false, true, All, [], ◌∷◌, ◌++◌, length, Some, refl, sym, ap, subst, ◌∙◌}
 use Rattle.std.proofs.lemmas.List.Elements.{All-append}
 use Rattle.pc_base.specs.declared.actor.ActorId.TheVariants as actors
 use Rattle.pc_desk.specs.OwnLog.{LogMeaning, verdict_of}
@@ -12,18 +12,15 @@ use Rattle.pc_script.specs.Script.{Position, after_told, next_call, script_posit
 use Rattle.pc_script.specs.Suiting.{FitsCalls}
 use Rattle.pc_scripted.proofs.Passing.{order_told, position_told}
 use Rattle.pc_scripted.proofs.Telling.{fits_told, told_reruns}
+use Rattle.pc_scripted.proofs.AtRest.{rest_ends_none}
 use Rattle.pc_scripted.proofs.Tests.{not_ended, some_room}
 use Rattle.pc_scripted.proofs.Turning.{asks_whole}
-use Rattle.pc_scripted.specs.Ended.{SaysHeldUp, ended_in_script}
+use Rattle.pc_scripted.specs.Ended.{ended_in_script}
 use Rattle.pc_scripted.specs.Scripted.{AskInOrder, GoesOnInScript, IsScripted, ScriptedMeaning, next_in_script, own_number, own_list, session_number}
 use Rattle.pc_scripted.specs.Taking.{AsksInTurn, HasMoved}
 use Rattle.pc_session.specs.Calls.{HasCalled}
 use Rattle.pc_session.specs.Session.{SessionMeaning}
 use Rattle.pc_turns.specs.Order.{AsksWhole, events_of}
-use Rattle.pc_scripted.proofs.Quiet.{all_heard}
-use Rattle.pc_wire.specs.declared.verdict.Verdict.TheVariants as verdicts
-use Rattle.pc_wire.specs.Verdicts.{verdict_by}
-use Rattle.pc_world.specs.Known.Traffic.{Sent}
 
 module _ {C : Type 0} (old : ScriptedMeaning C) (new : SessionMeaning C) (at : Position) (call : Call) (answer : Answer) (scripted : IsScripted old) (going : old.session.desk.log.stopped ≡ false) (next : next_call old.at ≡ Some call)
     (called : HasCalled old.session new call answer) (told : at ≡ after_told answer old.at) where
@@ -103,12 +100,6 @@ module _ {C : Type 0} (old : ScriptedMeaning C) (new : SessionMeaning C) (at : P
       some_room old.session.desk.log.limit (own_list old) called.part some-part
       (subst (λ own. length own ≤ old.session.desk.log.limit) called.grown.own (subst (λ n. length new.desk.log.part.own ≤ n) limit-then called.rest.any.track.log.within))
 
-  wire-then : new.desk.log.wire ≡ old.session.desk.log.wire
-  wire-then = log-is (λ l. l.wire ≡ old.session.desk.log.wire) refl
-
-  delivers-then : (held : Sent → Bool) → SaysHeldUp held new.desk → (n : ℕ) → verdict_of old.session.desk.log n ≡ verdicts.Deliver
-  delivers-then held says n = sym (ap (λ w. verdict_by w n) wire-then) ∙ says.delivers n
-
   pub moved_asked : HasMoved (AsksInTurn old) old then
   moved_asked = record {
     part = called.part;
@@ -123,7 +114,7 @@ module _ {C : Type 0} (old : ScriptedMeaning C) (new : SessionMeaning C) (at : P
         piped = log-is (λ l. l.pipelining ≡ old.session.desk.log.pipelining) refl;
         beside = log-is (λ l. l.beside ≡ old.session.desk.log.beside) refl;
         stop = log-is (λ l. l.stop ≡ old.session.desk.log.stop) refl;
-        wire = wire-then;
+        wire = log-is (λ l. l.wire ≡ old.session.desk.log.wire) refl;
         tries = log-is (λ l. l.tries ≡ old.session.desk.log.tries) refl;
         range_limit = called.limit;
       };
@@ -133,6 +124,6 @@ module _ {C : Type 0} (old : ScriptedMeaning C) (new : SessionMeaning C) (at : P
       above = called.grown.above;
       known = called.grown.known;
     };
-    is = λ held says. asks_whole (next_in_script reruns old.script) (ended_in_script old.session.desk.log.limit old.session.desk.log.stop held) (own_number old) (own_list old) called.part
-        (not_ended old.session.desk.log.limit old.session.desk.log.stop held (own_list old) (goes.rest.any.track.log.before_stop going) goes.rest.any.closed (all_heard old.session (delivers-then held says) goes.rest) room) call next-here whole-call;
+    is = λ held says plain. asks_whole (next_in_script reruns old.script) (ended_in_script old.session.desk.log.limit old.session.desk.log.stop (verdict_of old.session.desk.log) held) (own_number old) (own_list old) called.part
+        (not_ended old.session.desk.log.limit old.session.desk.log.stop (verdict_of old.session.desk.log) held (own_list old) (goes.rest.any.track.log.before_stop going) (rest_ends_none old.session held plain goes.rest) room) call next-here whole-call;
   }

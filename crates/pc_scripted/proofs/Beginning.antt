@@ -1,10 +1,10 @@
 -- A session at the first call of its script; and from a session as its code has it.
-use Rattle.std.proofs.Common.{◌≡◌, ◌↔◌, ℕ, ◌⊎◌, inl, inr, Bool, true, false, not, All, IsTrue, List, [], Option, Result, Ok, Err, OnOk, refl, sym, ap, subst, ◌∙◌}
+use Rattle.std.proofs.Common.{◌≡◌, ℕ, ◌⊎◌, inl, inr, Bool, true, false, All, Contains, List, [], ◌++◌, Option, Result, Ok, Err, OnOk, refl, sym, ap, subst, ◌∙◌}
 use Rattle.std.proofs.lemmas.List.Elements.{All-nil, All-weaker, Contains-append_left}
 use Rattle.pc_base.specs.declared.actor.ActorId.TheVariants as actors
 use Rattle.pc_desk.specs.Desk.{DeskMeaning}
 use Rattle.pc_desk.proofs.Refusing.{refused_still}
-use Rattle.pc_desk.specs.Ending.{EndsEarly, IsNotLost, IsRepeatedOrWaits, IsSomewhere, IsSpent}
+use Rattle.pc_desk.specs.Ending.{EndsEarly, IsNotLost, IsRepeatedOrWaits, IsSomewhere, IsSpent, WasLateAndDue, WasWaitedFor}
 use Rattle.pc_history.specs.declared.pair.Pair.{Pair}
 use Rattle.pc_history.specs.declared.view.Known.{Known as KnownEntry}
 use Rattle.pc_history.specs.Parts.{told}
@@ -59,26 +59,26 @@ module _ {C : Type 0} (d : DeskMeaning C) (note : List (KnownEntry Event)) where
   abbrev taught : DeskMeaning C
   taught = record d { log = record d.log { part = told note d.log.part } }
 
+  knows-more : (k : KnownEntry Event) → Contains d.log.part.known k → Contains (d.log.part.known ++ note) k
+  knows-more k there = Contains-append_left d.log.part.known note k there
+
   somewhere_still : (m : Sent) → IsSomewhere d m → IsSomewhere taught m
   somewhere_still m (inl heard) = inl heard
   somewhere_still m (inr (inl waits)) = inr (inl waits)
-  somewhere_still m (inr (inr (inl knows))) = inr (inr (inl (record { evaluation = knows.evaluation; knows = Contains-append_left d.log.part.known note knows.evaluation knows.knows; of_it = knows.of_it })))
-  somewhere_still m (inr (inr (inr dropped))) = inr (inr (inr dropped))
+  somewhere_still m (inr (inr (inl knows))) = inr (inr (inl (record { evaluation = knows.evaluation; knows = knows-more knows.evaluation knows.knows; of_it = knows.of_it })))
+  somewhere_still m (inr (inr (inr never))) = inr (inr (inr never))
 
   repeated_still : (n : ℕ) → IsRepeatedOrWaits d n → IsRepeatedOrWaits taught n
   repeated_still n (inl waits) = inl waits
-  repeated_still n (inr two) = inr (record {
-    one = two.one;
-    other = two.other;
-    later = two.later;
-    knows_one = Contains-append_left d.log.part.known note two.one two.knows_one;
-    knows_other = Contains-append_left d.log.part.known note two.other two.knows_other;
-    one_is = two.one_is;
-    other_is = two.other_is;
-  })
+  repeated_still n (inr two) =
+      inr (record { one = two.one; other = two.other; later = two.later; knows_one = knows-more two.one two.knows_one; knows_other = knows-more two.other two.knows_other; one_is = two.one_is; other_is = two.other_is })
 
   not_lost_still : (m : Sent) → IsNotLost d m → IsNotLost taught m
   not_lost_still m kept = (somewhere_still m kept.0, λ repeats. repeated_still m.number (kept.1 repeats))
+
+  why_still : (m : Sent) → WasWaitedFor d m ⊎ WasLateAndDue d m → WasWaitedFor taught m ⊎ WasLateAndDue taught m
+  why_still m (inl waited) = inl (record { unheard = waited.unheard; unheld = waited.unheld; in_call = waited.in_call })
+  why_still m (inr late) = inr late
 
   pub ends_still : EndsEarly d → EndsEarly taught
   ends_still (inl end) = inl (record { long = end.long; each = All-weaker (IsNotLost d) (IsNotLost taught) not_lost_still (known_of d.log.part.own).sent end.each; waits = end.waits })
@@ -87,15 +87,14 @@ module _ {C : Type 0} (d : DeskMeaning C) (note : List (KnownEntry Event)) where
     message = end.message;
     sent = end.sent;
     spent = spent_still end.message end.spent;
-    in_call = end.in_call;
-    unheard = end.unheard;
+    why = why_still end.message end.why;
     others = All-weaker (λ m. IsSpent d m ⊎ IsNotLost d m) (λ m. IsSpent taught m ⊎ IsNotLost taught m) other (known_of d.log.part.own).sent end.others;
     waits = end.waits;
     later = end.later;
   }))
     where
       spent_still : (m : Sent) → IsSpent d m → IsSpent taught m
-      spent_still m spent = record { refused = refused_still d.range_limit d.range_limit d.log.part taught.log.part m refl refl (λ k there. Contains-append_left d.log.part.known note k there) spent.refused }
+      spent_still m spent = record { refused = refused_still d.range_limit d.range_limit d.log.part taught.log.part m refl refl knows-more spent.refused }
 
       other : (m : Sent) → IsSpent d m ⊎ IsNotLost d m → IsSpent taught m ⊎ IsNotLost taught m
       other m (inl it) = inl (spent_still m it)
@@ -119,10 +118,8 @@ followed_scripted {C} old new note is rests scripted =
 
 -- ---- a step
 
-pub jobs_so : {C : Type 0} (v old : ScriptedMeaning C) (b : Bool) → v ≡ old → IsTrue (not b) ↔ (v.session.jobs ≡ []) → IsTrue (not b) ↔ (old.session.jobs ≡ [])
-jobs_so {C} v old b same tells = subst (λ (s : ScriptedMeaning C). IsTrue (not b) ↔ (s.session.jobs ≡ [])) same tells
-
 pub moved_stepped : {C : Type 0} (s : ScriptedMeaning C) (new : SessionMeaning C) (b : Bool) → IsScripted s → s.session.desk.log.stopped ≡ false → HasStepped s.session new b
     → HasMoved (FinishesInTurn s) s (record { session = new; script = s.script; at = s.at })
 moved_stepped s new true scripted going step = moved_finished s new scripted going step
-moved_stepped {C} s new false scripted going step = subst (λ (n : SessionMeaning C). HasMoved (FinishesInTurn s) s (record { session = n; script = s.script; at = s.at })) (sym step.1) (idle_finishes s scripted going step.0)
+moved_stepped {C} s new false scripted going step =
+    subst (λ (n : SessionMeaning C). HasMoved (FinishesInTurn s) s (record { session = n; script = s.script; at = s.at })) (sym step.1) (idle_finishes s scripted going step.0)

@@ -17,9 +17,10 @@ use Rattle.pc_proto.specs.declared.answer.Answer.{Answer}
 use Rattle.pc_proto.specs.declared.request.Request.{Request}
 use Rattle.pc_script.specs.Script.{next_call, script_position}
 use Rattle.pc_scripted.proofs.Passing.{order_asked, order_between, order_told}
+use Rattle.pc_scripted.proofs.AtRest.{none_waits, rest_ends_none}
 use Rattle.pc_scripted.proofs.Tests.{has_ended_now, no_room, only_at_limit}
 use Rattle.pc_scripted.proofs.Turning.{asks_ended, asks_partly, asks_whole, finishes_ended, finishes_partly}
-use Rattle.pc_scripted.specs.Ended.{SaysHeldUp, ended_in_script, list_has_ended}
+use Rattle.pc_scripted.specs.Ended.{Delivers, SaysHeldUp, ended_in_script, list_has_ended}
 use Rattle.pc_scripted.specs.Scripted.{AskInOrder, GoesOnInScript, IsScripted, ScriptedMeaning, next_in_script, own_number, own_list, session_number}
 use Rattle.pc_scripted.specs.Taking.{AsksInTurn, FinishesInTurn, HasMoved, HasMovedBy, Move}
 use Rattle.pc_session.specs.Ending.{AreOfBrokenCall, AreOfOpenCall, AreToldAtLast}
@@ -27,9 +28,6 @@ use Rattle.pc_session.specs.Session.{SessionMeaning}
 use Rattle.pc_turns.specs.Order.{AsksAfter, FinishesAfter, IsInBetween, events_of}
 use Rattle.pc_follows.specs.FinishingJobs.{jobs_of}
 use Rattle.pc_world.specs.Known.Traffic.{Sent}
-use Rattle.pc_scripted.proofs.Quiet.{all_heard, jobs_left, some_left}
-use Rattle.pc_wire.specs.declared.verdict.Verdict.TheVariants as verdicts
-use Rattle.pc_wire.specs.Verdicts.{verdict_by}
 
 -- what ended the list, where memory was not wanted
 ended_off : (halt : Halt) (So : Type 0) → (halt ≡ halts.NoMemory → ⊥) → IsEndedBy halt So → So
@@ -97,9 +95,6 @@ module _ {C : Type 0} (Are : List Event → Type 0) (old : ScriptedMeaning C) (n
   stop-then : new.desk.log.stop ≡ old.session.desk.log.stop
   stop-then = log-is (λ l. l.stop ≡ old.session.desk.log.stop) refl
 
-  wire-then : new.desk.log.wire ≡ old.session.desk.log.wire
-  wire-then = log-is (λ l. l.wire ≡ old.session.desk.log.wire) refl
-
   scripted-then : IsScripted broken_then
   scripted-then = record {
     id = log-is (λ l. l.part.id ≡ old.session.desk.log.part.id) refl ∙ (scripted.id ∙ ap actors.Session (sym same-number));
@@ -125,7 +120,7 @@ module _ {C : Type 0} (Are : List Event → Type 0) (old : ScriptedMeaning C) (n
       beside = log-is (λ l. l.beside ≡ old.session.desk.log.beside) refl;
       limit = limit-then;
       stop = stop-then;
-      wire = wire-then;
+      wire = log-is (λ l. l.wire ≡ old.session.desk.log.wire) refl;
       tries = log-is (λ l. l.tries ≡ old.session.desk.log.tries) refl;
       range_limit = b.limit;
     };
@@ -137,30 +132,29 @@ module _ {C : Type 0} (Are : List Event → Type 0) (old : ScriptedMeaning C) (n
   }
 
   -- the list has ended
-  ended-then : (held : Sent → Bool) → SaysHeldUp held new.desk → list_has_ended old.session.desk.log.limit old.session.desk.log.stop held (own_list old ++ b.part) ≡ true
+  ended-then : (held : Sent → Bool) → SaysHeldUp held new.desk → list_has_ended old.session.desk.log.limit old.session.desk.log.stop (verdict_of old.session.desk.log) held (own_list old ++ b.part) ≡ true
   ended-then held says =
-      subst (λ own. list_has_ended old.session.desk.log.limit old.session.desk.log.stop held own ≡ true) b.own
-      (subst (λ n. list_has_ended n old.session.desk.log.stop held new.desk.log.part.own ≡ true) limit-then
-      (subst (λ o. list_has_ended new.desk.log.limit o held new.desk.log.part.own ≡ true) stop-then (has_ended_now new.desk held says b.end)))
+      let verdict : verdict_of new.desk.log ≡ verdict_of old.session.desk.log = log-is (λ l. verdict_of l ≡ verdict_of old.session.desk.log) refl in
+      subst (λ own. list_has_ended old.session.desk.log.limit old.session.desk.log.stop (verdict_of old.session.desk.log) held own ≡ true) b.own
+      (subst (λ v. list_has_ended old.session.desk.log.limit old.session.desk.log.stop v held new.desk.log.part.own ≡ true) verdict
+      (subst (λ n. list_has_ended n old.session.desk.log.stop (verdict_of new.desk.log) held new.desk.log.part.own ≡ true) limit-then
+      (subst (λ o. list_has_ended new.desk.log.limit o (verdict_of new.desk.log) held new.desk.log.part.own ≡ true) stop-then (has_ended_now new.desk held says b.end))))
 
   -- and if it had before, nothing was made
-  delivers-then : (held : Sent → Bool) → SaysHeldUp held new.desk → (n : ℕ) → verdict_of old.session.desk.log n ≡ verdicts.Deliver
-  delivers-then held says n = sym (ap (λ w. verdict_by w n) wire-then) ∙ says.delivers n
-
-  nothing-made : (held : Sent → Bool) → SaysHeldUp held new.desk → list_has_ended old.session.desk.log.limit old.session.desk.log.stop held (own_list old) ≡ true → b.part ≡ []
-  nothing-made held says before =
-      no_room old.session.desk.log.limit (own_list old) b.part (only_at_limit old.session.desk.log.limit old.session.desk.log.stop held (own_list old) (goes.rest.any.track.log.before_stop going) goes.rest.any.closed (all_heard old.session (delivers-then held says) goes.rest) before)
+  nothing-made : (held : Sent → Bool) → Delivers (verdict_of old.session.desk.log) → list_has_ended old.session.desk.log.limit old.session.desk.log.stop (verdict_of old.session.desk.log) held (own_list old) ≡ true → b.part ≡ []
+  nothing-made held plain before =
+      no_room old.session.desk.log.limit (own_list old) b.part (only_at_limit old.session.desk.log.limit old.session.desk.log.stop (verdict_of old.session.desk.log) held (own_list old) (goes.rest.any.track.log.before_stop going) (rest_ends_none old.session held plain goes.rest) before)
       (subst (λ own. length own ≤ old.session.desk.log.limit) b.own (subst (λ n. length new.desk.log.part.own ≤ n) limit-then b.within))
 
   -- if it had not, something was made
-  something-made : (held : Sent → Bool) → SaysHeldUp held new.desk → list_has_ended old.session.desk.log.limit old.session.desk.log.stop held (own_list old) ≡ false → b.part ≡ [] → ⊥
+  something-made : (held : Sent → Bool) → SaysHeldUp held new.desk → list_has_ended old.session.desk.log.limit old.session.desk.log.stop (verdict_of old.session.desk.log) held (own_list old) ≡ false → b.part ≡ [] → ⊥
   something-made held says before none =
-      let now : list_has_ended old.session.desk.log.limit old.session.desk.log.stop held (own_list old) ≡ true =
-      ap (list_has_ended old.session.desk.log.limit old.session.desk.log.stop held) (sym (append-nil (own_list old)) ∙ ap (λ p. own_list old ++ p) (sym none)) ∙ ended-then held says in
+      let now : list_has_ended old.session.desk.log.limit old.session.desk.log.stop (verdict_of old.session.desk.log) held (own_list old) ≡ true =
+      ap (list_has_ended old.session.desk.log.limit old.session.desk.log.stop (verdict_of old.session.desk.log) held) (sym (append-nil (own_list old)) ∙ ap (λ p. own_list old ++ p) (sym none)) ∙ ended-then held says in
       let e : true ≡ false = sym now ∙ before in
       absurd cc
 
-  moved-so : (Is : Move) → ((held : Sent → Bool) → SaysHeldUp held new.desk → Is (ended_in_script old.session.desk.log.limit old.session.desk.log.stop held) (own_list old) b.part) → HasMoved Is old broken_then
+  moved-so : (Is : Move) → ((held : Sent → Bool) → SaysHeldUp held new.desk → Delivers (verdict_of old.session.desk.log) → Is (ended_in_script old.session.desk.log.limit old.session.desk.log.stop (verdict_of old.session.desk.log) held) (own_list old) b.part) → HasMoved Is old broken_then
   moved-so Is is = record { part = b.part; by = moved-by; is = is }
 
 -- in a call
@@ -176,7 +170,7 @@ module _ {C : Type 0} (Are : List Event → Type 0) (old : ScriptedMeaning C) (n
   order-by (p ∷ ps) (inr (inr told)) = order_told old.at.reruns old.script (own_list old) (p ∷ ps) call told.reading told.between told.answer scripted.asks told.whole told.within next-here
 
   abbrev ended-by : (Sent → Bool) → ℕ → List (Pair Event) → Bool
-  ended-by held = ended_in_script old.session.desk.log.limit old.session.desk.log.stop held
+  ended-by held = ended_in_script old.session.desk.log.limit old.session.desk.log.stop (verdict_of old.session.desk.log) held
 
   abbrev next-by : ℕ → List (Pair Event) → Option Call
   next-by = next_in_script old.at.reruns old.script
@@ -198,21 +192,21 @@ module _ {C : Type 0} (Are : List Event → Type 0) (old : ScriptedMeaning C) (n
       asks_whole next-by (ended-by held) (own_number old) (own_list old) b.part on call next-here
       (record { whose = whose-part Are old new scripted going b orders; reading = told.reading; between = told.between; answer = told.answer; whole = told.whole; within = told.within })
 
-  asks-so : (held : Sent → Bool) → SaysHeldUp held new.desk → (e : Bool) → ended-by held (own_number old) (own_list old) ≡ e → AsksAfter next-by (ended-by held) (own_number old) (own_list old) b.part
-  asks-so held says true is =
-      asks_ended next-by (ended-by held) (own_number old) (own_list old) b.part is (nothing-made Are old new scripted going b orders held says is)
-  asks-so held says false is = partly held says is made
+  asks-so : (held : Sent → Bool) → SaysHeldUp held new.desk → Delivers (verdict_of old.session.desk.log) → (e : Bool) → ended-by held (own_number old) (own_list old) ≡ e → AsksAfter next-by (ended-by held) (own_number old) (own_list old) b.part
+  asks-so held says plain true is =
+      asks_ended next-by (ended-by held) (own_number old) (own_list old) b.part is (nothing-made Are old new scripted going b orders held plain is)
+  asks-so held says plain false is = partly held says is made
 
   pub moved_broken_call : HasMoved (AsksInTurn old) old (record { session = new; script = old.script; at = old.at })
   moved_broken_call =
       moved-so Are old new scripted going b orders (AsksInTurn old)
-      (λ held says. asks-so held says (ended-by held (own_number old) (own_list old)) refl)
+      (λ held says plain. asks-so held says plain (ended-by held (own_number old) (own_list old)) refl)
 
 -- in a job
 module _ {C : Type 0} (old : ScriptedMeaning C) (new : SessionMeaning C) (scripted : IsScripted old) (going : old.session.desk.log.stopped ≡ false)
     (b : HasBrokenOff (All IsInBetween) old.session.desk new.desk) where
   abbrev ended-at : (Sent → Bool) → ℕ → List (Pair Event) → Bool
-  ended-at held = ended_in_script old.session.desk.log.limit old.session.desk.log.stop held
+  ended-at held = ended_in_script old.session.desk.log.limit old.session.desk.log.stop (verdict_of old.session.desk.log) held
 
   abbrev next-at : ℕ → List (Pair Event) → Option Call
   next-at = next_in_script old.at.reruns old.script
@@ -220,22 +214,21 @@ module _ {C : Type 0} (old : ScriptedMeaning C) (new : SessionMeaning C) (script
   orders-then : AskInOrder old.at.reruns old.script (own_list old ++ b.part)
   orders-then = order_between old.at.reruns old.script (own_list old) b.part scripted.asks b.are
 
-  finishes-so : (held : Sent → Bool) → SaysHeldUp held new.desk → (job : List Request) (jobs : List (List Request)) → jobs_of (own_list old) ≡ job ∷ jobs → (e : Bool) → ended-at held (own_number old) (own_list old) ≡ e
+  finishes-so : (held : Sent → Bool) → SaysHeldUp held new.desk → Delivers (verdict_of old.session.desk.log) → (job : List Request) (jobs : List (List Request)) → jobs_of (own_list old) ≡ job ∷ jobs → (e : Bool) → ended-at held (own_number old) (own_list old) ≡ e
       → FinishesAfter next-at (ended-at held) (own_number old) (own_list old) b.part
-  finishes-so held says job jobs waits true is =
-      finishes_ended next-at (ended-at held) (own_number old) (own_list old) b.part is (nothing-made (All IsInBetween) old new scripted going b orders-then held says is)
-  finishes-so held says job jobs waits false is =
+  finishes-so held says plain job jobs waits true is =
+      finishes_ended next-at (ended-at held) (own_number old) (own_list old) b.part is (nothing-made (All IsInBetween) old new scripted going b orders-then held plain is)
+  finishes-so held says plain job jobs waits false is =
       finishes_partly next-at (ended-at held) (own_number old) (own_list old) b.part is job jobs waits
       (record { whose = whose-part (All IsInBetween) old new scripted going b orders-then; within = b.are })
       (ended-then (All IsInBetween) old new scripted going b orders-then held says)
-
-  job-so : (held : Sent → Bool) → SaysHeldUp held new.desk → (jobs : List (List Request)) → jobs_of (own_list old) ≡ jobs → (jobs ≡ [] → ⊥) → FinishesAfter next-at (ended-at held) (own_number old) (own_list old) b.part
-  job-so held says [] waits some = absurd (some refl)
-  job-so held says (job ∷ jobs) waits some = finishes-so held says job jobs waits (ended-at held (own_number old) (own_list old)) refl
 
   -- where a job waited
   pub moved_broken_step : (old.session.jobs ≡ [] → ⊥) → HasMoved (FinishesInTurn old) old (record { session = new; script = old.script; at = old.at })
   moved_broken_step some =
       moved-so (All IsInBetween) old new scripted going b orders-then (FinishesInTurn old)
-      (λ held says. job-so held says (jobs_of (own_list old)) refl
-      (some_left old.session.jobs (jobs_of (own_list old)) (jobs_left old.session (delivers-then (All IsInBetween) old new scripted going b orders-then held says) (scripted.goes going).rest) some))
+      (λ held says plain. by held says plain (jobs_of (own_list old)) refl)
+    where
+      by : (held : Sent → Bool) → SaysHeldUp held new.desk → Delivers (verdict_of old.session.desk.log) → (jobs : List (List Request)) → jobs_of (own_list old) ≡ jobs → FinishesAfter next-at (ended-at held) (own_number old) (own_list old) b.part
+      by held says plain [] none = absurd (some (none_waits old.session plain (scripted.goes going).rest none))
+      by held says plain (job ∷ jobs) waits = finishes-so held says plain job jobs waits (ended-at held (own_number old) (own_list old)) refl

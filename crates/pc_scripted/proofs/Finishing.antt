@@ -1,30 +1,28 @@
 -- A session that did its oldest job.
-use Rattle.std.proofs.Common.{◌≡◌, ℕ, suc, ◌<◌, ◌≤◌, Bool, false, true, All, List, [], ◌∷◌, ◌++◌, drop, length, map, refl, sym, ap, subst, ◌∙◌, arith}
+use Rattle.std.proofs.Common.{◌≡◌, suc, ◌<◌, ◌≤◌, false, true, All, List, [], ◌∷◌, ◌++◌, drop, length, map, refl, sym, ap, subst, ◌∙◌, arith}
 use Rattle.std.proofs.lemmas.List.{append-nil}
 use Rattle.std.proofs.lemmas.List.Elements.{All-append}
 use Rattle.pc_base.specs.declared.actor.ActorId.{ActorId}
 use Rattle.pc_base.specs.declared.actor.ActorId.TheVariants as actors
 use Rattle.pc_coord.specs.Knows.{messages_of_job}
 use Rattle.pc_desk.specs.OwnLog.{LogMeaning, verdict_of}
+use Rattle.pc_exchange.proofs.Ending.{made_by}
 use Rattle.pc_history.specs.declared.pair.Pair.{Pair}
 use Rattle.pc_proto.specs.declared.event.Event.{Event}
 use Rattle.pc_proto.specs.declared.request.Request.{Request}
 use Rattle.pc_script.specs.Script.{script_position}
 use Rattle.pc_script.specs.Suiting.{FitsCalls}
 use Rattle.pc_scripted.proofs.Passing.{order_between, position_between}
+use Rattle.pc_scripted.proofs.AtRest.{delivers_quiet, jobs_left, rest_ends_none}
 use Rattle.pc_scripted.proofs.Tests.{not_ended, some_room}
 use Rattle.pc_scripted.proofs.Turning.{finishes_whole}
-use Rattle.pc_scripted.specs.Ended.{SaysHeldUp, ended_in_script}
+use Rattle.pc_scripted.specs.Ended.{Delivers, ended_in_script}
 use Rattle.pc_scripted.specs.Scripted.{AskInOrder, GoesOnInScript, IsScripted, ScriptedMeaning, next_in_script, own_number, own_list, session_number}
 use Rattle.pc_scripted.specs.Taking.{FinishesInTurn, HasMoved}
 use Rattle.pc_session.specs.Session.{SessionMeaning}
 use Rattle.pc_session.specs.Steps.{HasMadeStep}
 use Rattle.pc_turns.specs.Order.{FinishesWhole}
 use Rattle.pc_follows.specs.FinishingJobs.{jobs_of}
-use Rattle.pc_scripted.proofs.Quiet.{all_behind, all_heard, jobs_left, loses_none}
-use Rattle.pc_wire.specs.declared.verdict.Verdict.TheVariants as verdicts
-use Rattle.pc_wire.specs.Verdicts.{verdict_by}
-use Rattle.pc_world.specs.Known.Traffic.{Sent}
 
 module _ {C : Type 0} (old : ScriptedMeaning C) (new : SessionMeaning C) (scripted : IsScripted old) (going : old.session.desk.log.stopped ≡ false) (step : HasMadeStep old.session new) where
   abbrev then : ScriptedMeaning C
@@ -46,46 +44,38 @@ module _ {C : Type 0} (old : ScriptedMeaning C) (new : SessionMeaning C) (script
   piped-same : new.coordinator.pipelining ≡ old.session.coordinator.pipelining
   piped-same = sym step.rest.any.one.piped ∙ (log-is (λ l. l.pipelining ≡ old.session.desk.log.pipelining) refl ∙ goes.rest.any.one.piped)
 
-  -- where the wire delivers each message
-  wire-then : new.desk.log.wire ≡ old.session.desk.log.wire
-  wire-then = log-is (λ l. l.wire ≡ old.session.desk.log.wire) refl
-
-  abbrev Delivers : Type 0
-  Delivers = (n : ℕ) → verdict_of old.session.desk.log n ≡ verdicts.Deliver
-
-  delivers-then : (held : Sent → Bool) → SaysHeldUp held new.desk → Delivers
-  delivers-then held says n = sym (ap (λ w. verdict_by w n) wire-then) ∙ says.delivers n
-
-  whole-job : Delivers → FinishesWhole (own_number old) (own_list old) step.part
-  whole-job delivers = subst (λ n. FinishesWhole n (own_list old) step.part) (sym (ap session_number goes.rest.any.one.whose)) (step.whole (loses_none old.session delivers))
+  number-is : old.session.coordinator.session ≡ own_number old
+  number-is = sym (ap session_number goes.rest.any.one.whose)
 
   whose-part : All (λ p. p.entry.actor ≡ actors.Session (own_number old)) step.part
-  whose-part =
-      subst (λ (i : ActorId). All (λ p. p.entry.actor ≡ i) step.part) (log-is (λ l. l.part.id ≡ old.session.desk.log.part.id) refl ∙ scripted.id)
-      (all_behind (λ p. p.entry.actor ≡ new.desk.log.part.id) (own_list old) step.part (subst (All (λ p. p.entry.actor ≡ new.desk.log.part.id)) step.grown.own step.rest.any.track.log.whose))
+  whose-part = subst (λ (i : ActorId). All (λ (p : Pair Event). p.entry.actor ≡ i) step.part) scripted.id (made_by old.session.desk.log new.desk step.part step.rest.any.track step.grown)
 
   -- the oldest job by its messages
   abbrev waiting : List (List Request)
   waiting = map messages_of_job new.jobs
 
-  oldest-is : Delivers → jobs_of (own_list old) ≡ messages_of_job step.job ∷ waiting
-  oldest-is delivers = jobs_left old.session delivers goes.rest ∙ ap (map messages_of_job) step.oldest
-
-  some-part : Delivers → step.part ≡ [] → ⊥
-  some-part delivers none =
-      let e : jobs_of (own_list old) ≡ drop 1 (jobs_of (own_list old)) =
-      ap jobs_of (sym (append-nil (own_list old)) ∙ ap (λ p. own_list old ++ p) (sym none)) ∙ (whole-job delivers).done in
-      let f : messages_of_job step.job ∷ waiting ≡ waiting = sym (oldest-is delivers) ∙ (e ∙ ap (drop 1) (oldest-is delivers)) in
-      let n : suc (length waiting) ≡ length waiting = ap length f in
-      omega arith
-
   limit-then : new.desk.log.limit ≡ old.session.desk.log.limit
   limit-then = log-is (λ l. l.limit ≡ old.session.desk.log.limit) refl
 
-  room : Delivers → length (own_list old) < old.session.desk.log.limit
-  room delivers =
-      some_room old.session.desk.log.limit (own_list old) step.part (some-part delivers)
-      (subst (λ own. length own ≤ old.session.desk.log.limit) step.grown.own (subst (λ n. length new.desk.log.part.own ≤ n) limit-then step.rest.any.track.log.within))
+  module _ (plain : Delivers (verdict_of old.session.desk.log)) where
+    whole-job : FinishesWhole (own_number old) (own_list old) step.part
+    whole-job = subst (λ n. FinishesWhole n (own_list old) step.part) number-is (step.whole (delivers_quiet (verdict_of old.session.desk.log) plain))
+
+    oldest-is : jobs_of (own_list old) ≡ messages_of_job step.job ∷ waiting
+    oldest-is = jobs_left old.session plain goes.rest ∙ ap (map messages_of_job) step.oldest
+
+    some-part : step.part ≡ [] → ⊥
+    some-part none =
+        let e : jobs_of (own_list old) ≡ drop 1 (jobs_of (own_list old)) =
+        ap jobs_of (sym (append-nil (own_list old)) ∙ ap (λ p. own_list old ++ p) (sym none)) ∙ whole-job.done in
+        let f : messages_of_job step.job ∷ waiting ≡ waiting = sym oldest-is ∙ (e ∙ ap (drop 1) oldest-is) in
+        let n : suc (length waiting) ≡ length waiting = ap length f in
+        omega arith
+
+    room : length (own_list old) < old.session.desk.log.limit
+    room =
+        some_room old.session.desk.log.limit (own_list old) step.part some-part
+        (subst (λ own. length own ≤ old.session.desk.log.limit) step.grown.own (subst (λ n. length new.desk.log.part.own ≤ n) limit-then step.rest.any.track.log.within))
 
   scripted-then : IsScripted then
   scripted-then = record {
@@ -121,7 +111,7 @@ module _ {C : Type 0} (old : ScriptedMeaning C) (new : SessionMeaning C) (script
         piped = log-is (λ l. l.pipelining ≡ old.session.desk.log.pipelining) refl;
         beside = log-is (λ l. l.beside ≡ old.session.desk.log.beside) refl;
         stop = log-is (λ l. l.stop ≡ old.session.desk.log.stop) refl;
-        wire = wire-then;
+        wire = log-is (λ l. l.wire ≡ old.session.desk.log.wire) refl;
         tries = log-is (λ l. l.tries ≡ old.session.desk.log.tries) refl;
         range_limit = step.limit;
       };
@@ -131,6 +121,6 @@ module _ {C : Type 0} (old : ScriptedMeaning C) (new : SessionMeaning C) (script
       above = step.grown.above;
       known = step.grown.known;
     };
-    is = λ held says. finishes_whole (next_in_script old.at.reruns old.script) (ended_in_script old.session.desk.log.limit old.session.desk.log.stop held) (own_number old) (own_list old) step.part
-        (not_ended old.session.desk.log.limit old.session.desk.log.stop held (own_list old) (goes.rest.any.track.log.before_stop going) goes.rest.any.closed (all_heard old.session (delivers-then held says) goes.rest) (room (delivers-then held says))) (messages_of_job step.job) waiting (oldest-is (delivers-then held says)) (whole-job (delivers-then held says));
+    is = λ held says plain. finishes_whole (next_in_script old.at.reruns old.script) (ended_in_script old.session.desk.log.limit old.session.desk.log.stop (verdict_of old.session.desk.log) held) (own_number old) (own_list old) step.part
+        (not_ended old.session.desk.log.limit old.session.desk.log.stop (verdict_of old.session.desk.log) held (own_list old) (goes.rest.any.track.log.before_stop going) (rest_ends_none old.session held plain goes.rest) (room plain)) (messages_of_job step.job) waiting (oldest-is plain) (whole-job plain);
   }

@@ -1,37 +1,32 @@
 -- A session that goes by itself, one turn after another.
-use Rattle.std.proofs.Common.{◌≡◌, ◌↔◌, ℕ, inl, inr, Bool, true, false, not, ◌||◌, is_some, nat_le, length, IsTrue, cond, All, Contains, List, [], ◌∷◌, ◌++◌, map, Option, refl, sym, ap, subst, ◌∙◌}
+use Rattle.std.proofs.Common.{◌≡◌, ◌↔◌, ℕ, inl, inr, Bool, true, false, not, ◌||◌, is_some, nat_le, length, IsTrue, cond, All, List, [], ◌∷◌, ◌++◌, Option, refl, sym, ap, subst, ◌∙◌}
 use Rattle.std.proofs.lemmas.Bool.{false≢true}
 use Rattle.std.proofs.lemmas.List.{append-nil, append_assoc}
 use Rattle.std.proofs.lemmas.List.Elements.{All-append, All-head, All-tail}
 use Rattle.pc_base.specs.declared.actor.ActorId.TheVariants as actors
-use Rattle.pc_desk.proofs.Refusing.{refused_still}
-use Rattle.pc_desk.specs.Desk.{DeskMeaning}
-use Rattle.pc_desk.specs.OwnLog.{LogMeaning}
+use Rattle.pc_desk.specs.OwnLog.{LogMeaning, verdict_of}
 use Rattle.pc_exchange.proofs.Growing.{grows_both}
 use Rattle.pc_exchange.specs.Growing.{HasGrownBy}
 use Rattle.pc_history.proofs.Ids.{same_id-equal}
 use Rattle.pc_history.specs.declared.pair.Pair.{Pair}
-use Rattle.pc_history.specs.declared.view.Known.{Known as KnownEntry}
 use Rattle.pc_history.specs.Own.{same_id}
 use Rattle.pc_proto.specs.declared.call.Call.{Call}
 use Rattle.pc_proto.specs.declared.event.Event.{Event}
 use Rattle.pc_proto.specs.declared.request.Request.{Request}
 use Rattle.pc_script.specs.Script.{items_over, next_call}
 use Rattle.pc_scripted.proofs.Resting.{moved_by_none}
+use Rattle.pc_scripted.proofs.Saying.{says_before}
 use Rattle.pc_scripted.proofs.Tests.{has_ended_now}
-use Rattle.pc_scripted.specs.Ended.{SaysHeldUp, ended_in_script, list_has_ended}
+use Rattle.pc_scripted.specs.Ended.{Delivers, SaysHeldUp, ended_in_script, list_has_ended}
 use Rattle.pc_scripted.specs.Scripted.{IsScripted, ScriptedMeaning, next_in_script, own_number, own_list}
 use Rattle.pc_scripted.specs.Taking.{AsksInTurn, FinishesInTurn, TakesNextAlone, GoesUntil, HasMoved, HasMovedBy, IsSameScripted, SaysWhetherDone, are_items_over}
 use Rattle.pc_turns.specs.Order.{AsksAfter, FinishesAfter, TakesOne, entries_by}
 use Rattle.pc_turns.specs.Order.GoesByItself.{Ended, Onwards, Passed}
+use Rattle.pc_wire.specs.declared.verdict.Verdict.{Verdict}
 use Rattle.pc_work.specs.declared.item.Item.{Item}
 use Rattle.pc_follows.specs.FinishingJobs.{jobs_of}
+use Rattle.pc_scripted.proofs.AtRest.{none_left, none_waits}
 use Rattle.pc_world.specs.Known.Traffic.{Sent}
-use Rattle.pc_coord.specs.Knows.{messages_of_job}
-use Rattle.pc_desk.specs.OwnLog.{verdict_of}
-use Rattle.pc_scripted.proofs.Quiet.{jobs_left, none_waits, some_left}
-use Rattle.pc_wire.specs.declared.verdict.Verdict.TheVariants as verdicts
-use Rattle.pc_wire.specs.Verdicts.{verdict_by}
 
 -- whose entries are all one session's
 pub all_mine : (number : ℕ) (own : List (Pair Event)) → All (λ p. p.entry.actor ≡ actors.Session number) own → entries_by number own ≡ own
@@ -40,14 +35,6 @@ all_mine number (p ∷ ps) whose =
     let first : same_id (actors.Session number) p.entry.actor ≡ true = same_id-equal (actors.Session number) p.entry.actor (sym (All-head (λ (q : Pair Event). q.entry.actor ≡ actors.Session number) p ps whose)) in
     ap (λ b. cond b (p ∷ entries_by number ps) (entries_by number ps)) first
     ∙ ap (λ qs. p ∷ qs) (all_mine number ps (All-tail (λ (q : Pair Event). q.entry.actor ≡ actors.Session number) p ps whose))
-
--- it forgot no message that was refused
-pub says_before : {C : Type 0} (held : Sent → Bool) (old new : DeskMeaning C) → new.range_limit ≡ old.range_limit → new.log.wire ≡ old.log.wire → new.log.part.id ≡ old.log.part.id → ((k : KnownEntry Event) → Contains old.log.part.known k → Contains new.log.part.known k) → SaysHeldUp held new
-    → SaysHeldUp held old
-says_before held old new same wire id more says = record {
-  delivers = λ n. sym (ap (λ w. verdict_by w n) wire) ∙ says.delivers n;
-  refused = λ m refused. says.refused m (refused_still new.range_limit old.range_limit old.log.part new.log.part m same id more refused);
-}
 
 -- a session that has moved has its number still
 pub same_actor : {C : Type 0} (old new : ScriptedMeaning C) (part : List (Pair Event)) → IsScripted old → HasMovedBy old new part → new.session.desk.log.part.id ≡ old.session.desk.log.part.id
@@ -90,14 +77,16 @@ module _ {C : Type 0} (old mid new : ScriptedMeaning C) (p q : List (Pair Event)
 pub record HasGoneSoFar {C : Type 0} (test : List (Pair Event) → Bool) (old new : ScriptedMeaning C) : Type 0 where
   pub part : List (Pair Event)
   pub by : HasMovedBy old new part
-  pub on : (held : Sent → Bool) → SaysHeldUp held new.session.desk → (rest : List (Pair Event)) → GoesUntil old test (ended_in_script old.session.desk.log.limit old.session.desk.log.stop held) (own_list old ++ part) rest
-      → GoesUntil old test (ended_in_script old.session.desk.log.limit old.session.desk.log.stop held) (own_list old) (part ++ rest)
+  pub on :
+      (held : Sent → Bool) → SaysHeldUp held new.session.desk → Delivers (verdict_of old.session.desk.log) → (rest : List (Pair Event))
+      → GoesUntil old test (ended_in_script old.session.desk.log.limit old.session.desk.log.stop (verdict_of old.session.desk.log) held) (own_list old ++ part) rest
+      → GoesUntil old test (ended_in_script old.session.desk.log.limit old.session.desk.log.stop (verdict_of old.session.desk.log) held) (own_list old) (part ++ rest)
 
 pub gone_nothing : {C : Type 0} (test : List (Pair Event) → Bool) (s : ScriptedMeaning C) → IsScripted s → HasGoneSoFar test s s
 gone_nothing test s scripted = record {
   part = [];
   by = moved_by_none s scripted;
-  on = λ held says rest goes. subst (λ before. GoesUntil s test (ended_in_script s.session.desk.log.limit s.session.desk.log.stop held) before rest) (append-nil (own_list s)) goes;
+  on = λ held says plain rest goes. subst (λ before. GoesUntil s test (ended_in_script s.session.desk.log.limit s.session.desk.log.stop (verdict_of s.session.desk.log) held) before rest) (append-nil (own_list s)) goes;
 }
 
 module _ {C : Type 0} (test : List (Pair Event) → Bool) (old mid : ScriptedMeaning C) (gone : HasGoneSoFar test old mid) where
@@ -108,7 +97,7 @@ module _ {C : Type 0} (test : List (Pair Event) → Bool) (old mid : ScriptedMea
   next = next_in_script old.at.reruns old.script
 
   abbrev ended : (Sent → Bool) → ℕ → List (Pair Event) → Bool
-  ended held = ended_in_script old.session.desk.log.limit old.session.desk.log.stop held
+  ended held = ended_in_script old.session.desk.log.limit old.session.desk.log.stop (verdict_of old.session.desk.log) held
 
   abbrev before : List (Pair Event)
   before = own_list old ++ gone.part
@@ -118,60 +107,61 @@ module _ {C : Type 0} (test : List (Pair Event) → Bool) (old mid : ScriptedMea
       ap (entries_by number) (sym gone.by.own)
       ∙ all_mine number (own_list mid) (subst (λ n. All (λ (r : Pair Event). r.entry.actor ≡ actors.Session n) (own_list mid)) gone.by.same.number gone.by.scripted.whose)
 
+  verdict-mid : verdict_of mid.session.desk.log ≡ verdict_of old.session.desk.log
+  verdict-mid = ap (λ w. verdict_of (record old.session.desk.log { wire = w })) gone.by.same.wire
+
   module _ (new : ScriptedMeaning C) (more : HasMoved (TakesNextAlone mid) mid new) (not_yet : SaysWhetherDone test mid false) where
-    takes-as : (held : Sent → Bool) → SaysHeldUp held new.session.desk → TakesOne next (ended held) number (jobs_of (own_list mid)) (own_list mid) more.part
-    takes-as held says =
-        let T : ℕ → List Item → ℕ → Option ℕ → ℕ → Type 0 = λ reruns script limit stop n. TakesOne (next_in_script reruns script) (ended_in_script limit stop held) n (jobs_of (own_list mid)) (own_list mid) more.part in
-        subst (λ r. T r old.script old.session.desk.log.limit old.session.desk.log.stop number) gone.by.same.reruns
-        (subst (λ s. T mid.at.reruns s old.session.desk.log.limit old.session.desk.log.stop number) gone.by.same.script
-        (subst (λ l. T mid.at.reruns mid.script l old.session.desk.log.stop number) gone.by.same.limit
-        (subst (λ o. T mid.at.reruns mid.script mid.session.desk.log.limit o number) gone.by.same.stop
-        (subst (λ n. T mid.at.reruns mid.script mid.session.desk.log.limit mid.session.desk.log.stop n) gone.by.same.number (more.is held says)))))
+    takes-as : (held : Sent → Bool) → SaysHeldUp held new.session.desk → Delivers (verdict_of old.session.desk.log) → TakesOne next (ended held) number (jobs_of (own_list mid)) (own_list mid) more.part
+    takes-as held says plain =
+        let T : ℕ → List Item → ℕ → Option ℕ → (ℕ → Verdict) → ℕ → Type 0 = λ reruns script limit stop verdict n. TakesOne (next_in_script reruns script) (ended_in_script limit stop verdict held) n (jobs_of (own_list mid)) (own_list mid) more.part in
+        let v = verdict_of old.session.desk.log in
+        subst (λ r. T r old.script old.session.desk.log.limit old.session.desk.log.stop v number) gone.by.same.reruns
+        (subst (λ s. T mid.at.reruns s old.session.desk.log.limit old.session.desk.log.stop v number) gone.by.same.script
+        (subst (λ l. T mid.at.reruns mid.script l old.session.desk.log.stop v number) gone.by.same.limit
+        (subst (λ o. T mid.at.reruns mid.script mid.session.desk.log.limit o v number) gone.by.same.stop
+        (subst (λ w. T mid.at.reruns mid.script mid.session.desk.log.limit mid.session.desk.log.stop w number) verdict-mid
+        (subst (λ n. T mid.at.reruns mid.script mid.session.desk.log.limit mid.session.desk.log.stop (verdict_of mid.session.desk.log) n) gone.by.same.number (more.is held says (subst Delivers (sym verdict-mid) plain)))))))
 
-    taken : (held : Sent → Bool) → SaysHeldUp held new.session.desk → TakesOne next (ended held) number (jobs_of (entries_by number before)) (entries_by number before) more.part
-    taken held says = subst (λ own. TakesOne next (ended held) number (jobs_of own) own more.part) (sym mine) (takes-as held says)
+    taken : (held : Sent → Bool) → SaysHeldUp held new.session.desk → Delivers (verdict_of old.session.desk.log) → TakesOne next (ended held) number (jobs_of (entries_by number before)) (entries_by number before) more.part
+    taken held says plain = subst (λ own. TakesOne next (ended held) number (jobs_of own) own more.part) (sym mine) (takes-as held says plain)
 
-    says-then : (held : Sent → Bool) → SaysHeldUp held new.session.desk → SaysHeldUp held mid.session.desk
-    says-then held says = says_before held mid.session.desk new.session.desk more.by.same.range_limit more.by.same.wire (same_actor mid new more.part gone.by.scripted more.by) more.by.known says
-
-    still : (held : Sent → Bool) → SaysHeldUp held mid.session.desk → jobs_of (entries_by number before) ≡ [] → test (entries_by number before) ≡ true → ⊥
-    still held says none passed =
-        let left = jobs_left mid.session says.delivers (gone.by.scripted.goes not_yet.0).rest in
-        not_yet.1 (none_waits mid.session.jobs (sym left ∙ (ap jobs_of (sym mine) ∙ none))) (ap test (sym mine) ∙ passed)
+    still : Delivers (verdict_of old.session.desk.log) → jobs_of (entries_by number before) ≡ [] → test (entries_by number before) ≡ true → ⊥
+    still plain none passed =
+        not_yet.1 (none_waits mid.session (subst Delivers (sym verdict-mid) plain) (gone.by.scripted.goes not_yet.0).rest (ap jobs_of (sym mine) ∙ none)) (ap test (sym mine) ∙ passed)
 
     -- one more turn
     pub gone_on : HasGoneSoFar test old new
     gone_on = record {
       part = gone.part ++ more.part;
       by = moved_both old mid new gone.part more.part gone.by more.by;
-      on = λ held says rest goes.
+      on = λ held says plain rest goes.
           subst (λ part. GoesUntil old test (ended held) (own_list old) part) (sym (append_assoc gone.part more.part rest))
-          (gone.on held (says-then held says) (more.part ++ rest)
-          (Onwards before more.part rest (still held (says-then held says)) (taken held says) (subst (λ b. GoesUntil old test (ended held) b rest) (sym (append_assoc (own_list old) gone.part more.part)) goes)));
+          (gone.on held (says_before held mid.session.desk new.session.desk more.part more.by.same.range_limit (same_actor mid new more.part gone.by.scripted more.by) more.by.same.wire more.by.own more.by.known says) plain (more.part ++ rest)
+          (Onwards before more.part rest (still plain) (taken held says plain) (subst (λ b. GoesUntil old test (ended held) b rest) (sym (append_assoc (own_list old) gone.part more.part)) goes)));
     }
 
   ended-by : (held : Sent → Bool) → SaysHeldUp held mid.session.desk → mid.session.desk.log.stopped ≡ true → GoesUntil old test (ended held) before []
   ended-by held says stopped =
       Ended before
-      (subst (λ own. list_has_ended old.session.desk.log.limit old.session.desk.log.stop held own ≡ true) (sym mine)
-      (subst (λ l. list_has_ended l old.session.desk.log.stop held (own_list mid) ≡ true) gone.by.same.limit
-      (subst (λ o. list_has_ended mid.session.desk.log.limit o held (own_list mid) ≡ true) gone.by.same.stop (has_ended_now mid.session.desk held says (gone.by.scripted.ends stopped)))))
+      (subst (λ own. list_has_ended old.session.desk.log.limit old.session.desk.log.stop (verdict_of old.session.desk.log) held own ≡ true) (sym mine)
+      (subst (λ v. list_has_ended old.session.desk.log.limit old.session.desk.log.stop v held (own_list mid) ≡ true) verdict-mid
+      (subst (λ l. list_has_ended l old.session.desk.log.stop (verdict_of mid.session.desk.log) held (own_list mid) ≡ true) gone.by.same.limit
+      (subst (λ o. list_has_ended mid.session.desk.log.limit o (verdict_of mid.session.desk.log) held (own_list mid) ≡ true) gone.by.same.stop (has_ended_now mid.session.desk held says (gone.by.scripted.ends stopped))))))
 
-  over-by : (held : Sent → Bool) → SaysHeldUp held mid.session.desk → SaysWhetherDone test mid true → GoesUntil old test (ended held) before []
-  over-by held says done = by mid.session.desk.log.stopped refl done
+  over-by : (held : Sent → Bool) → SaysHeldUp held mid.session.desk → Delivers (verdict_of old.session.desk.log) → SaysWhetherDone test mid true → GoesUntil old test (ended held) before []
+  over-by held says plain (inl stopped) = ended-by held says stopped
+  over-by held says plain (inr done) = by mid.session.desk.log.stopped refl
     where
-      by : (b : Bool) → mid.session.desk.log.stopped ≡ b → SaysWhetherDone test mid true → GoesUntil old test (ended held) before []
-      by true stopped done = ended-by held says stopped
-      by false going (inl stopped) = absurd (let no : true ≡ false = sym stopped ∙ going in cc no)
-      by false going (inr done) =
-          Passed before (ap jobs_of mine ∙ (jobs_left mid.session says.delivers (gone.by.scripted.goes going).rest ∙ ap (map messages_of_job) done.0)) (ap test mine ∙ done.1)
+      by : (b : Bool) → mid.session.desk.log.stopped ≡ b → GoesUntil old test (ended held) before []
+      by true stopped = ended-by held says stopped
+      by false going = Passed before (ap jobs_of mine ∙ none_left mid.session (subst Delivers (sym verdict-mid) plain) (gone.by.scripted.goes going).rest done.0) (ap test mine ∙ done.1)
 
   -- there is nothing more to do
   pub gone_all : SaysWhetherDone test mid true → HasMoved (GoesUntil old test) old mid
   gone_all done = record {
     part = gone.part;
     by = gone.by;
-    is = λ held says. subst (λ part. GoesUntil old test (ended held) (own_list old) part) (append-nil gone.part) (gone.on held says [] (over-by held says done));
+    is = λ held says plain. subst (λ part. GoesUntil old test (ended held) (own_list old) part) (append-nil gone.part) (gone.on held says plain [] (over-by held says plain done));
   }
 
 -- the one turn of a session that goes by itself
@@ -186,23 +176,18 @@ takes_call x e n [] own part none asks = asks
 takes_call x e n (job ∷ jobs) own part none asks = absurd cc
 
 module _ {C : Type 0} (old new : ScriptedMeaning C) where
-  delivers-then : (part : List (Pair Event)) → HasMovedBy old new part → (held : Sent → Bool) → SaysHeldUp held new.session.desk → (n : ℕ) → verdict_of old.session.desk.log n ≡ verdicts.Deliver
-  delivers-then part by held says n = sym (ap (λ w. verdict_by w n) by.same.wire) ∙ says.delivers n
-
   pub alone_by_job : IsScripted old → old.session.desk.log.stopped ≡ false → (old.session.jobs ≡ [] → ⊥) → HasMoved (FinishesInTurn old) old new → HasMoved (TakesNextAlone old) old new
   alone_by_job scripted going some moved = record {
     part = moved.part;
     by = moved.by;
-    is = λ held says. takes_job (next_in_script old.at.reruns old.script) (ended_in_script old.session.desk.log.limit old.session.desk.log.stop held) (own_number old) (jobs_of (own_list old)) (own_list old) moved.part
-        (some_left old.session.jobs (jobs_of (own_list old)) (jobs_left old.session (delivers-then moved.part moved.by held says) (scripted.goes going).rest) some) (moved.is held says);
+    is = λ held says plain. takes_job (next_in_script old.at.reruns old.script) (ended_in_script old.session.desk.log.limit old.session.desk.log.stop (verdict_of old.session.desk.log) held) (own_number old) (jobs_of (own_list old)) (own_list old) moved.part (λ none. some (none_waits old.session plain (scripted.goes going).rest none)) (moved.is held says plain);
   }
 
   pub alone_by_call : IsScripted old → old.session.desk.log.stopped ≡ false → old.session.jobs ≡ [] → HasMoved (AsksInTurn old) old new → HasMoved (TakesNextAlone old) old new
   alone_by_call scripted going none moved = record {
     part = moved.part;
     by = moved.by;
-    is = λ held says. takes_call (next_in_script old.at.reruns old.script) (ended_in_script old.session.desk.log.limit old.session.desk.log.stop held) (own_number old) (jobs_of (own_list old)) (own_list old) moved.part
-        (jobs_left old.session (delivers-then moved.part moved.by held says) (scripted.goes going).rest ∙ ap (map messages_of_job) none) (moved.is held says);
+    is = λ held says plain. takes_call (next_in_script old.at.reruns old.script) (ended_in_script old.session.desk.log.limit old.session.desk.log.stop (verdict_of old.session.desk.log) held) (own_number old) (jobs_of (own_list old)) (own_list old) moved.part (none_left old.session plain (scripted.goes going).rest none) (moved.is held says plain);
   }
 
 -- what is done, and what is not

@@ -113,7 +113,7 @@ module _ {C : Type 0} (old : ScriptedMeaning C) (new : SessionMeaning C) (id : T
   learns-so : (at : Position) (part : List (Pair Event)) → HasMoved (AsksInTurn old) old (then at) → new.desk.log.part.own ≡ own_list old ++ part → AreOfLearn id given (events_of part) → HasMoved (LearnsInTurn old id given) old (then at)
   learns-so at part moved own are =
       let same : part ≡ moved.part = append_cancel_left (own_list old) part moved.part (sym own ∙ moved.by.own) in
-      record { part = moved.part; by = moved.by; is = λ held says. (moved.is held says, subst (λ p. AreOfLearn id given (events_of p)) same are) }
+      record { part = moved.part; by = moved.by; is = λ held says plain. (moved.is held says plain, subst (λ p. AreOfLearn id given (events_of p)) same are) }
 
   module _ (scripted : IsScripted old) (next : learnt_ahead old ≡ Some id) where
     -- the learn was told its answer

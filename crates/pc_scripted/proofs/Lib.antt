@@ -1,6 +1,7 @@
 pub mod Passing
-pub mod Quiet
 pub mod Tests
+pub mod Saying
+pub mod AtRest
 pub mod Turning
 pub mod Telling
 pub mod Asking

@@ -1,12 +1,15 @@
 -- What a session with its script takes at its turns.
-use Rattle.std.specs.Prelude.{◌≡◌, ℕ, Bool, true, false, nat_le, is_some, not, ◌||◌, ◌⊎◌, None, List, [], ◌++◌, length, All, Contains}
+use Rattle.std.specs.Prelude.{◌≡◌, ℕ, Bool, true, false, nat_le, is_some, not, ◌||◌, ◌⊎◌, Option, None, List, [], ◌∷◌, ◌++◌, length, All, Contains}
 use Rattle.pc_base.specs.declared.actor.ActorId.TheVariants as actors
+use Rattle.pc_desk.specs.OwnLog.{verdict_of}
 use Rattle.pc_history.specs.declared.pair.Pair.{Pair}
 use Rattle.pc_history.specs.declared.view.Known.{Known as KnownEntry}
 use Rattle.pc_history.specs.Parts.{knowledge}
 use Rattle.pc_proto.specs.declared.event.Event.{Event}
+use Rattle.pc_proto.specs.declared.call.Call.{Call}
+use Rattle.pc_proto.specs.declared.request.Request.{Request}
 use Rattle.pc_script.specs.Script.{items_over, next_call, script_position}
-use Rattle.pc_scripted.specs.Ended.{SaysHeldUp, ended_in_script}
+use Rattle.pc_scripted.specs.Ended.{Delivers, SaysHeldUp, ended_in_script}
 use Rattle.pc_scripted.specs.Scripted.{IsScripted, ScriptedMeaning, next_in_script, own_number, own_list}
 use Rattle.pc_turns.specs.Clients.{RisesFrom}
 use Rattle.pc_turns.specs.Laws.{AreAboveKnown}
@@ -17,7 +20,7 @@ use Rattle.pc_work.specs.declared.workload.Workload.{Workload}
 use Rattle.pc_follows.specs.FinishingJobs.{jobs_of}
 use Rattle.pc_world.specs.Known.Traffic.{Sent}
 
--- The session, its script, its wire and its tries, whether its writes are pipelined, its way of evaluating a wave, its limits and its stop are the same.
+-- The session, its script, whether its writes are pipelined, its way of evaluating a wave, its limits, its stop, its wire and its tries are the same.
 pub record IsSameScripted {C : Type 0} (old new : ScriptedMeaning C) : Type 0 where
   pub number : own_number new ≡ own_number old
   pub script : new.script ≡ old.script
@@ -46,12 +49,14 @@ pub record HasMovedBy {C : Type 0} (old new : ScriptedMeaning C) (part : List (P
 abbrev pub Move : Type 1
 Move = (ℕ → List (Pair Event) → Bool) → List (Pair Event) → List (Pair Event) → Type 0
 
--- The session made some entries, and nothing else, of which this is so where its wire delivers each message, whichever of these are held up beside those that
--- it knows to be refused.
+-- The session made some entries, and nothing else; over a wire that delivers each message this is so of them, whichever of its messages are held up
+-- beside those that it knows to be refused.
 pub record HasMoved {C : Type 0} (Is : Move) (old new : ScriptedMeaning C) : Type 0 where
   pub part : List (Pair Event)
   pub by : HasMovedBy old new part
-  pub is : (held : Sent → Bool) → SaysHeldUp held new.session.desk → Is (ended_in_script old.session.desk.log.limit old.session.desk.log.stop held) (own_list old) part
+  pub is :
+      (held : Sent → Bool) → SaysHeldUp held new.session.desk → Delivers (verdict_of old.session.desk.log)
+      → Is (ended_in_script old.session.desk.log.limit old.session.desk.log.stop (verdict_of old.session.desk.log) held) (own_list old) part
 
 module _ {C : Type 0} (s : ScriptedMeaning C) where
   -- The session asks its script's next call, and is told its answer.
@@ -82,7 +87,7 @@ are_items_over items reruns script own = is_script_over reruns script own || nat
 pub record IsRunOut {C : Type 0} (s : ScriptedMeaning C) : Type 0 where
   pub over : s.session.desk.log.stopped ≡ false → next_call s.at ≡ None
 
--- The session has nothing more to do: its list has ended, or no job waits and its own entries pass the test.
+-- The session has nothing more to do: its list has ended, or no job of it waits and its own entries pass the test.
 abbrev pub SaysWhetherDone : {C : Type 0} → (List (Pair Event) → Bool) → ScriptedMeaning C → Bool → Type 0
 SaysWhetherDone test s true = (s.session.desk.log.stopped ≡ true) ⊎ ((s.session.jobs ≡ []) × (test (own_list s) ≡ true))
 SaysWhetherDone test s false = (s.session.desk.log.stopped ≡ false) × (s.session.jobs ≡ [] → test (own_list s) ≡ true → ⊥)

@@ -15,7 +15,6 @@ ghost use Rattle.pc_session.specs.Learning.{answer_to_learn};
 ghost use Rattle.pc_session.specs.Session.{IsAtRest};
 ghost use Rattle.pc_work.specs.declared.session.SessionWork.{SessionWork};
 ghost use Rattle.pc_work.specs.declared.workload.Workload.{Workload};
-ghost use Rattle.pc_follows.specs.FinishingJobs.{jobs_of};
 
 use pc_base::{NoMemory, TxnId};
 use pc_clock::Clock;

@@ -16,21 +16,21 @@ loop-actor-init g c =
       refl,
     )
 
-pub begin_recoverer-recoverer-requires-clause-there : goal.begin_recoverer-recoverer-requires-clause-there
-begin_recoverer-recoverer-requires-clause-there g c =
+pub begin_recoverer-requires-clause-there : goal.begin_recoverer-requires-clause-there
+begin_recoverer-requires-clause-there g c =
     let Has = HasBegunRounds (session_rule g.M.Clock.Clock.rule) (g.M.Clocks.rules c.args.clocks.now) c.args.work.now in
     let so_far = subst (λ ls. HaveBegunBut Has c.args.actors.items ls c.loop-actor.recoverers.items) c.in-Some.ensures.steps.0 c.loop-actor.invariant.0 in
     subst (λ n. n < length c.args.work.now.recoverers) (sym (c.len.ensures ∙ c.loop-actor.recoverers.ok.0))
     (below_behind (length c.args.work.now.sessions) (length c.loop-actor.recoverers.items) (length c.args.work.now.recoverers) (next_there Has c.args.actors.items c.next.new.self.rest.items c.in-Some.actor c.loop-actor.recoverers.items so_far (head_in_work c.args.work.now) (length c.args.work.now.sessions) (length c.args.work.now.sessions + length c.args.work.now.recoverers) c.requires.actors))
 
-pub begin_recoverer-recoverer-requires-clause-world : goal.begin_recoverer-recoverer-requires-clause-world
-begin_recoverer-recoverer-requires-clause-world g c =
+pub begin_recoverer-requires-clause-world : goal.begin_recoverer-requires-clause-world
+begin_recoverer-requires-clause-world g c =
     let Has = HasBegunRounds (session_rule g.M.Clock.Clock.rule) (g.M.Clocks.rules c.args.clocks.now) c.args.work.now in
     let so_far = subst (λ ls. HaveBegunBut Has c.args.actors.items ls c.loop-actor.recoverers.items) c.in-Some.ensures.steps.0 c.loop-actor.invariant.0 in
     (next_seated Has c.args.actors.items c.next.new.self.rest.items c.in-Some.actor c.loop-actor.recoverers.items so_far (head_in_work c.args.work.now) (length c.args.work.now.sessions) (length c.args.work.now.sessions + length c.args.work.now.recoverers) c.requires.actors).world
 
-pub begin_recoverer-recoverer-requires-clause-part : goal.begin_recoverer-recoverer-requires-clause-part
-begin_recoverer-recoverer-requires-clause-part g c =
+pub begin_recoverer-requires-clause-part : goal.begin_recoverer-requires-clause-part
+begin_recoverer-requires-clause-part g c =
     let Has = HasBegunRounds (session_rule g.M.Clock.Clock.rule) (g.M.Clocks.rules c.args.clocks.now) c.args.work.now in
     let so_far = subst (λ ls. HaveBegunBut Has c.args.actors.items ls c.loop-actor.recoverers.items) c.in-Some.ensures.steps.0 c.loop-actor.invariant.0 in
     subst (λ n. c.in-Some.actor.part ≡ newcomer (actors.Recoverer (n + 1))) (sym (c.len.ensures ∙ c.loop-actor.recoverers.ok.0))
