@@ -30,7 +30,7 @@ returns-in-Aborted-clause-waits c = λ reading kept beats asks. finish_outbox c.
 
 pub returns-in-Aborted-clause-comes : goal.returns-in-Aborted-clause-comes
 returns-in-Aborted-clause-comes c = λ messages reading kept beats asks none.
-    finished_comes c.finish.result messages c.finish.new.self c.args.self.now c.found_aborted.result c.finish.ensures.ok (subst (IsBlockOf messages) (sym (ap (λ (o : Over). o.answer) c.found_aborted.ensures.made)) tt)
+    finished_comes c.finish.result messages c.finish.new.self c.args.self.now c.found_aborted.result c.finish.ensures.ok (subst (IsBlockOf messages) (sym (ap (λ (o : Over). o.answer) (rw c.into_txn.ensures at c.found_aborted.ensures.made))) tt)
 
 pub returns-in-Refused-clause-knows : goal.returns-in-Refused-clause-knows
 returns-in-Refused-clause-knows c = λ loses k h number reading kept is beats at.

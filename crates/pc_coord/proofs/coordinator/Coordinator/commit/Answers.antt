@@ -24,7 +24,7 @@ returns-in-None-clause-waits c = finish_outbox c.finish.result c.args.self.now c
 
 pub returns-in-None-clause-comes : goal.returns-in-None-clause-comes
 returns-in-None-clause-comes c = λ messages none.
-    finished_comes c.finish.result messages c.finish.new.self c.args.self.now c.commit_unwritten.result c.finish.ensures.ok (subst (IsBlockOf messages) (sym (ap (λ (o : Over). o.answer) c.commit_unwritten.ensures.made)) tt)
+    finished_comes c.finish.result messages c.finish.new.self c.args.self.now c.commit_unwritten.result c.finish.ensures.ok (subst (IsBlockOf messages) (sym (ap (λ (o : Over). o.answer) (rw c.into_txn.ensures at c.commit_unwritten.ensures.made))) tt)
 
 pub returns-in-Some-clause-left : goal.returns-in-Some-clause-left
 returns-in-Some-clause-left c = c.commit_written.ensures.left

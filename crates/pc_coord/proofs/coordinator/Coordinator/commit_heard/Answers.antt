@@ -31,7 +31,7 @@ returns-in-Committed-clause-waits c = finish_outbox c.finish.result c.args.self.
 
 pub returns-in-Committed-clause-comes : goal.returns-in-Committed-clause-comes
 returns-in-Committed-clause-comes c = λ messages none.
-    finished_comes c.finish.result messages c.finish.new.self c.args.self.now c.committed.result c.finish.ensures.ok (subst (IsBlockOf messages) (sym (ap (λ (o : Over). o.answer) c.committed.ensures.made)) tt)
+    finished_comes c.finish.result messages c.finish.new.self c.args.self.now c.committed.result c.finish.ensures.ok (subst (IsBlockOf messages) (sym (ap (λ (o : Over). o.answer) (rw c.into_txn.ensures at c.committed.ensures.made))) tt)
 
 pub returns-in-Aborted-clause-knows : goal.returns-in-Aborted-clause-knows
 returns-in-Aborted-clause-knows c = λ loses k h number refusals is commits at.
@@ -50,7 +50,7 @@ returns-in-Aborted-clause-waits c = finish_outbox c.finish-in-Aborted.result c.a
 
 pub returns-in-Aborted-clause-comes : goal.returns-in-Aborted-clause-comes
 returns-in-Aborted-clause-comes c = λ messages none.
-    finished_comes c.finish-in-Aborted.result messages c.finish-in-Aborted.new.self c.args.self.now c.aborted.result c.finish-in-Aborted.ensures.ok (subst (IsBlockOf messages) (sym (ap (λ (o : Over). o.answer) c.aborted.ensures.made)) tt)
+    finished_comes c.finish-in-Aborted.result messages c.finish-in-Aborted.new.self c.args.self.now c.aborted.result c.finish-in-Aborted.ensures.ok (subst (IsBlockOf messages) (sym (ap (λ (o : Over). o.answer) (rw c.into_txn-in-Aborted.ensures at c.aborted.ensures.made))) tt)
 
 pub returns-in-Refused-clause-knows : goal.returns-in-Refused-clause-knows
 returns-in-Refused-clause-knows c = λ loses k h number refusals is commits at.
