@@ -29,7 +29,7 @@ use Rattle.pc_wave.specs.Course.{Course}
 use Rattle.pc_wave.specs.declared.message.Message.{Message}
 use Rattle.pc_wave.specs.declared.message.Progress.{Progress}
 use Rattle.pc_wave.specs.declared.message.Progress.TheVariants as progresses
-use Rattle.pc_wave.specs.Messages.{has_answer, progress_has_answer}
+use Rattle.pc_wave.specs.Messages.{counted_losses, has_answer, losses_of, progress_has_answer}
 use Rattle.pc_wave.specs.Standing.{AreOfTwo, CountsTries, MessageStands, MetConflict, Pairwise, messages_for, sends_counted}
 use Rattle.pc_wave.specs.Tries.{WasLostInARow, sends_waited}
 use Rattle.pc_world.specs.Counting.{AtLeast}
@@ -121,30 +121,33 @@ module _ (k : Known) (t : Txn) (x : OpenTxn) (same_id : x.id ≡ t.id) (same_epo
           (at_least-fewer (λ (other : Sent). IsSameRequest m.request other.request) m.conflicts (sends_counted m.conflicts m.progress) (sent_for_call k2) (conflicts_sent m.progress p.unanswered) stands.sent)
 
       -- and as often in a row it was lost
-      unlost_by : (b : Bool) → b ≡ false → CountsTries b c k2 m → m.lost ≡ 0
-      unlost_by false is none = none
+      counted_low : counted_losses m ≤ losses_of m
+      counted_low = omega arith
+
+      unlost_by : (b : Bool) → b ≡ false → CountsTries b c k2 m → counted_losses m ≡ 0
+      unlost_by false is none = let low = counted_low in omega (arith, low, none)
       unlost_by true is tries = absurd cc
 
-      pub unlost_it : c.loses ≡ false → m.lost ≡ 0
+      pub unlost_it : c.loses ≡ false → counted_losses m ≡ 0
       unlost_it quiet = unlost_by c.loses quiet stands.tries
 
-      tried_by : (b : Bool) → b ≡ true → CountsTries b c k2 m → (r : Request) → IsTrue (is_put_of t.id t.epoch f.seq r) → WasLostInARow k2 r m.lost
+      tried_by : (b : Bool) → b ≡ true → CountsTries b c k2 m → (r : Request) → IsTrue (is_put_of t.id t.epoch f.seq r) → WasLostInARow k2 r (counted_losses m)
       tried_by false is none r put = absurd cc
       tried_by true is tries r put =
-          row_as k2 m.request r (λ other same. same_trans r m.request other (same_sym m.request r (to_same r put)) same) (λ other same. same_trans m.request r other (to_same r put) same) m.lost (reverse k2.sent)
-          (unheard-fewer k2 m.request m.lost (m.lost + sends_waited m.progress) (reverse k2.sent) (omega arith) tries.tried)
+          row_as k2 m.request r (λ other same. same_trans r m.request other (same_sym m.request r (to_same r put)) same) (λ other same. same_trans m.request r other (to_same r put) same) (counted_losses m) (reverse k2.sent)
+          (unheard-fewer k2 m.request (counted_losses m) (losses_of m + sends_waited m.progress) (reverse k2.sent) (let low = counted_low in omega (arith, low)) tries.tried)
 
-      pub tried_it : c.loses ≡ true → (r : Request) → IsTrue (is_put_of t.id t.epoch f.seq r) → WasLostInARow k2 r m.lost
+      pub tried_it : c.loses ≡ true → (r : Request) → IsTrue (is_put_of t.id t.epoch f.seq r) → WasLostInARow k2 r (counted_losses m)
       tried_it loses r put = tried_by c.loses loses stands.tries r put
 
-      lately_by : (b : Bool) → CountsTries b c k2 m → c.pipelines ≡ true → 1 ≤ m.lost → AtLeast (λ (other : Sent). IsTrue (is_put_of t.id t.epoch f.seq other.request)) 1 (sent_for_call k2)
-      lately_by false none piped some = absurd (omega (arith, none, some))
+      lately_by : (b : Bool) → CountsTries b c k2 m → c.pipelines ≡ true → 1 ≤ counted_losses m → AtLeast (λ (other : Sent). IsTrue (is_put_of t.id t.epoch f.seq other.request)) 1 (sent_for_call k2)
+      lately_by false none piped some = let low = counted_low in absurd (omega (arith, low, none, some))
       lately_by true tries piped some =
           at_least-weaker (λ (other : Sent). IsSameRequest m.request other.request) (λ (other : Sent). IsTrue (is_put_of t.id t.epoch f.seq other.request)) (λ other same. same_to other.request same) 1 (sent_for_call k2)
           (at_least_any (λ (other : Sent). IsSameRequest m.request other.request) (sent_for_call k2)
-          (subst (λ own. Any (λ (other : Sent). IsSameRequest m.request other.request) (messages_for own k2)) (ap (λ b. b && c.pipelines) (ap is_put p.again.said) ∙ piped) (tries.here some)))
+          (subst (λ own. Any (λ (other : Sent). IsSameRequest m.request other.request) (messages_for own k2)) (ap (λ b. b && c.pipelines) (ap is_put p.again.said) ∙ piped) (tries.here (let low = counted_low in omega (arith, low, some)))))
 
-      pub lately_it : c.pipelines ≡ true → 1 ≤ m.lost → AtLeast (λ (other : Sent). IsTrue (is_put_of t.id t.epoch f.seq other.request)) 1 (sent_for_call k2)
+      pub lately_it : c.pipelines ≡ true → 1 ≤ counted_losses m → AtLeast (λ (other : Sent). IsTrue (is_put_of t.id t.epoch f.seq other.request)) 1 (sent_for_call k2)
       lately_it piped some = lately_by c.loses stands.tries piped some
 
     -- ---- where it met an intent, and then a stage was refused

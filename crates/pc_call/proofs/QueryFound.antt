@@ -75,7 +75,7 @@ use Rattle.pc_wave.specs.Course.{Course}
 use Rattle.pc_wave.specs.declared.message.Message.{Message}
 use Rattle.pc_wave.specs.declared.message.Progress.{Progress}
 use Rattle.pc_wave.specs.declared.message.Progress.TheVariants as progresses
-use Rattle.pc_wave.specs.Messages.{is_in_conflict, wave_awaits}
+use Rattle.pc_wave.specs.Messages.{is_in_conflict, losses_of, wave_awaits}
 use Rattle.pc_wave.specs.Standing.{AreOfTwo, CountsTries, IsAsFar, IsHeardTo, MessageStands, Pairwise, WaveStands}
 use Rattle.pc_wave.specs.Tries.{IsUnheardOf, sends_waited}
 use Rattle.pc_world.specs.Answering.{MayAnswer}
@@ -112,7 +112,7 @@ module _ (k : Known) (h : Heard) (number : ℕ) (asked : request_sent number k.s
   tries_then : (b : Bool) (c : Course) (m : Message) → (IsSameRequest m.request h.request → ⊥) → CountsTries b c k m → CountsTries b c (known_heard h k) m
   tries_then false c m other none = none
   tries_then true c m other t = record {
-    tried = row-heard k (known_heard h k) m.request (m.lost + sends_waited m.progress) refl (still_unheard m.request other) t.tried;
+    tried = row-heard k (known_heard h k) m.request (losses_of m + sends_waited m.progress) refl (still_unheard m.request other) t.tried;
     came = t.came;
     first = λ ready none.
         go_out-kept c k (known_heard h k) [] (h ∷ []) (record { sent = sym (append-nil k.sent); sent_now = sym (append-nil k.sent_now); heard = refl; heard_now = refl }) m.request (All-nil (IsOtherSent m.request)) (All-cons (IsOther m.request) h [] other (All-nil (IsOther m.request))) (t.first ready none);

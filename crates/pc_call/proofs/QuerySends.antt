@@ -36,7 +36,7 @@ use Rattle.pc_wave.proofs.Tries.{row-other}
 use Rattle.pc_wave.specs.Course.{Course}
 use Rattle.pc_wave.specs.declared.message.Message.{Message}
 use Rattle.pc_wave.specs.declared.step.Step.TheVariants as steps
-use Rattle.pc_wave.specs.Messages.{first_changed, is_to_send, sent_under, step_of}
+use Rattle.pc_wave.specs.Messages.{first_changed, is_to_send, losses_of, sent_under, step_of}
 use Rattle.pc_wave.specs.Standing.{CountsTries, HasMore, MessageStands}
 use Rattle.pc_world.specs.Known.{Known, next_number}
 use Rattle.pc_wave.specs.Tries.{IsUnheardOf, sends_waited}
@@ -59,7 +59,7 @@ stage_apart r x key seq is (inr same) = absurd same
 tries_on : (b : Bool) (c : Course) (k k2 : Known) (new : Sent) (more : HasMore k k2 (new ∷ []) []) (m : Message) → (IsSameRequest m.request new.request → ⊥) → CountsTries b c k m → CountsTries b c k2 m
 tries_on false c k k2 new more m other none = none
 tries_on true c k k2 new more m other t = record {
-  tried = row-other k k2 m.request new more.sent keep (m.lost + sends_waited m.progress) other t.tried;
+  tried = row-other k k2 m.request new more.sent keep (losses_of m + sends_waited m.progress) other t.tried;
   came = t.came;
   first = λ ready none. go_out-kept c k k2 (new ∷ []) [] more m.request (All-cons (IsOtherSent m.request) new [] other (All-nil (IsOtherSent m.request))) (All-nil (IsOther m.request)) (t.first ready none);
   here = λ some. here-kept c k k2 (new ∷ []) [] more m.request (t.here some);

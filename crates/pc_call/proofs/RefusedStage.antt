@@ -75,7 +75,7 @@ use Rattle.pc_wave.specs.declared.message.Message.{Message}
 use Rattle.pc_wave.specs.declared.message.Progress.{Progress}
 use Rattle.pc_wave.specs.declared.message.Progress.TheVariants as progresses
 use Rattle.pc_wave.specs.Course.{Course}
-use Rattle.pc_wave.specs.Messages.{awaits_at, back_with, first_changed, has_answer, is_to_send, progress_awaits, progress_has_answer, progress_in_conflict, progress_to_send, wave_awaits}
+use Rattle.pc_wave.specs.Messages.{awaits_at, back_with, counted_losses, first_changed, has_answer, is_to_send, progress_awaits, progress_has_answer, progress_in_conflict, progress_to_send, wave_awaits}
 use Rattle.pc_wave.specs.Standing.{AreAnsweredIn, AreOfTwo, IsAsFar, IsHeardTo, MessageStands, MetConflict, Pairwise, sends_counted}
 use Rattle.pc_world.specs.Counting.{AtLeast}
 use Rattle.pc_world.specs.Known.{Known}
@@ -395,14 +395,14 @@ module _ (session clock count : ℕ) (set : Setting) (k : Known) (x : OpenTxn) (
           let conflicts_are : conflicts_before f.seq ms2 ≡ m.conflicts =
           ap (λ ms. option_map_or (λ (m : Message). m.conflicts) (find (λ (m : Message). has_put f.seq m.request) ms) 0) (ms2_is session clock count set k x p ms counted w number view h waited is n e recorded undecided)
           ∙ ap (λ o. option_map_or (λ (m : Message). m.conflicts) o 0) one.3 in
-          let losses_are : losses_before f.seq ms2 ≡ m.lost =
-          ap (λ ms. option_map_or (λ (m : Message). m.lost) (find (λ (m : Message). has_put f.seq m.request) ms) 0) (ms2_is session clock count set k x p ms counted w number view h waited is n e recorded undecided)
-          ∙ ap (λ o. option_map_or (λ (m : Message). m.lost) o 0) one.3 in
+          let losses_are : losses_before f.seq ms2 ≡ counted_losses m =
+          ap (λ ms. option_map_or counted_losses (find (λ (m : Message). has_put f.seq m.request) ms) 0) (ms2_is session clock count set k x p ms counted w number view h waited is n e recorded undecided)
+          ∙ ap (λ o. option_map_or counted_losses o 0) one.3 in
           let piped : set.course.pipelines ≡ true = pipelined_by set.course.pipelines x.in_flight f (subst (λ call. SuitsFlightIn set.course.pipelines call x.in_flight) serves.commits.call w.plain) there in
           let stands2 : MessageStands set.course k2 m = in_puts (MessageStands set.course k2) m one.1 (subst (λ ms. All (MessageStands set.course k2) ms) (ms2_is session clock count set k x p ms counted w number view h waited is n e recorded undecided) (wave2 session clock count set k x p ms counted w number reply h waited is).stand) in
           let stands : MessageStands set.course k m = in_front (MessageStands set.course k) m one.1 (subst (λ ms. All (MessageStands set.course k) ms) serves.wave.whole k_stand) in
           subst (MayBePutAgain set.course.loses k2 t2 f.seq (conflicts_before f.seq ms2)) (sym losses_are)
-          (subst (λ i. MayBePutAgain set.course.loses k2 t2 f.seq i m.lost) (sym conflicts_are) (record {
+          (subst (λ i. MayBePutAgain set.course.loses k2 t2 f.seq i (counted_losses m)) (sym conflicts_are) (record {
             before = subst (λ seq. list_any (λ other. is_put_of w.t.id w.t.epoch seq other.request) (sent_before k) ≡ true) one.2.sequence one.2.again.before;
             counts = counts_it k w.t x same_id same_epoch f m one.2 set.course k2 stands2;
             sent = PutAgain.sent_it k w.t x same_id same_epoch f m one.2 set.course k2 stands2;

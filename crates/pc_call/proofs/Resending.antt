@@ -1,5 +1,5 @@
 -- What goes out again has a reason: a put goes at the write timestamp, or just as it was; another request once the round of its conflict was made.
-use Rattle.std.proofs.Common.{◌≡◌, ℕ, Bool, true, false, ◌⊎◌, inl, inr, List, [], ◌∷◌, map, find, Option, Some, None, refl, sym, ap, ◌∙◌, subst, All, Any, IsTrue, ◌&&◌, not}
+use Rattle.std.proofs.Common.{◌≡◌, ℕ, Bool, true, false, ◌⊎◌, inl, inr, List, [], ◌∷◌, map, find, Option, Some, None, refl, sym, ap, ◌∙◌, subst, arith, All, Any, IsTrue, ◌&&◌, not}
 use Rattle.std.specs.List.{list_any}
 use Rattle.std.proofs.lemmas.List.Elements.{All-append, All-cons, All-contains, All-head, All-nil, All-weaker}
 use Rattle.std.proofs.lemmas.List.Folds.{Any-from_list_any}
@@ -32,7 +32,7 @@ use Rattle.pc_txn.proofs.Puts.{same_put}
 use Rattle.pc_txn.specs.declared.txn.OpenTxn.{OpenTxn}
 use Rattle.pc_wave.proofs.Changed.{any_none, found_all, found_passes}
 use Rattle.pc_wave.specs.declared.message.Message.{Message}
-use Rattle.pc_wave.specs.Messages.{is_to_send}
+use Rattle.pc_wave.specs.Messages.{is_to_send, losses_of}
 use Rattle.pc_wave.specs.Standing.{AreAnsweredIn, CountsTries, IsAsFar, IsFreeToGo, IsReason, MayGoOut, MessageStands, WasPutPassedOver, WentOutBefore, goes_beside, messages_for}
 use Rattle.pc_world.specs.Known.{Known, open_txn}
 use Rattle.pc_world.specs.Known.Traffic.{Heard}
@@ -147,7 +147,7 @@ module _ (set : Setting) (k : Known) (x : OpenTxn) (p : Purpose) (ms : List Mess
     stands_m = found_all is_to_send (MessageStands set.course k) ms m found w.wave.stand
 
     unlost : m.lost ≡ 0
-    unlost = subst (λ b. CountsTries b set.course k m) quiet stands_m.tries
+    unlost = let none : losses_of m ≡ 0 = subst (λ b. CountsTries b set.course k m) quiet stands_m.tries in omega (arith, none)
 
     goes : MayGoOut set.course k m.request
     goes = subst (λ b. IsFreeToGo b set.course k m.request) quiet (subst (λ q. IsAsFar set.course k m.request m.conflicts q) (to_send_as m.progress to_send) stands_m.as_far).0

@@ -200,15 +200,15 @@ module _ (set : Setting) (n : ℕ) (k : Known) (x : OpenTxn) (s : Statement) (pu
 
       -- its tries go on counting
       tries : (l : Bool) → set.course.loses ≡ l → CountsTries l set.course k (message_again put many lost)
-      tries false quiet = again.unlost quiet
+      tries false quiet = let none = again.unlost quiet in omega (arith, none)
       tries true loses = record {
-        tried = let more : lost ≡ lost + 0 = omega arith in subst (λ n. WasLostInARow k put n) more (again.tried loses put own_put_of);
+        tried = let more : lost ≡ lost + 0 + 0 = omega arith in subst (λ n. WasLostInARow k put n) more (again.tried loses put own_put_of);
         came = λ unsent out. absurd cc;
         first = λ ready none. goes;
         here = λ some.
             subst (λ b. Any (λ (m : Sent). IsSameRequest put m.request) (messages_for b k)) (sym piped)
             (any_weaker (λ (m : Sent). IsTrue (is_put_of t.id t.epoch w.seq m.request)) (λ (m : Sent). IsSameRequest put m.request) (λ m is. to_same m.request is) (sent_for_call k)
-            (any_at_least (λ (m : Sent). IsTrue (is_put_of t.id t.epoch w.seq m.request)) (sent_for_call k) (again.lately some)));
+            (any_at_least (λ (m : Sent). IsTrue (is_put_of t.id t.epoch w.seq m.request)) (sent_for_call k) (again.lately (omega (arith, some)))));
       }
 
       goes_again : GoesAgain set k put many lost

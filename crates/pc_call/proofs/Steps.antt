@@ -70,7 +70,7 @@ use Rattle.pc_wave.proofs.Changed.{found_all, found_passes}
 use Rattle.pc_wave.proofs.Sending.{sends_first, wave_sent}
 use Rattle.pc_wave.specs.declared.message.Message.{Message}
 use Rattle.pc_wave.specs.declared.step.Step.TheVariants as steps
-use Rattle.pc_wave.specs.Messages.{first_changed, first_in_conflict, has_answer, is_to_send, progress_has_answer, sent_under, step_of}
+use Rattle.pc_wave.specs.Messages.{first_changed, first_in_conflict, has_answer, is_to_send, losses_of, progress_has_answer, sent_under, step_of}
 use Rattle.pc_wave.specs.Standing.{AreOfTwo, HasMore, Pairwise, WaveStands, goes_beside, CountsTries, MessageStands}
 use Rattle.pc_world.specs.Known.{Known, next_number}
 use Rattle.pc_world.specs.Known.Traffic.{Heard, Sent}
@@ -202,8 +202,9 @@ module _ (session clock count : ℕ) (set : Setting) (k : Known) (x : OpenTxn) (
       by (purposes.Beat call reading) r b none = λ quiet.
           let P : Sent → Type 0 = λ m. is_heartbeat m.request ≡ false in
           let only = only_found is_to_send r.m first_one.0 (subst (λ ms. find is_to_send ms ≡ Some first_one.0) r.one first_one.1) in
-          let unlost : r.m.lost ≡ 0 =
+          let none_lost : losses_of r.m ≡ 0 =
           subst (λ b. CountsTries b set.course k r.m) quiet (All-head (MessageStands set.course k) r.m [] (subst (λ ms. All (MessageStands set.course k) ms) r.one w.wave.stand)).tries in
+          let unlost : r.m.lost ≡ 0 = omega (arith, none_lost) in
           subst (λ ms. All P (drop 1 (ms ++ m2 ∷ []))) (sym (r.due only.1 unlost).first) (All-nil P)
       by (purposes.Prove call all) r b none = on none b
       by purposes.Read r b none = on none b

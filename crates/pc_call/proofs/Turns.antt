@@ -35,7 +35,7 @@ use Rattle.pc_txn.specs.Opened.{own_get, own_scan}
 use Rattle.pc_txn.specs.Silence.{own_beat}
 use Rattle.pc_wave.proofs.Changed.{found_all, found_passes}
 use Rattle.pc_wave.specs.declared.message.Message.{Message}
-use Rattle.pc_wave.specs.Messages.{is_to_send, wave_awaits}
+use Rattle.pc_wave.specs.Messages.{is_to_send, losses_of, wave_awaits}
 use Rattle.pc_wave.specs.Standing.{CountsTries, MessageStands, Pairwise}
 use Rattle.pc_follows.specs.Refreshes.{IsItsRefresh, IsRefreshBefore, MetWrite}
 use Rattle.pc_world.specs.Known.{Known, reading_in}
@@ -198,7 +198,9 @@ module _ (set : Setting) (k : Known) (x : OpenTxn) (p : Purpose) (ms : List Mess
 
     -- where nothing is lost, the one message is not
     unlost : set.course.loses ≡ false → (y : Message) → ms ≡ y ∷ [] → y.lost ≡ 0
-    unlost quiet y one = subst (λ b. CountsTries b set.course k y) quiet (All-head (MessageStands set.course k) y [] (subst (λ ms. All (MessageStands set.course k) ms) one w.wave.stand)).tries
+    unlost quiet y one =
+        let none : losses_of y ≡ 0 = subst (λ b. CountsTries b set.course k y) quiet (All-head (MessageStands set.course k) y [] (subst (λ ms. All (MessageStands set.course k) ms) one w.wave.stand)).tries in
+        omega (arith, none)
 
     -- a heartbeat goes out behind another message only where the call would give up, and nothing behind it
     pub beats_last : set.course.loses ≡ false → (number range : ℕ) → BeatsLast k (events.Send number range m.request)

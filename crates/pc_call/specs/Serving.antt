@@ -35,7 +35,7 @@ use Rattle.pc_txn.specs.Writing.{WasAskedAt}
 use Rattle.pc_wave.specs.declared.message.Message.{Message}
 use Rattle.pc_wave.specs.declared.message.Progress.{Progress}
 use Rattle.pc_wave.specs.declared.message.Progress.TheVariants as progresses
-use Rattle.pc_wave.specs.Messages.{awaits_at, has_answer, is_to_send, wave_awaits, is_in_conflict}
+use Rattle.pc_wave.specs.Messages.{awaits_at, counted_losses, has_answer, is_to_send, wave_awaits, is_in_conflict}
 use Rattle.pc_wave.specs.Standing.{Pairwise, WaveStands, goes_beside}
 use Rattle.pc_wave.specs.Tries.{WasLostInARow}
 use Rattle.pc_wave.specs.Course.{Course}
@@ -275,7 +275,7 @@ conflicts_before seq puts = option_map_or (λ m. m.conflicts) (find (λ m. has_p
 
 -- How often in a row the put of this sequence was lost, by these messages.
 abbrev pub losses_before : ℕ → List Message → ℕ
-losses_before seq puts = option_map_or (λ m. m.lost) (find (λ m. has_put seq m.request) puts) 0
+losses_before seq puts = option_map_or counted_losses (find (λ m. has_put seq m.request) puts) 0
 
 -- But for puts of writes that are proved, no request met eight intents in the call.
 abbrev pub NoneMetEighth : TxnId → ℕ → List WriteInFlight → List Heard → Type 0

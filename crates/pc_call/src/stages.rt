@@ -257,7 +257,7 @@ fn losses_before(puts: &[Message], seq: u32) -> u32
     ensures { result ≡ losses_before seq puts.now }
 {
     match put_of(puts, seq) {
-        Some(put) => put.lost,
+        Some(put) => put.losses(),
         None => 0,
     }
 }

@@ -50,7 +50,7 @@ use Rattle.pc_txn.specs.Opened.{meta_now, next_put, own_get, own_scan}
 use Rattle.pc_wave.specs.Course.{Course}
 use Rattle.pc_wave.specs.declared.message.Message.{Message}
 use Rattle.pc_wave.specs.declared.step.Step.TheVariants as steps
-use Rattle.pc_wave.specs.Messages.{awaits_at, back_with, first_changed, has_answer, is_out, is_to_send, message_to_send, no_try_left, step_of, wave_awaits}
+use Rattle.pc_wave.specs.Messages.{awaits_at, back_with, first_changed, has_answer, is_out, is_to_send, message_to_send, no_try_left, step_of, wave_awaits, losses_of}
 use Rattle.pc_wave.specs.Standing.{CountsTries, MessageStands}
 use Rattle.pc_world.proofs.KeyOrder.{at_most-through}
 use Rattle.pc_world.specs.Known.{Known}
@@ -61,8 +61,8 @@ use Rattle.pc_world.specs.RangeOf.{earlier_end, later_start}
 
 no_try : (c : Course) (k : Known) (tries : ℕ) (m : Message) → c.loses ≡ false → 1 ≤ tries → MessageStands c k m → no_try_left tries m ≡ false
 no_try c k tries m quiet some s =
-    let none : m.lost ≡ 0 = subst (λ b. CountsTries b c k m) quiet s.tries in
-    lt-leb tries m.lost (omega (arith, none, some))
+    let none : losses_of m ≡ 0 = subst (λ b. CountsTries b c k m) quiet s.tries in
+    lt-leb tries (losses_of m) (omega (arith, none, some))
 
 none_used : (c : Course) (k : Known) (tries : ℕ) (ms : List Message) → c.loses ≡ false → 1 ≤ tries → All (MessageStands c k) ms → list_any (no_try_left tries) ms ≡ false
 none_used c k tries [] quiet some a = refl

@@ -34,7 +34,7 @@ use Rattle.pc_wave.specs.Course.{Course}
 use Rattle.pc_wave.specs.declared.message.Message.{Message}
 use Rattle.pc_wave.specs.declared.message.Progress.{Progress}
 use Rattle.pc_wave.specs.declared.message.Progress.TheVariants as progresses
-use Rattle.pc_wave.specs.Messages.{has_answer, is_out, no_try_left, progress_has_answer, progress_out, progress_to_send, is_in_conflict, step_of}
+use Rattle.pc_wave.specs.Messages.{has_answer, is_out, losses_of, no_try_left, progress_has_answer, progress_out, progress_to_send, is_in_conflict, step_of}
 use Rattle.pc_wave.specs.Standing.{CountsTries, MessageStands, StandsByTries, WaveStands, goes_beside, messages_for, IsAsFar, MetConflict}
 use Rattle.pc_wave.specs.Tries.{AreLastUnheard, IsUnheardOf, WasLostInARow, sends_waited}
 use Rattle.pc_world.specs.Known.{Known}
@@ -132,7 +132,7 @@ one_less (suc n) some = (n, refl)
 -- Where a message of the wave is a put that was lost, its write is not proved.
 abbrev pub AreUnprovedLost : Known → List Message → Type 0
 AreUnprovedLost k ms =
-    (m : Message) → Contains ms m → is_put m.request ≡ true → 1 ≤ m.lost → has_answer m ≡ false → Any (λ s. IsSameRequest m.request s.request) (sent_for_call k) → (s : Sent) → IsSameRequest m.request s.request → IsUnprovedPut k.txns s
+    (m : Message) → Contains ms m → is_put m.request ≡ true → 1 ≤ losses_of m → has_answer m ≡ false → Any (λ s. IsSameRequest m.request s.request) (sent_for_call k) → (s : Sent) → IsSameRequest m.request s.request → IsUnprovedPut k.txns s
 
 -- where the tries of one of the messages are used up, so many were lost
 pub wave_was_lost : (c : Course) (k : Known) (ms : List Message) (tries : ℕ) → WaveStands c k ms → c.loses ≡ true → 1 ≤ tries → list_any (no_try_left tries) ms ≡ true → WentToOneRange k → IsSplit k → AreUnprovedLost k ms → WasLost k tries
@@ -142,14 +142,14 @@ wave_was_lost c k ms tries w loses some used went split unproved =
     let there : Contains ms m = found_in (no_try_left tries) ms m f.1 in
     let s : MessageStands c k m = found_all (no_try_left tries) (MessageStands c k) ms m f.1 w.stand in
     let t : StandsByTries c k m = subst (λ b. CountsTries b c k m) loses s.tries in
-    let many : tries ≤ m.lost = leb-true tries m.lost (found_passes (no_try_left tries) ms m f.1) in
-    let low : tries ≤ m.lost + sends_waited m.progress = omega (arith, many) in
-    let one : 1 ≤ m.lost = omega (arith, many, some) in
+    let many : tries ≤ losses_of m = leb-true tries (losses_of m) (found_passes (no_try_left tries) ms m f.1) in
+    let low : tries ≤ losses_of m + sends_waited m.progress = omega (arith, many) in
+    let one : 1 ≤ losses_of m = omega (arith, many, some) in
     let n = one_less tries some in
-    let row : WasLostInARow k m.request (suc n.0) = subst (λ i. WasLostInARow k m.request i) n.1 (unheard-fewer k m.request tries (m.lost + sends_waited m.progress) (reverse k.sent) low t.tried) in
+    let row : WasLostInARow k m.request (suc n.0) = subst (λ i. WasLostInARow k m.request i) n.1 (unheard-fewer k m.request tries (losses_of m + sends_waited m.progress) (reverse k.sent) low t.tried) in
     subst (WasLost k) (sym n.1) (by m there s t one n.0 row (is_put m.request) refl c.pipelines refl)
   where
-    unanswered : (m : Message) → StandsByTries c k m → 1 ≤ m.lost → has_answer m ≡ false
+    unanswered : (m : Message) → StandsByTries c k m → 1 ≤ losses_of m → has_answer m ≡ false
     unanswered m t one = at m.progress refl
       where
         at : (p : Progress) → m.progress ≡ p → progress_has_answer m.progress ≡ false
@@ -158,7 +158,7 @@ wave_was_lost c k ms tries w loses some used went split unproved =
         at (progresses.Met number conflict) e = ap progress_has_answer e
         at (progresses.Answered number reply) e = let none = t.came (ap progress_to_send e) (ap progress_out e) in absurd (omega (arith, none, one))
 
-    by : (m : Message) → Contains ms m → MessageStands c k m → StandsByTries c k m → 1 ≤ m.lost → (n : ℕ) → WasLostInARow k m.request (suc n) → (put : Bool) → is_put m.request ≡ put → (piped : Bool) → c.pipelines ≡ piped → WasLost k (suc n)
+    by : (m : Message) → Contains ms m → MessageStands c k m → StandsByTries c k m → 1 ≤ losses_of m → (n : ℕ) → WasLostInARow k m.request (suc n) → (put : Bool) → is_put m.request ≡ put → (piped : Bool) → c.pipelines ≡ piped → WasLost k (suc n)
     by m there s t one n row false none piped is =
         lost_here k went m.request s.no_round n row split (subst (λ l. Any (λ s. IsSameRequest m.request s.request) l) (plain_sent c.pipelines k m.request none) (t.here one))
     by m there s t one n row true put false is =

@@ -10,7 +10,7 @@ use Rattle.pc_call.specs.declared.later.LaterPut.{LaterPut}
 use Rattle.pc_call.specs.declared.purpose.Purpose.{Purpose}
 use Rattle.pc_call.specs.declared.purpose.Purpose.TheVariants as purposes
 use Rattle.pc_call.specs.Outbox.{later_sent}
-use Rattle.pc_call.specs.Serving.{InCall, MayBePutAgain, Serves, conflicts_before, out_of, write_call}
+use Rattle.pc_call.specs.Serving.{InCall, MayBePutAgain, Serves, conflicts_before, losses_before, out_of, write_call}
 use Rattle.pc_call.specs.Setting.{Setting}
 use Rattle.pc_call.specs.Stages.{CommitsOnFrom, is_to_commit}
 use Rattle.pc_call.specs.Suiting.{SuitsFlightIn}
@@ -80,7 +80,7 @@ pub refused_from : (set : Setting) (k : Known) (x : OpenTxn) (p : Purpose) (ms :
     → CommitsOnFrom set.course.loses on.t.read_ts n2 k2 on.t x2 on.s []
 refused_from set k x p ms w n e recorded step x2 is k2 n2 on =
     let s = served_commit set k x p ms w n e in
-    let P : WriteInFlight → Type 0 = λ f. MayBePutAgain set.course.loses k2 on.t f.seq (conflicts_before f.seq []) in
+    let P : WriteInFlight → Type 0 = λ f. MayBePutAgain set.course.loses k2 on.t f.seq (conflicts_before f.seq []) (losses_before f.seq []) in
     record {
       on = on.on;
       passed = late_passed k2 on.on.stages on.t x2.staging on.on.stands.staging on.on.late;

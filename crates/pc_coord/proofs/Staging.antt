@@ -41,7 +41,7 @@ use Rattle.pc_txn.specs.Opened.{meta_now}
 use Rattle.pc_wave.proofs.Awaiting.{heard_awaits}
 use Rattle.pc_wave.proofs.Changed.{found_passes}
 use Rattle.pc_wave.specs.declared.message.Message.{Message}
-use Rattle.pc_wave.specs.Messages.{awaits_at, back_with, back_with_by, first_changed, is_out, no_try_left, wave_awaits}
+use Rattle.pc_wave.specs.Messages.{awaits_at, back_with, back_with_by, first_changed, is_out, losses_of, no_try_left, wave_awaits}
 use Rattle.pc_wave.specs.Standing.{CountsTries, MessageStands, HasMore, WaveStands}
 use Rattle.pc_world.specs.Answering.{IsPutReply, IsRecordReply, MayAnswer}
 use Rattle.pc_world.specs.Known.{Known}
@@ -195,13 +195,13 @@ undecided_shows id reply (inr shows) is = shows
 undecided_shows id (replies.Status view) (inl put) is = absurd put
 undecided_shows id reply (inl put) is = absurd cc
 
-back_unlost : (number : ℕ) (reply : Reply) (m : Message) → (back_with number reply m).lost ≡ 0
-back_unlost number reply m = elim (is_conflict reply) as (λ b. (back_with_by b number reply m).lost ≡ 0) [ true ↦ refl | false ↦ refl ]
+back_unlost : (number : ℕ) (reply : Reply) (m : Message) → losses_of (back_with number reply m) ≡ 0
+back_unlost number reply m = elim (is_conflict reply) as (λ b. losses_of (back_with_by b number reply m) ≡ 0) [ true ↦ refl | false ↦ refl ]
 
-none_lost : (tries : ℕ) (ms : List Message) → 1 ≤ tries → All (λ m. m.lost ≡ 0) ms → list_any (no_try_left tries) ms ≡ false
+none_lost : (tries : ℕ) (ms : List Message) → 1 ≤ tries → All (λ m. losses_of m ≡ 0) ms → list_any (no_try_left tries) ms ≡ false
 none_lost tries [] some a = refl
 none_lost tries (m ∷ ms) some a =
-    ap (λ b. b || list_any (no_try_left tries) ms) (lt-leb tries m.lost (omega (arith, All-head (λ (m : Message). m.lost ≡ 0) m ms a, some))) ∙ none_lost tries ms some (All-tail (λ (m : Message). m.lost ≡ 0) m ms a)
+    ap (λ b. b || list_any (no_try_left tries) ms) (lt-leb tries (losses_of m) (omega (arith, All-head (λ (m : Message). losses_of m ≡ 0) m ms a, some))) ∙ none_lost tries ms some (All-tail (λ (m : Message). losses_of m ≡ 0) m ms a)
 
 module _ (loses : Bool) (c : Coordination) (call : OpenCall) (x : OpenTxn) (number : ℕ) (reply : Reply) (k : Known) (h : Heard) (is : HearsNow loses c call x number reply k h) (n : ℕ) (stages : call.purpose ≡ purposes.Stage n) where
   -- the puts that wait stand aside of the stage that was told
@@ -221,9 +221,9 @@ module _ (loses : Bool) (c : Coordination) (call : OpenCall) (x : OpenTxn) (numb
   told_tries : loses ≡ false → is_lost_after c.tries (first_changed (awaits_at number) (back_with number reply) call.wave) ≡ true → ⊥
   told_tries quiet lost =
       let course = (setting_of loses c).course in
-      let none : All (λ (m : Message). m.lost ≡ 0) call.wave = All-weaker (MessageStands course k) (λ (m : Message). m.lost ≡ 0) (λ m s. subst (λ b. CountsTries b course k m) quiet s.tries) call.wave is.in_call.wave.stand in
+      let none : All (λ (m : Message). losses_of m ≡ 0) call.wave = All-weaker (MessageStands course k) (λ (m : Message). losses_of m ≡ 0) (λ m s. subst (λ b. CountsTries b course k m) quiet s.tries) call.wave is.in_call.wave.stand in
       let back = first_changed (awaits_at number) (back_with number reply) call.wave in
-      let then_none : All (λ (m : Message). m.lost ≡ 0) back = all_changed (awaits_at number) (back_with number reply) (λ (m : Message). m.lost ≡ 0) (λ m was. back_unlost number reply m) call.wave none in
+      let then_none : All (λ (m : Message). losses_of m ≡ 0) back = all_changed (awaits_at number) (back_with number reply) (λ (m : Message). losses_of m ≡ 0) (λ m was. back_unlost number reply m) call.wave none in
       let e : false ≡ true = sym (none_lost c.tries back is.ready.course.tried then_none) ∙ (and_parts (not (list_any is_out back)) (list_any (no_try_left c.tries) back) lost).1 in
       cc
 
@@ -234,13 +234,13 @@ module _ (loses : Bool) (c : Coordination) (call : OpenCall) (x : OpenTxn) (numb
   back = first_changed (awaits_at number) (back_with number reply) call.wave
 
   -- a message of the wave that was lost was in it before
-  lost_before : (m : Message) → Contains back m → 1 ≤ m.lost → Contains call.wave m
+  lost_before : (m : Message) → Contains back m → 1 ≤ losses_of m → Contains call.wave m
   lost_before m there some = by call.wave there
     where
       at : (q : Message) (ms : List Message) → (Contains (first_changed (awaits_at number) (back_with number reply) ms) m → Contains ms m) → (b : Bool)
           → Contains (cond b (back_with number reply q ∷ ms) (q ∷ first_changed (awaits_at number) (back_with number reply) ms)) m → Contains (q ∷ ms) m
       at q ms rest true (zero, low, same) =
-          let none : m.lost ≡ 0 = ap (λ (m : Message). m.lost) (sym same) ∙ back_unlost number reply q in
+          let none : losses_of m ≡ 0 = ap losses_of (sym same) ∙ back_unlost number reply q in
           absurd (omega (arith, none, some))
       at q ms rest true (suc n, low, same) = (suc n, omega (arith, low), same)
       at q ms rest false (zero, low, same) = (0, omega arith, same)

@@ -53,7 +53,7 @@ use Rattle.pc_wave.specs.declared.message.Progress.{Progress}
 use Rattle.pc_wave.specs.declared.message.Progress.TheVariants as progresses
 use Rattle.pc_wave.specs.declared.step.Step.{Step}
 use Rattle.pc_wave.specs.declared.step.Step.TheVariants as steps
-use Rattle.pc_wave.specs.Messages.{awaits_at, first_in_conflict, has_answer, is_in_conflict, is_out, is_pending, is_to_send, progress_awaits, progress_has_answer, progress_in_conflict, progress_out, progress_to_send, step_by, step_of, wave_awaits}
+use Rattle.pc_wave.specs.Messages.{awaits_at, first_in_conflict, has_answer, is_in_conflict, is_out, is_pending, is_to_send, progress_awaits, progress_has_answer, progress_in_conflict, progress_out, progress_to_send, step_by, step_of, wave_awaits, losses_of}
 use Rattle.pc_wave.specs.Standing.{goes_beside}
 use Rattle.pc_world.specs.Known.{Known, learn, open_txn, reading_in, reading_of}
 use Rattle.pc_world.specs.Known.Traffic.{Heard, Sent, request_sent}
@@ -142,7 +142,7 @@ pending_out [] e = absurd cc
 pending_out (m ∷ ms) e = by (pending_out ms) (is_out m) refl e
   where
     by : (list_any is_out ms ≡ true → list_any is_pending ms ≡ true) → (b : Bool) → is_out m ≡ b → (b || list_any is_out ms) ≡ true → (is_pending m || list_any is_pending ms) ≡ true
-    by later true is e = or_left (is_pending m) (list_any is_pending ms) (or_left (is_out m) (is_to_send m && nat_lt 0 m.lost) is)
+    by later true is e = or_left (is_pending m) (list_any is_pending ms) (or_left (is_out m) (is_to_send m && nat_lt 0 (losses_of m)) is)
     by later false is e = or_right (is_pending m) (list_any is_pending ms) (later e)
 
 none_either : (b : Bool) (o : Option Message) → o ≡ None → cond b None o ≡ None

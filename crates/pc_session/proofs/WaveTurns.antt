@@ -19,7 +19,7 @@ use Rattle.pc_wave.specs.declared.message.Message.{Message}
 use Rattle.pc_wave.specs.declared.message.Progress.{Progress}
 use Rattle.pc_wave.specs.declared.message.Progress.TheVariants as progresses
 use Rattle.pc_wave.specs.declared.step.Step.TheVariants as steps
-use Rattle.pc_wave.specs.Messages.{awaits_at, back_with, back_with_by, conflict_by, conflicts_at, first_changed, first_in_conflict, goes_again, has_answer, is_in_conflict, is_out, is_pending, is_to_send, progress_conflicts, progress_in_conflict, progress_out, progress_to_send, sent_under, step_by, step_in, step_of, wave_awaits}
+use Rattle.pc_wave.specs.Messages.{awaits_at, back_with, back_with_by, conflict_by, conflicts_at, first_changed, first_in_conflict, goes_again, has_answer, is_in_conflict, is_out, is_pending, is_to_send, losses_of, progress_conflicts, progress_in_conflict, progress_out, progress_to_send, sent_under, step_by, step_in, step_of, wave_awaits}
 use Rattle.pc_wave.specs.Standing.{Pairwise}
 
 or_parts : (a b : Bool) → (a || b) ≡ false → (a ≡ false) × (b ≡ false)
@@ -322,7 +322,7 @@ in_sends conflicts (progresses.Answered number reply) request e = cc
 
 -- No sending of the message was lost.
 abbrev pub IsUnlost : Message → Type 0
-IsUnlost m = m.lost ≡ 0
+IsUnlost m = losses_of m ≡ 0
 
 pending_out : (m : Message) → IsUnlost m → is_pending m ≡ is_out m
 pending_out m none = ap (λ n. is_out m || (is_to_send m && nat_lt 0 n)) none ∙ by (is_out m) (is_to_send m)

@@ -8,7 +8,7 @@ use Rattle.pc_wave.specs.Cursors.{AreCursors, HasNoneBefore, cursor_without, lac
 use Rattle.pc_wave.specs.declared.message.Message.{Message}
 use Rattle.pc_wave.specs.declared.message.Progress.{Progress}
 use Rattle.pc_wave.specs.declared.message.Progress.TheVariants as progresses
-use Rattle.pc_wave.specs.Messages.{awaits_at, back_with, back_with_by, conflicts_at, has_answer, is_in_conflict, is_out, is_pending, is_to_send, progress_awaits, progress_conflicts, progress_has_answer, progress_in_conflict, progress_out, progress_to_send, sent_under}
+use Rattle.pc_wave.specs.Messages.{losses_of, awaits_at, back_with, back_with_by, conflicts_at, has_answer, is_in_conflict, is_out, is_pending, is_to_send, progress_awaits, progress_conflicts, progress_has_answer, progress_in_conflict, progress_out, progress_to_send, sent_under}
 
 -- a message that has its answer is in no other state
 to_send_no : (p : Progress) → not (progress_has_answer p) ≡ false → progress_to_send p ≡ false
@@ -54,7 +54,7 @@ answered_yes (progresses.Met number conflict) is = cc
 answered_yes (progresses.Answered number reply) is = refl
 
 pub none_pending : (m : Message) → lacks_answer m ≡ false → is_pending m ≡ false
-none_pending m is = pending_no m.progress (nat_lt 0 m.lost) is
+none_pending m is = pending_no m.progress (nat_lt 0 (losses_of m)) is
 
 pub none_out : (m : Message) → lacks_answer m ≡ false → is_out m ≡ false
 none_out m is = out_no m.progress is

@@ -20,7 +20,7 @@ use Rattle.pc_wave.specs.declared.message.Progress.{Progress}
 use Rattle.pc_wave.specs.declared.message.Progress.TheVariants as progresses
 use Rattle.pc_wave.specs.declared.step.Step.{Step}
 use Rattle.pc_wave.specs.Due.{MayBeDue, MayBeSent, WasAnsweredWith}
-use Rattle.pc_wave.specs.Messages.{conflict_by, first_in_conflict, has_answer, is_out, is_in_conflict, is_pending, is_to_send, progress_has_answer, progress_out, progress_in_conflict, progress_to_send, step_by, step_in, step_of}
+use Rattle.pc_wave.specs.Messages.{losses_of, conflict_by, first_in_conflict, has_answer, is_out, is_in_conflict, is_pending, is_to_send, progress_has_answer, progress_out, progress_in_conflict, progress_to_send, step_by, step_in, step_of}
 use Rattle.pc_wave.specs.Standing.{AreCounted, CountsTries, IsAsFar, IsFreeToGo, MayGoOut, MessageStands, MetConflict, WaveStands}
 use Rattle.pc_wave.specs.Tries.{MayTryAgain, WasLostInARow, sends_waited}
 use Rattle.pc_world.specs.Counting.{LastIs}
@@ -93,8 +93,8 @@ module _ (c : Course) (k : Known) (ms : List Message) (w : WaveStands c k ms) wh
       by : (n : ℕ) → m.lost ≡ n → MayGoOut c k m.request ⊎ MayTryAgain k m.request
       by zero none = inl (t.first (ap progress_to_send is) none)
       by (suc n) some =
-          let e : m.lost + sends_waited m.progress ≡ m.lost = omega (arith, waits) in
-          inr (record { lost = m.lost; some = omega (arith, some); in_a_row = subst (λ i. WasLostInARow k m.request i) e t.tried })
+          let e : losses_of m + sends_waited m.progress ≡ losses_of m = omega (arith, waits) in
+          inr (record { lost = losses_of m; some = omega (arith, some); in_a_row = subst (λ i. WasLostInARow k m.request i) e t.tried })
 
   to_send : (m : Message) → MessageStands c k m → (p : Progress) → m.progress ≡ p → progress_to_send p ≡ true → IsAsFar c k m.request m.conflicts p → MayBeSent c.loses c k m.request × (MetEighth k m.request → ⊥)
   to_send m s progresses.ToSend at is far = (may_be_sent m at c.loses refl far.0 s.tries, none_eighth k m.request m.conflicts s.counted far.1)
@@ -140,7 +140,7 @@ module _ (c : Course) (k : Known) (ms : List Message) (w : WaveStands c k ms) wh
       by : (b : Bool) → is_out x ≡ b → (list_any is_pending xs ≡ true → list_any is_out xs ≡ true) → is_to_send x ≡ false → list_any is_out (x ∷ xs) ≡ true
       by true is later not = ap (λ b. b || list_any is_out xs) is
       by false is later not =
-          let idle : is_pending x ≡ false = ap (λ b. b || (is_to_send x && nat_lt 0 x.lost)) is ∙ ap (λ b. b && nat_lt 0 x.lost) not in
+          let idle : is_pending x ≡ false = ap (λ b. b || (is_to_send x && nat_lt 0 (losses_of x))) is ∙ ap (λ b. b && nat_lt 0 (losses_of x)) not in
           let rest : list_any is_pending xs ≡ true = sym (ap (λ b. b || list_any is_pending xs) idle) ∙ some in
           ap (λ b. b || list_any is_out xs) is ∙ later rest
 

@@ -21,7 +21,7 @@ use Rattle.pc_wave.specs.Course.{Course}
 use Rattle.pc_wave.specs.declared.message.Message.{Message}
 use Rattle.pc_wave.specs.declared.message.Progress.{Progress}
 use Rattle.pc_wave.specs.declared.message.Progress.TheVariants as progresses
-use Rattle.pc_wave.specs.Messages.{awaits_at, back_with, back_with_by, first_changed, one_conflict_more, progress_awaits, wave_awaits}
+use Rattle.pc_wave.specs.Messages.{losses_of, awaits_at, back_with, back_with_by, first_changed, one_conflict_more, progress_awaits, wave_awaits}
 use Rattle.pc_wave.specs.Standing.{AreAnsweredBut, AreAnsweredIn, AreOfTwo, CountsTries, HasMore, IsAsFar, IsOnItsWay, IsHeardTo, IsReplyAt, MessageStands, WaveStands, sends_counted}
 use Rattle.pc_wave.specs.Tries.{IsUnheardOf, sends_waited}
 use Rattle.pc_world.specs.Answering.{MayAnswer}
@@ -156,7 +156,7 @@ module _ (co : Course) (k now : Known) (ms : List Message) (w : WaveStands co k 
   tries_kept : (y : Message) → (IsSameRequest y.request h.request → ⊥) → (b : Bool) → CountsTries b co k y → CountsTries b co now y
   tries_kept y other false none = none
   tries_kept y other true t = record {
-    tried = row-heard k now y.request (y.lost + sends_waited y.progress) sent_same (keep y.request other) t.tried;
+    tried = row-heard k now y.request (losses_of y + sends_waited y.progress) sent_same (keep y.request other) t.tried;
     came = t.came;
     first = λ ready none.
         go_out-kept co k now [] (h ∷ []) more y.request (All-nil (IsOtherSent y.request)) (All-cons (IsOther y.request) h [] other (All-nil (IsOther y.request))) (t.first ready none);

@@ -10,7 +10,7 @@ use Rattle.pc_wave.proofs.Tries.{unheard-fewer}
 use Rattle.pc_wave.specs.Course.{Course}
 use Rattle.pc_wave.specs.declared.message.Message.{Message}
 use Rattle.pc_wave.specs.declared.message.Progress.TheVariants as progresses
-use Rattle.pc_wave.specs.Messages.{awaits_at, first_changed, no_try_left, lost_of, one_lost_more, wave_awaits}
+use Rattle.pc_wave.specs.Messages.{awaits_at, first_changed, no_try_left, losses_of, lost_of, one_lost_more, wave_awaits}
 use Rattle.pc_wave.specs.Standing.{AreOfTwo, CountsTries, IsAsFar, IsOnItsWay, IsFreeToGo, MessageStands, StandsByTries, WaveStands, sends_counted, IsMessageAt, messages_of}
 use Rattle.pc_wave.specs.Tries.{AreTriesUsedUp, WasLostInARow, sends_waited}
 use Rattle.pc_follows.specs.AgainInOneWave.{sent_for_call}
@@ -44,14 +44,14 @@ module _ (c : Course) (k : Known) (ms : List Message) (w : WaveStands c k ms) (n
   abbrev more : ℕ
   more = one_lost_more tries m.lost
 
-  tried : WasLostInARow k m.request (m.lost + 1)
-  tried = subst (λ p. WasLostInARow k m.request (m.lost + sends_waited p)) waits by_tries.tried
+  tried : WasLostInARow k m.request (losses_of m + 1)
+  tried = subst (λ p. WasLostInARow k m.request (losses_of m + sends_waited p)) waits by_tries.tried
 
   lost_tries : StandsByTries c k (lost_of tries m)
   lost_tries =
       let n = counts tries m.lost some in
       record {
-        tried = let low : more + 0 ≤ m.lost + 1 = omega (arith, n.1) in unheard-fewer k m.request (more + 0) (m.lost + 1) (reverse k.sent) low tried;
+        tried = let low : m.lost_before + more + 0 ≤ losses_of m + 1 = omega (arith, n.1) in unheard-fewer k m.request (m.lost_before + more + 0) (losses_of m + 1) (reverse k.sent) low tried;
         came = λ a b. absurd cc;
         first = λ ready none. absurd (omega (arith, n.0, none));
         here = λ lost. any_weaker (IsMessageAt number m.request) (λ s. IsSameRequest m.request s.request) (λ s at. inl (sym at.asked)) (messages_of c.pipelines k m.request) far_m.0.out.now;
@@ -89,9 +89,9 @@ used_up c k ms tries w loses some =
     let f = found_some (no_try_left tries) ms some in
     let s : MessageStands c k f.0 = found_all (no_try_left tries) (MessageStands c k) ms f.0 f.1 w.stand in
     let t : StandsByTries c k f.0 = subst (λ b. CountsTries b c k f.0) loses s.tries in
-    let many : tries ≤ f.0.lost = leb-true tries f.0.lost (found_passes (no_try_left tries) ms f.0 f.1) in
-    let low : tries ≤ f.0.lost + sends_waited f.0.progress = omega (arith, many) in
-    record { request = f.0.request; in_a_row = unheard-fewer k f.0.request tries (f.0.lost + sends_waited f.0.progress) (reverse k.sent) low t.tried }
+    let many : tries ≤ losses_of f.0 = leb-true tries (losses_of f.0) (found_passes (no_try_left tries) ms f.0 f.1) in
+    let low : tries ≤ losses_of f.0 + sends_waited f.0.progress = omega (arith, many) in
+    record { request = f.0.request; in_a_row = unheard-fewer k f.0.request tries (losses_of f.0 + sends_waited f.0.progress) (reverse k.sent) low t.tried }
 
 -- a message has no try left exactly where one is found
 pub found_any : (o : Option Message) (tries : ℕ) (ms : List Message) → o ≡ find (no_try_left tries) ms → is_some o ≡ list_any (no_try_left tries) ms

@@ -22,7 +22,7 @@ use Rattle.pc_wave.specs.declared.message.Progress.TheVariants as progresses
 use Rattle.pc_wave.specs.declared.step.Step.{Step}
 use Rattle.pc_wave.specs.declared.step.Step.TheVariants as steps
 use Rattle.pc_wave.specs.Due.{FollowsConflict, MadeRound}
-use Rattle.pc_wave.specs.Messages.{conflict_by, conflicts_at, first_changed, first_in_conflict, goes_again, has_answer, is_out, is_in_conflict, is_pending, is_to_send, progress_out, progress_conflicts, progress_in_conflict, progress_to_send, step_by, step_in, step_of}
+use Rattle.pc_wave.specs.Messages.{conflict_by, conflicts_at, first_changed, first_in_conflict, goes_again, has_answer, is_out, is_in_conflict, is_pending, is_to_send, losses_of, progress_out, progress_conflicts, progress_in_conflict, progress_to_send, step_by, step_in, step_of}
 use Rattle.pc_wave.specs.Standing.{AreOfTwo, CountsTries, IsAsFar, IsFreeToGo, IsReason, MayGoOut, MessageStands, MetConflict, WaveStands, goes_beside, sends_counted}
 use Rattle.pc_follows.specs.AgainInOneWave.{sent_for_call}
 use Rattle.pc_follows.specs.PutsAgain.{WentThroughRound}
@@ -77,7 +77,7 @@ first_pending ms m e = by (list_any is_pending ms) refl e
     by false is e = (e, is)
 
 out_pending : (m : Message) → is_pending m ≡ false → is_out m ≡ false
-out_pending m idle = (or_parts (is_out m) (is_to_send m && nat_lt 0 m.lost) idle).0
+out_pending m idle = (or_parts (is_out m) (is_to_send m && nat_lt 0 (losses_of m)) idle).0
 
 -- where nothing is pending, nothing is waited for
 pub none_out : (ms : List Message) → list_any is_pending ms ≡ false → list_any is_out ms ≡ false
@@ -179,7 +179,7 @@ module _ (co : Course) (k now : Known) (ms : List Message) (w : WaveStands co k 
   is_ready true = tt
 
   -- it was not lost before it met the conflict
-  none_lost : (b : Bool) → CountsTries b co k m → m.lost ≡ 0
+  none_lost : (b : Bool) → CountsTries b co k m → losses_of m ≡ 0
   none_lost false none = none
   none_lost true t = t.came (ap progress_to_send in_round.progress) (ap progress_out in_round.progress)
 

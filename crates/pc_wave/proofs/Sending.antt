@@ -24,7 +24,7 @@ use Rattle.pc_wave.specs.declared.message.Progress.{Progress}
 use Rattle.pc_wave.specs.declared.message.Progress.TheVariants as progresses
 use Rattle.pc_wave.specs.declared.step.Step.{Step}
 use Rattle.pc_wave.specs.declared.step.Step.TheVariants as steps
-use Rattle.pc_wave.specs.Messages.{conflict_by, first_changed, first_in_conflict, has_answer, is_to_send, progress_to_send, step_by, step_in, step_of, sent_under}
+use Rattle.pc_wave.specs.Messages.{losses_of, conflict_by, first_changed, first_in_conflict, has_answer, is_to_send, progress_to_send, step_by, step_in, step_of, sent_under}
 use Rattle.pc_wave.specs.Standing.{AreAnsweredBut, AreAnsweredIn, AreNumbered, AreOfTwo, CountsTries, HasMore, IsAsFar, IsMessageAt, IsFreeToGo, MessageStands, WaveStands, messages_for, sends_counted}
 use Rattle.pc_wave.specs.Tries.{IsUnheardOf, WasLostInARow, sends_waited}
 use Rattle.pc_world.specs.Counting.{AtLeast}
@@ -148,8 +148,8 @@ module _ (co : Course) (k now : Known) (ms : List Message) (w : WaveStands co k 
     tries_m true t = record {
       tried =
           let none : sends_waited m.progress ≡ 0 = waits_not m.progress (found_passes is_to_send ms m found) in
-          let e : m.lost + sends_waited m.progress ≡ m.lost = omega (arith, none) in
-          row-one k now m.request new more.sent (keep m.request) m.lost (record { same = inl refl; said = said_new; unheard = unheard_now new new_unheard })
+          let e : losses_of m + sends_waited m.progress ≡ losses_of m = omega (arith, none) in
+          row-one k now m.request new more.sent (keep m.request) (losses_of m) (record { same = inl refl; said = said_new; unheard = unheard_now new new_unheard })
           (subst (λ i. WasLostInARow k m.request i) e t.tried);
       came = λ a b. absurd cc;
       first = λ a b. absurd cc;
@@ -195,7 +195,7 @@ module _ (co : Course) (k now : Known) (ms : List Message) (w : WaveStands co k 
     tries_kept : (y : Message) → (IsSameRequest y.request m.request → ⊥) → MessageStands co k y → (b : Bool) → CountsTries b co k y → CountsTries b co now y
     tries_kept y other s false none = none
     tries_kept y other s true t = record {
-      tried = row-other k now y.request new more.sent (keep y.request) (y.lost + sends_waited y.progress) other t.tried;
+      tried = row-other k now y.request new more.sent (keep y.request) (losses_of y + sends_waited y.progress) other t.tried;
       came = t.came;
       first = λ ready none.
           go_out-kept co k now (new ∷ []) [] more y.request (All-cons (IsOtherSent y.request) new [] other (All-nil (IsOtherSent y.request))) (All-nil (IsOther y.request)) (t.first ready none);

@@ -7,7 +7,7 @@ use Rattle.pc_wave.specs.Course.{Course}
 use Rattle.pc_wave.specs.declared.message.Message.{Message}
 use Rattle.pc_wave.specs.declared.message.Progress.{Progress}
 use Rattle.pc_wave.specs.declared.message.Progress.TheVariants as progresses
-use Rattle.pc_wave.specs.Messages.{is_out, is_pending, is_to_send, progress_out, progress_to_send}
+use Rattle.pc_wave.specs.Messages.{is_out, is_pending, is_to_send, losses_of, progress_out, progress_to_send}
 use Rattle.pc_wave.specs.Standing.{CountsTries, MayGoOut, StandsByTries}
 use Rattle.pc_wave.specs.Tries.{AreLastUnheard, HasTried, IsUnheardOf, WasLostInARow, sends_waited}
 use Rattle.pc_world.specs.Known.{Known}
@@ -59,10 +59,10 @@ pub row-none : (k : Known) (request : Request) (n : ℕ) → n ≡ 0 → WasLost
 row-none k request n none = subst (λ i. WasLostInARow k request i) (sym none) tt
 
 -- a message that came back counts no tries
-pub came_tries : (l : Bool) (c : Course) (k : Known) (m : Message) → m.lost ≡ 0 → is_to_send m ≡ false → is_out m ≡ false → CountsTries l c k m
+pub came_tries : (l : Bool) (c : Course) (k : Known) (m : Message) → losses_of m ≡ 0 → is_to_send m ≡ false → is_out m ≡ false → CountsTries l c k m
 came_tries false c k m none idle out = none
 came_tries true c k m none idle out = record {
-  tried = row-none k m.request (m.lost + sends_waited m.progress) (let w : sends_waited m.progress ≡ 0 = waits_none m.progress idle out in omega (arith, none, w));
+  tried = row-none k m.request (losses_of m + sends_waited m.progress) (let w : sends_waited m.progress ≡ 0 = waits_none m.progress idle out in omega (arith, none, w));
   came = λ a b. none;
   first = λ a b. absurd cc;
   here = λ some. absurd (omega (arith, none, some));
@@ -75,10 +75,10 @@ came_tries true c k m none idle out = record {
     waits_none (progresses.Answered number reply) a b = refl
 
 -- what is to be sent, and was not lost, may go out
-pub ready_tries : (l : Bool) (c : Course) (k : Known) (m : Message) → m.lost ≡ 0 → m.progress ≡ progresses.ToSend → MayGoOut c k m.request → CountsTries l c k m
+pub ready_tries : (l : Bool) (c : Course) (k : Known) (m : Message) → losses_of m ≡ 0 → m.progress ≡ progresses.ToSend → MayGoOut c k m.request → CountsTries l c k m
 ready_tries false c k m none ready out = none
 ready_tries true c k m none ready out = record {
-  tried = row-none k m.request (m.lost + sends_waited m.progress) (let w : sends_waited m.progress ≡ 0 = ap sends_waited ready in omega (arith, none, w));
+  tried = row-none k m.request (losses_of m + sends_waited m.progress) (let w : sends_waited m.progress ≡ 0 = ap sends_waited ready in omega (arith, none, w));
   came = λ a b. none;
   first = λ a b. out;
   here = λ some. absurd (omega (arith, none, some));
@@ -89,16 +89,16 @@ or_parts true b e = absurd cc
 or_parts false b e = (refl, e)
 
 -- where nothing is pending, nothing is counted
-pub idle_lost : (c : Course) (k : Known) (m : Message) → StandsByTries c k m → is_pending m ≡ false → m.lost ≡ 0
+pub idle_lost : (c : Course) (k : Known) (m : Message) → StandsByTries c k m → is_pending m ≡ false → losses_of m ≡ 0
 idle_lost c k m s idle = by (is_to_send m) refl
   where
-    parts : (is_out m ≡ false) × ((is_to_send m && nat_lt 0 m.lost) ≡ false)
-    parts = or_parts (is_out m) (is_to_send m && nat_lt 0 m.lost) idle
+    parts : (is_out m ≡ false) × ((is_to_send m && nat_lt 0 (losses_of m)) ≡ false)
+    parts = or_parts (is_out m) (is_to_send m && nat_lt 0 (losses_of m)) idle
 
-    by : (b : Bool) → is_to_send m ≡ b → m.lost ≡ 0
+    by : (b : Bool) → is_to_send m ≡ b → losses_of m ≡ 0
     by true ready =
-        let low : nat_lt 0 m.lost ≡ false = sym (ap (λ b. b && nat_lt 0 m.lost) ready) ∙ parts.1 in
-        let h : m.lost ≤ 0 = ltb-false 0 m.lost low in
+        let low : nat_lt 0 (losses_of m) ≡ false = sym (ap (λ b. b && nat_lt 0 (losses_of m)) ready) ∙ parts.1 in
+        let h : losses_of m ≤ 0 = ltb-false 0 (losses_of m) low in
         omega (arith, h)
     by false ready = s.came ready parts.0
 
@@ -110,6 +110,6 @@ idle_waits (progresses.Answered number reply) out = refl
 
 pub idle_tried : (c : Course) (k now : Known) (m : Message) → StandsByTries c k m → is_pending m ≡ false → is_out m ≡ false → HasTried now m
 idle_tried c k now m s idle out =
-    let none : m.lost ≡ 0 = idle_lost c k m s idle in
+    let none : losses_of m ≡ 0 = idle_lost c k m s idle in
     let w : sends_waited m.progress ≡ 0 = idle_waits m.progress out in
-    row-none now m.request (m.lost + sends_waited m.progress) (omega (arith, none, w))
+    row-none now m.request (losses_of m + sends_waited m.progress) (omega (arith, none, w))

@@ -23,12 +23,12 @@ pub record MayJoin (c : Course) (k : Known) (messages : List Message) (request :
 
 -- So may a request of which so many conflicts were heard in the call, that was sent for it at least as often, and of which as many sendings in a row were
 -- not heard.
-pub record MayJoinAgain (c : Course) (k : Known) (messages : List Message) (request : Request) (conflicts lost : ℕ) : Type 0 where
+pub record MayJoinAgain (c : Course) (k : Known) (messages : List Message) (request : Request) (conflicts lost_before : ℕ) : Type 0 where
   pub out : MayGoOut c k request
   pub counted : AreCounted k request conflicts
   pub few : conflicts < MOST_CONFLICTS
   pub sent : AtLeast (λ m. IsSameRequest request m.request) conflicts (sent_for_call k)
-  pub tries : CountsTries c.loses c k (message_again request conflicts lost)
+  pub tries : CountsTries c.loses c k (message_again request conflicts lost_before)
   pub no_round : goes_beside request ≡ false
   pub differ : All (λ m. IsSameRequest m.request request → ⊥) messages
   pub back : All (λ m. IsSameRequest request m.request → ⊥) messages

@@ -1,5 +1,5 @@
 -- The messages of a wave, and what is due of them.
-use Rattle.std.specs.Prelude.{ℕ, ◌+◌, Bool, true, false, ◌==◌, ◌||◌, ◌&&◌, cond, if◌then◌else◌, nat_le, nat_lt, Option, None, Some, List, [], ◌∷◌, find}
+use Rattle.std.specs.Prelude.{ℕ, ◌+◌, ◌-◌, ◌^◌, Bool, true, false, ◌==◌, ◌||◌, ◌&&◌, cond, if◌then◌else◌, min, nat_le, nat_lt, Option, None, Some, List, [], ◌∷◌, find}
 use Rattle.std.specs.List.{list_all, list_any}
 use Rattle.pc_base.specs.declared.limits.TheConstants.{MOST_CONFLICTS}
 use Rattle.pc_base.specs.declared.transaction.TxnId.{TxnId}
@@ -20,15 +20,15 @@ module _ {X : Type 0} (test : X → Bool) (change : X → X) where
 
 -- A message that is to be sent.
 abbrev pub message_to_send : Request → Message
-message_to_send request = record { request = request; conflicts = 0; lost = 0; progress = progresses.ToSend }
+message_to_send request = record { request = request; conflicts = 0; lost_before = 0; lost = 0; progress = progresses.ToSend }
 
 -- A message that is to be sent again in another wave of its call, after so many conflicts, and after so many sendings in a row that were lost.
 abbrev pub message_again : Request → ℕ → ℕ → Message
-message_again request conflicts lost = record { request = request; conflicts = conflicts; lost = lost; progress = progresses.ToSend }
+message_again request conflicts lost_before = record { request = request; conflicts = conflicts; lost_before = lost_before; lost = 0; progress = progresses.ToSend }
 
 -- A message that is on its way under this number.
 abbrev pub message_on_way : ℕ → Request → Message
-message_on_way number request = record { request = request; conflicts = 0; lost = 0; progress = progresses.Sent number }
+message_on_way number request = record { request = request; conflicts = 0; lost_before = 0; lost = 0; progress = progresses.Sent number }
 
 abbrev pub progress_to_send : Progress → Bool
 progress_to_send progresses.ToSend = true
@@ -99,8 +99,8 @@ abbrev pub one_conflict_more : ℕ → ℕ
 one_conflict_more conflicts = if nat_lt conflicts MOST_CONFLICTS then conflicts + 1 else MOST_CONFLICTS
 
 abbrev pub back_with_by : Bool → ℕ → Reply → Message → Message
-back_with_by true number reply m = record m { conflicts = one_conflict_more m.conflicts; lost = 0; progress = progresses.Met number reply }
-back_with_by false number reply m = record m { lost = 0; progress = progresses.Answered number reply }
+back_with_by true number reply m = record m { conflicts = one_conflict_more m.conflicts; lost_before = 0; lost = 0; progress = progresses.Met number reply }
+back_with_by false number reply m = record m { lost_before = 0; lost = 0; progress = progresses.Answered number reply }
 
 -- This was replied to the message, which went out under this number.
 abbrev pub back_with : ℕ → Reply → Message → Message
@@ -118,13 +118,21 @@ one_lost_more tries lost = if nat_lt lost tries then lost + 1 else lost
 abbrev pub lost_of : ℕ → Message → Message
 lost_of tries m = record m { lost = one_lost_more tries m.lost; progress = progresses.ToSend }
 
+-- How often in a row the message was sent in its call and not answered, in this wave and in earlier ones.
+abbrev pub losses_of : Message → ℕ
+losses_of m = m.lost_before + m.lost
+
+-- So often, counted as far as the number goes.
+abbrev pub counted_losses : Message → ℕ
+counted_losses m = min (losses_of m) (2 ^ 32 - 1)
+
 -- The message was sent in a row as often as it may be, and none of these sendings was answered.
 abbrev pub no_try_left : ℕ → Message → Bool
-no_try_left tries m = nat_le tries m.lost
+no_try_left tries m = nat_le tries (losses_of m)
 
 -- The reply to the message is waited for, or it was lost and is to be sent again.
 abbrev pub is_pending : Message → Bool
-is_pending m = is_out m || (is_to_send m && nat_lt 0 m.lost)
+is_pending m = is_out m || (is_to_send m && nat_lt 0 (losses_of m))
 
 -- The first message that waits for its conflict's round, once no reply is waited for any more, and nothing that was lost is to be sent again.
 abbrev pub first_in_conflict : List Message → Option Message

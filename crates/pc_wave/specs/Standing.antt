@@ -25,7 +25,7 @@ use Rattle.pc_follows.specs.OwnStages.{refuses_stage}
 use Rattle.pc_follows.specs.PutsAgain.{WasPassedOver, WentThroughRound}
 use Rattle.pc_follows.specs.Resends.{AreAnsweredNow}
 use Rattle.pc_wave.specs.Course.{Course}
-use Rattle.pc_wave.specs.Messages.{is_out, is_to_send}
+use Rattle.pc_wave.specs.Messages.{is_out, is_to_send, losses_of}
 use Rattle.pc_wave.specs.Shown.{ShowsSentStage}
 use Rattle.pc_wave.specs.Tries.{HasTried}
 use Rattle.pc_world.specs.Known.{Known}
@@ -143,17 +143,17 @@ IsAsFar c k request conflicts (progresses.Sent number) = IsOnItsWay c k number r
 IsAsFar c k request conflicts (progresses.Met number conflict) = MetConflict c k number request conflict
 IsAsFar c k request conflicts (progresses.Answered number reply) = HasComeBack c k number request reply × (conflicts < MOST_CONFLICTS)
 
--- The message was lost as often in a row as it counts: not at all where it came back; where it is to be sent and was not lost, it may go out; and where it was
--- lost, one of it is among what the call may hear.
+-- The message was lost as often in a row as it counts: not at all where it came back; where it is to be sent and was not lost in this wave, it may go out; and
+-- where it was lost in the call, one of it is among what the call may hear.
 pub record StandsByTries (c : Course) (k : Known) (m : Message) : Type 0 where
   pub tried : HasTried k m
-  pub came : is_to_send m ≡ false → is_out m ≡ false → m.lost ≡ 0
+  pub came : is_to_send m ≡ false → is_out m ≡ false → losses_of m ≡ 0
   pub first : is_to_send m ≡ true → m.lost ≡ 0 → MayGoOut c k m.request
-  pub here : 1 ≤ m.lost → Any (λ s. IsSameRequest m.request s.request) (messages_of c.pipelines k m.request)
+  pub here : 1 ≤ losses_of m → Any (λ s. IsSameRequest m.request s.request) (messages_of c.pipelines k m.request)
 
 -- The message's tries are as it counts them; where nothing is lost it counts none.
 abbrev pub CountsTries : Bool → Course → Known → Message → Type 0
-CountsTries false c k m = m.lost ≡ 0
+CountsTries false c k m = losses_of m ≡ 0
 CountsTries true c k m = StandsByTries c k m
 
 -- As many conflicts of the request were heard in the call, no more and no fewer.

@@ -4,6 +4,7 @@ use Rattle.pc_proto.specs.declared.request.Request.{Request}
 use Rattle.pc_wave.specs.declared.message.Message.{Message}
 use Rattle.pc_wave.specs.declared.message.Progress.{Progress}
 use Rattle.pc_wave.specs.declared.message.Progress.TheVariants as progresses
+use Rattle.pc_wave.specs.Messages.{losses_of}
 use Rattle.pc_world.specs.Known.{Known}
 use Rattle.pc_world.specs.Known.Traffic.{Sent, request_sent}
 use Rattle.pc_world.specs.SameRequest.{IsSameRequest}
@@ -36,7 +37,7 @@ sends_waited (progresses.Answered number reply) = 0
 
 -- As many sendings of the message in a row as it counts, and the one that is waited for, were not heard.
 abbrev pub HasTried : Known → Message → Type 0
-HasTried k m = WasLostInARow k m.request (m.lost + sends_waited m.progress)
+HasTried k m = WasLostInARow k m.request (losses_of m + sends_waited m.progress)
 
 -- The request may be sent again: its last sendings, at least one, were lost.
 pub record MayTryAgain (k : Known) (request : Request) : Type 0 where

@@ -1,5 +1,5 @@
 ghost use Rattle.std.specs.Prelude.{◌≡◌, ℕ, IfOk};
-ghost use Rattle.pc_wave.specs.Messages.{awaits_at, back_with, conflicts_at, goes_again, has_answer, is_out, is_in_conflict, is_pending, is_to_send, lost_of, message_again, message_on_way, message_to_send, no_try_left, conflict_step, one_conflict_more, one_lost_more, step_in, sent_under};
+ghost use Rattle.pc_wave.specs.Messages.{awaits_at, back_with, conflicts_at, counted_losses, goes_again, has_answer, is_out, is_in_conflict, is_pending, is_to_send, lost_of, message_again, message_on_way, message_to_send, no_try_left, conflict_step, one_conflict_more, one_lost_more, step_in, sent_under};
 ghost use Rattle.pc_wave.specs.State.{state_by};
 
 use crate::step::{Step, WaveState};
@@ -13,7 +13,9 @@ pub struct Message {
     pub request: Request,
     /// How many intents it met in this call.
     pub conflicts: u32,
-    /// How often in a row it was sent and not answered.
+    /// How often in a row it was sent in earlier waves of its call, and not answered.
+    pub lost_before: u32,
+    /// How often in a row it was sent since, and not answered.
     pub lost: u32,
     pub progress: Progress,
 }
@@ -38,19 +40,21 @@ impl Message {
         Message {
             request,
             conflicts: 0,
+            lost_before: 0,
             lost: 0,
             progress: Progress::ToSend,
         }
     }
 
     /// It is to be sent again in another wave of its call, where it met so many intents before, and was lost so often in a row.
-    pub fn again(request: Request, conflicts: u32, lost: u32) -> Message
-        ensures { result ≡ message_again request conflicts lost }
+    pub fn again(request: Request, conflicts: u32, lost_before: u32) -> Message
+        ensures { result ≡ message_again request conflicts lost_before }
     {
         Message {
             request,
             conflicts,
-            lost,
+            lost_before,
+            lost: 0,
             progress: Progress::ToSend,
         }
     }
@@ -62,6 +66,7 @@ impl Message {
         Message {
             request,
             conflicts: 0,
+            lost_before: 0,
             lost: 0,
             progress: Progress::Sent { number },
         }
@@ -79,18 +84,25 @@ impl Message {
         matches!(self.progress, Progress::Sent { .. })
     }
 
+    /// How often in a row it was sent in its call and not answered, counted as far as the number goes.
+    pub fn losses(&self) -> u32
+        ensures { result ≡ counted_losses self.now }
+    {
+        self.lost_before.saturating_add(self.lost)
+    }
+
     /// Whether its reply is waited for, or it was lost and is to be sent again.
     pub fn is_pending(&self) -> bool
         ensures { result ≡ is_pending self.now }
     {
-        self.is_out() || (self.is_to_send() && self.lost > 0)
+        self.is_out() || (self.is_to_send() && self.losses() > 0)
     }
 
     /// Whether it was sent in a row as often as it may be, and none of these sendings was answered.
     pub fn is_used_up(&self, tries: u32) -> bool
         ensures { result ≡ no_try_left tries self.now }
     {
-        self.lost >= tries
+        self.losses() >= tries
     }
 
     pub fn is_in_conflict(&self) -> bool
@@ -175,6 +187,7 @@ impl Message {
     pub fn hear(&mut self, number: u64, reply: Reply)
         ensures { self.new ≡ back_with number reply self.old }
     {
+        self.lost_before = 0;
         self.lost = 0;
         if matches!(reply, Reply::Conflict { .. }) {
             self.conflicts = one_conflict_more(self.conflicts);

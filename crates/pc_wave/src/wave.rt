@@ -69,13 +69,18 @@ impl Wave {
     }
 
     /// One more request is to be sent again, behind the others, which met so many intents in other waves of the call, and was lost so often in a row.
-    pub fn add_again(&mut self, request: Request, conflicts: u32, lost: u32) -> Result<(), NoMemory>
-        ensures made { OnOk result (self.new ≡ self.old ++ message_again request conflicts lost ∷ []) }
-        ensures stands { (c : Course) (k : Known) → WaveStands c k self.old → MayJoinAgain c k self.old request conflicts lost → OnOk result (WaveStands c k self.new) }
+    pub fn add_again(
+        &mut self,
+        request: Request,
+        conflicts: u32,
+        lost_before: u32,
+    ) -> Result<(), NoMemory>
+        ensures made { OnOk result (self.new ≡ self.old ++ message_again request conflicts lost_before ∷ []) }
+        ensures stands { (c : Course) (k : Known) → WaveStands c k self.old → MayJoinAgain c k self.old request conflicts lost_before → OnOk result (WaveStands c k self.new) }
         ensures refused { OnErr result (self.new ≡ self.old) }
     {
         self.messages
-            .push(Message::again(request, conflicts, lost))?;
+            .push(Message::again(request, conflicts, lost_before))?;
         Ok(())
     }
 
