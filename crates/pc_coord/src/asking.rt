@@ -112,7 +112,9 @@ impl<'a> Coordinator<'a> {
     ) -> Result<(), NoMemory>
         requires { number ≡ self.old.begun + 1 }
         ensures begun { OnOk result (self.new ≡ beginning priority reading ts self.old) }
-        ensures refused { OnErr result (self.new ≡ self.old) }
+        ensures session { self.new.session ≡ self.old.session }
+        ensures splits { self.new.splits ≡ self.old.splits }
+        ensures pipelines { self.new.pipelining ≡ self.old.pipelining }
     {
         let id = TxnId {
             session: self.session,

@@ -24,7 +24,7 @@ returns-in-Some-clause-knows c = λ loses start k r lossy aborts gives h goes be
     let set = setting_of loses s in
     let why = unheard_abort c.args.call.purpose c.args.txn c.in-Some.over (sym (rw c.lent.ensures at c.in_ok-over.ensures.made) ∙ c.in-Some.is) in
     finish_ok loses c.finish.result s c.finish.new.self k c.in-Some.over c.finish.ensures.ok r
-    (subst (λ o. IfSome o (MayTellOver set s.session k)) c.in-Some.is (c.in_ok-over.ensures.over s.session set k lossy (aborts why.0 why.1)))
+    (subst (λ o. IfSome o (MayTellOver set s.session k)) c.in-Some.is ((rw c.lent.ensures at c.in_ok-over.ensures.over) s.session set k lossy (aborts why.0 why.1)))
     (λ quiet. absurd (quiet_lost loses quiet lossy)) begins
 
 pub returns-in-Some-clause-waits : goal.returns-in-Some-clause-waits
@@ -41,7 +41,7 @@ returns-then-not-is_uncommitted-clause-knows c = λ loses start k r lossy aborts
     let set = setting_of loses s in
     let u = gives (no_abort c.args.call.purpose c.args.txn (sym (rw c.lent.ensures at c.in_ok-over.ensures.made) ∙ c.in_default.is)) in
     finish_ok loses c.finish-then-not-is_uncommitted.result s c.finish-then-not-is_uncommitted.new.self k c.unknown.result c.finish-then-not-is_uncommitted.ensures.ok r
-    (c.unknown.ensures.over s.session c.args.faults set start k lossy u goes lost (sym (rw c.lent-2.ensures at c.is_uncommitted.ensures.made) ∙ c.if-not-is_uncommitted.true))
+    ((rw c.lent-3.ensures at c.unknown.ensures.over) s.session c.args.faults set start k lossy u goes lost (sym (rw c.lent-2.ensures at c.is_uncommitted.ensures.made) ∙ c.if-not-is_uncommitted.true))
     (λ quiet. absurd (quiet_lost loses quiet lossy)) begins
 
 pub returns-then-not-is_uncommitted-clause-waits : goal.returns-then-not-is_uncommitted-clause-waits

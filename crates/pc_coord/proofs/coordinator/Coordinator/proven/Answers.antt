@@ -16,7 +16,7 @@ returns-in-Some-clause-knows c = λ loses k kept all r w a proves due.
     let at = ap (λ (n : Coordination). n.splits) (sym c.self.view_is) in
     let p = c.args.call.purpose in
     let ms = c.args.call.wave in
-    let now = subst (HasBegun set k c.args.txn) c.in-Some.is (c.in_ok-next.ensures.begins set s.session s.clock s.begun k s.later kept all at (subst AreRising at r.course.rising) r.counted w a.outbox proves due) in
+    let now = subst (HasBegun set k c.args.txn) c.in-Some.is ((rw c.lent.ensures at c.in_ok-next.ensures.begins) set s.session s.clock s.begun k s.later kept all at (subst AreRising at r.course.rising) r.counted w a.outbox proves due) in
     let own = sym (ap (λ p. own_messages_by p s.splits c.args.txn) proves) ∙ ap (λ splits. own_messages_by p splits c.args.txn) at ∙ sym (rw c.lent.ensures at c.in_ok-next.ensures.made) ∙ c.in-Some.is in
     let way = own_way set k c.args.txn p ms w kept all proves due s.splits c.in-Some.call a.some own in
     call_ok loses s c.call.new.self k c.in-Some.call c.args.txn c.call.ensures r now
@@ -32,7 +32,7 @@ returns-in-None-clause-knows c = λ loses k kept all r w a proves due.
     let s = c.args.self.now in
     let set = setting_of loses s in
     let at = ap (λ (n : Coordination). n.splits) (sym c.self.view_is) in
-    absurd (subst (HasBegun set k c.args.txn) c.in-None.is (c.in_ok-next.ensures.begins set s.session s.clock s.begun k s.later kept all at (subst AreRising at r.course.rising) r.counted w a.outbox proves due))
+    absurd (subst (HasBegun set k c.args.txn) c.in-None.is ((rw c.lent.ensures at c.in_ok-next.ensures.begins) set s.session s.clock s.begun k s.later kept all at (subst AreRising at r.course.rising) r.counted w a.outbox proves due))
 
 pub returns-in-Some-clause-comes : goal.returns-in-Some-clause-comes
 returns-in-Some-clause-comes c = λ none.

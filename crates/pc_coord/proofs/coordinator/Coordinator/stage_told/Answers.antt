@@ -30,7 +30,7 @@ returns-in-Staged-clause-knows c = λ loses k h n is0 stages u at.
     let call2 = c.stage_told-told.new.self in
     let is = subst (λ r. HearsNow loses s call x c.args.number r k h) (sym c.in_ok-told.ensures) is0 in
     let w = subst (IsStageTold set c.args.recorded k2 x2 call2) c.in-Staged.is
-    (c.stage_told-told.ensures.stands s.session is.before s.begun n set k h is.counted is.in_call stages is.waited is.heard (subst (λ r. IsUndecidedAt r c.args.recorded) (sym c.in_ok-told.ensures) u) is.turn at) in
+    ((rw c.lent_mut.ensures.value at c.stage_told-told.ensures.stands) s.session is.before s.begun n set k h is.counted is.in_call stages is.waited is.heard (subst (λ r. IsUndecidedAt r c.args.recorded) (sym c.in_ok-told.ensures) u) is.turn at) in
     let so = counted_stage c.args.number c.args.recorded c.args.step n call.wave x2 call.purpose stages in
     let purpose = ap (λ (n : OpenCall). n.purpose) (rw c.lent_mut.ensures.value at c.stage_told-told.ensures.made) ∙ so.1 in
     let a = subst (λ (ms : List Message). KeepsAside loses s.pipelining k2 x2 call2.purpose s.later ms) (sym (ap (λ (n : OpenCall). n.wave) (rw c.lent_mut.ensures.value at c.stage_told-told.ensures.made)))
@@ -57,7 +57,7 @@ returns-in-Refused-clause-knows c = λ loses k h n is0 stages u0 at.
     let call2 = c.stage_told-told.new.self in
     let is = subst (λ r. HearsNow loses s call x c.args.number r k h) (sym c.in_ok-told.ensures) is0 in
     let u = subst (λ r. IsUndecidedAt r c.args.recorded) (sym c.in_ok-told.ensures) u0 in
-    let on = subst (IsStageTold set c.args.recorded k2 x2 call2) c.in-Refused.is (c.stage_told-told.ensures.stands s.session is.before s.begun n set k h is.counted is.in_call stages is.waited is.heard u is.turn at) in
+    let on = subst (IsStageTold set c.args.recorded k2 x2 call2) c.in-Refused.is ((rw c.lent_mut.ensures.value at c.stage_told-told.ensures.stands) s.session is.before s.begun n set k h is.counted is.in_call stages is.waited is.heard u is.turn at) in
     let so = counted_stage c.args.number c.args.recorded c.args.step n call.wave x2 call.purpose stages in
     let purpose = ap (λ (n : OpenCall). n.purpose) (rw c.lent_mut.ensures.value at c.stage_told-told.ensures.made) ∙ so.1 in
     let ts = stage_ts c.args.number call.wave in
@@ -91,7 +91,7 @@ returns-in-Staged-clause-joins c = λ loses k h n is0 stages u at.
     let call2 = c.stage_told-told.new.self in
     let is = subst (λ r. HearsNow loses s call x c.args.number r k h) (sym c.in_ok-told.ensures) is0 in
     let w = subst (IsStageTold set c.args.recorded k2 x2 call2) c.in-Staged.is
-    (c.stage_told-told.ensures.stands s.session is.before s.begun n set k h is.counted is.in_call stages is.waited is.heard (subst (λ r. IsUndecidedAt r c.args.recorded) (sym c.in_ok-told.ensures) u) is.turn at) in
+    ((rw c.lent_mut.ensures.value at c.stage_told-told.ensures.stands) s.session is.before s.begun n set k h is.counted is.in_call stages is.waited is.heard (subst (λ r. IsUndecidedAt r c.args.recorded) (sym c.in_ok-told.ensures) u) is.turn at) in
     let so = counted_stage c.args.number c.args.recorded c.args.step n call.wave x2 call.purpose stages in
     let purpose = ap (λ (n : OpenCall). n.purpose) (rw c.lent_mut.ensures.value at c.stage_told-told.ensures.made) ∙ so.1 in
     let a = subst (λ (ms : List Message). KeepsAside loses s.pipelining k2 x2 call2.purpose s.later ms) (sym (ap (λ (n : OpenCall). n.wave) (rw c.lent_mut.ensures.value at c.stage_told-told.ensures.made)))
