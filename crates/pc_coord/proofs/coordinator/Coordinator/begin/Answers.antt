@@ -2,8 +2,7 @@ use Rattle.std.proofs.Common.{◌≡◌, true, false, refl, sym, ap, ◌∙◌, 
 use Rattle.pc_call.specs.Learned.{known_asked}
 use Rattle.pc_coord.proofs.Outside.{begun_knows, past_range, within_range}
 use Rattle.pc_coord.proofs.Steps.{on_ok}
-use Rattle.pc_coord.specs.Coming.{AwaitsOutbox}
-use Rattle.pc_coord.specs.Beside.{IsLeftOf}
+use Rattle.pc_coord.specs.Coming.{AwaitsOutbox, IsLeftOf}
 use Rattle.pc_coord.specs.Coordination.{Coordination, beginning, telling}
 use Rattle.pc_coord.specs.Knows.{Knows}
 use Rattle.pc_proto.specs.declared.answer.Answer.TheVariants as answers
