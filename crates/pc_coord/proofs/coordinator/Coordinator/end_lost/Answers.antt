@@ -41,7 +41,7 @@ returns-then-not-is_uncommitted-clause-knows c = λ loses start k r lossy aborts
     let set = setting_of loses s in
     let u = gives (no_abort c.args.call.purpose c.args.txn (sym (rw c.lent.ensures at c.in_ok-over.ensures.made) ∙ c.in_default.is)) in
     finish_ok loses c.finish-then-not-is_uncommitted.result s c.finish-then-not-is_uncommitted.new.self k c.unknown.result c.finish-then-not-is_uncommitted.ensures.ok r
-    ((rw c.lent-3.ensures at c.unknown.ensures.over) s.session c.args.faults set start k lossy u goes lost (sym (rw c.lent-2.ensures at c.is_uncommitted.ensures.made) ∙ c.if-not-is_uncommitted.true))
+    ((rw c.lent-then-not-is_uncommitted.ensures at c.unknown.ensures.over) s.session c.args.faults set start k lossy u goes lost (sym (rw c.lent-2.ensures at c.is_uncommitted.ensures.made) ∙ c.if-not-is_uncommitted.true))
     (λ quiet. absurd (quiet_lost loses quiet lossy)) begins
 
 pub returns-then-not-is_uncommitted-clause-waits : goal.returns-then-not-is_uncommitted-clause-waits
@@ -50,7 +50,7 @@ returns-then-not-is_uncommitted-clause-waits c = finish_outbox c.finish-then-not
 pub returns-then-not-is_uncommitted-clause-comes : goal.returns-then-not-is_uncommitted-clause-comes
 returns-then-not-is_uncommitted-clause-comes c = λ messages.
     finished_comes c.finish-then-not-is_uncommitted.result messages c.finish-then-not-is_uncommitted.new.self c.args.self.now c.unknown.result c.finish-then-not-is_uncommitted.ensures.ok
-    (subst (IsBlockOf messages) (sym (ap (λ (o : Over). o.answer) (rw c.lent-3.ensures at c.unknown.ensures.made))) tt)
+    (subst (IsBlockOf messages) (sym (ap (λ (o : Over). o.answer) (rw c.lent-then-not-is_uncommitted.ensures at c.unknown.ensures.made))) tt)
 
 pub returns-clause-knows : goal.returns-clause-knows
 returns-clause-knows c = λ loses start k r lossy aborts gives h goes begins lost.
@@ -62,7 +62,7 @@ returns-clause-knows c = λ loses start k r lossy aborts gives h goes begins los
     let x2 : OpenTxn = record x { staging = c.forget.new.self } in
     let told = subst (λ o. MayTellOpen set s.session k answer (record x { staging = o })) (sym (rw c.lent_mut.ensures.value at c.forget.ensures.made))
     (c.unavailable.ensures.told s.session set start k x lossy u goes (sym (rw c.lent-2.ensures at c.is_uncommitted.ensures.made) ∙ c.if-not-is_uncommitted.false) lost) in
-    tell_ok loses s c.tell.new.self k answer x2 c.tell.ensures r told
+    tell_ok loses s c.tell.new.self k answer x2 (rw c.lent_mut.ensures.value at c.tell.ensures) r told
     (wait_on k x x2 s.later answer (split_beside start k x.id goes u.split) h (subst IsStaying (sym c.unavailable.ensures.made) tt) ((λ anchor. refl), (λ f there. there))) begins
 
 pub returns-clause-waits : goal.returns-clause-waits
@@ -97,7 +97,7 @@ returns-then-not-is_uncommitted-clause-used_up c =
     let call = c.args.call in
     let x = c.args.txn in
     finish_answer c.finish-then-not-is_uncommitted.result c.args.self.now c.finish-then-not-is_uncommitted.new.self c.unknown.result (answer_lost c.args.faults x call.purpose) c.finish-then-not-is_uncommitted.ensures.ok
-    (ap (λ (o : Over). o.answer) (rw c.lent-3.ensures at c.unknown.ensures.made) ∙ sym (unknown_answer c.args.faults call.purpose x (no_abort call.purpose x (sym (rw c.lent.ensures at c.in_ok-over.ensures.made) ∙ c.in_default.is)) (sym (rw c.lent-2.ensures at c.is_uncommitted.ensures.made) ∙ c.if-not-is_uncommitted.true)))
+    (ap (λ (o : Over). o.answer) (rw c.lent-then-not-is_uncommitted.ensures at c.unknown.ensures.made) ∙ sym (unknown_answer c.args.faults call.purpose x (no_abort call.purpose x (sym (rw c.lent.ensures at c.in_ok-over.ensures.made) ∙ c.in_default.is)) (sym (rw c.lent-2.ensures at c.is_uncommitted.ensures.made) ∙ c.if-not-is_uncommitted.true)))
 
 pub returns-clause-used_up : goal.returns-clause-used_up
 returns-clause-used_up c =

@@ -30,8 +30,8 @@ returns-clause-knows c = λ loses k r g h suits.
     let set = setting_of loses self in
     let x = c.args.txn in
     let made = c.in_ok-call.call in
-    let m = (rw c.lent-call.ensures at c.in_ok-call.ensures.made) in
-    let w = (rw c.lent-call.ensures at c.in_ok-call.ensures.stands) set k g.s g g.opened (r.asked_at g.s.reading (ap reading_in g.opened) ∙ ap (λ (n : Coordination). n.reading) (sym c.self.view_is)) (sym (rw c.lent.ensures at c.is_uncommitted.ensures.made) ∙ c.if-is_uncommitted.false) suits in
+    let m = (rw c.lent-2.ensures at c.in_ok-call.ensures.made) in
+    let w = (rw c.lent-2.ensures at c.in_ok-call.ensures.stands) set k g.s g g.opened (r.asked_at g.s.reading (ap reading_in g.opened) ∙ ap (λ (n : Coordination). n.reading) (sym c.self.view_is)) (sym (rw c.lent.ensures at c.is_uncommitted.ensures.made) ∙ c.if-is_uncommitted.false) suits in
     let commits : w.s.call ≡ calls.Commit = ap (λ (s : Statement). s.call) (same_Some w.s g.s (sym w.opened ∙ g.opened)) ∙ g.gives_up.call in
     let plain = behind_none set k x made.purpose made.wave w (commit_behind w.s.call commits) in
     call_ok loses self c.call.new.self k made x c.call.ensures r w
