@@ -7,6 +7,7 @@ pub mod Coordination
 pub mod Ends
 pub mod Events
 pub mod Going
+pub mod Held
 pub mod Kinds
 pub mod Knows
 pub mod Laws

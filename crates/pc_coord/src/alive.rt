@@ -15,18 +15,18 @@ ghost use Rattle.pc_world.specs.Known.Traffic.{Heard};
 ghost use Rattle.pc_world.specs.Tell.Refusal.{MayBlock};
 
 use crate::coordinator::Coordinator;
+use crate::held::HeldTxn;
 use crate::kinds::{Decision, decision_of};
 use pc_base::{NoMemory, Timestamp};
 use pc_call::OpenCall;
 use pc_proto::Reply;
-use pc_txn::OpenTxn;
 
 impl<'a> Coordinator<'a> {
     /// This was replied to a heartbeat: its call goes on, or is told that its transaction was aborted.
     pub(crate) fn beat_heard(
         &mut self,
         call: OpenCall,
-        txn: OpenTxn,
+        txn: HeldTxn,
         step: u64,
         reply: &Reply,
     ) -> Result<(), NoMemory>
@@ -40,7 +40,7 @@ impl<'a> Coordinator<'a> {
     {
         let decision = decision_of(reply)?;
         match decision {
-            Decision::Aborted { why } => self.finish(call.found_aborted(txn, why)),
+            Decision::Aborted { why } => self.finish(call.found_aborted(txn.into_txn(), why)),
             Decision::Refused { recorded } => self.go_on_alive(call, txn, recorded, step),
             Decision::Committed { .. } => {
                 self.told();
@@ -57,7 +57,7 @@ impl<'a> Coordinator<'a> {
     fn go_on_alive(
         &mut self,
         call: OpenCall,
-        mut txn: OpenTxn,
+        mut txn: HeldTxn,
         recorded: Timestamp,
         step: u64,
     ) -> Result<(), NoMemory>
@@ -69,7 +69,7 @@ impl<'a> Coordinator<'a> {
         ensures splits { self.new.splits ≡ self.old.splits }
         ensures pipelines { self.new.pipelining ≡ self.old.pipelining }
     {
-        let kept = call.alive(&mut txn, recorded, step);
+        let kept = call.alive(txn.lent_mut(), recorded, step);
         match kept {
             Some(kept) => self.serve(&kept, txn),
             None => {

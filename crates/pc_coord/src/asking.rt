@@ -29,6 +29,7 @@ ghost use Rattle.pc_world.specs.Local.{is_outside, is_round};
 
 use crate::coordinator::Coordinator;
 use crate::due::Due;
+use crate::held::HeldTxn;
 use crate::kinds::{begins_at, told_outside};
 use pc_base::{NoMemory, Priority, Timestamp, TxnId};
 use pc_call::OpenCall;
@@ -80,12 +81,14 @@ impl<'a> Coordinator<'a> {
         }
         let time = self.now(reading);
         match time {
-            Err(fault) => self.answer(Answer::Clock {
-                reading: fault.reading,
-            }),
+            Err(fault) => {
+                self.answer(Answer::Clock {
+                    reading: fault.reading,
+                });
+                Ok(())
+            }
             Ok(ts) => self.begin_now(priority, reading, self.begun + 1, ts),
         }
-        Ok(())
     }
 
     fn now(&mut self, reading: u64) -> Result<Timestamp, ClockRange>
@@ -100,17 +103,28 @@ impl<'a> Coordinator<'a> {
     }
 
     /// A transaction begins at this timestamp.
-    fn begin_now(&mut self, priority: Priority, reading: u64, number: u32, ts: Timestamp)
+    fn begin_now(
+        &mut self,
+        priority: Priority,
+        reading: u64,
+        number: u32,
+        ts: Timestamp,
+    ) -> Result<(), NoMemory>
         requires { number ≡ self.old.begun + 1 }
-        ensures { self.new ≡ beginning priority reading ts self.old }
+        ensures begun { OnOk result (self.new ≡ beginning priority reading ts self.old) }
+        ensures session { self.new.session ≡ self.old.session }
+        ensures splits { self.new.splits ≡ self.old.splits }
+        ensures pipelines { self.new.pipelining ≡ self.old.pipelining }
     {
         let id = TxnId {
             session: self.session,
             number,
         };
+        let txn = OpenTxn::new(self.alloc, id, priority, reading, ts);
+        self.txn = Some(HeldTxn::new(self.alloc, txn)?);
         self.begun = number;
-        self.txn = Some(OpenTxn::new(self.alloc, id, priority, reading, ts));
         self.due = Due::Tell(Answer::Begun { id, ts });
+        Ok(())
     }
 
     /// A call is asked while this transaction is open.
@@ -118,7 +132,7 @@ impl<'a> Coordinator<'a> {
         &mut self,
         call: Call,
         reading: u64,
-        mut txn: OpenTxn,
+        mut txn: HeldTxn,
     ) -> Result<(), NoMemory>
         ensures knows { (loses : Bool) (k : Known) → StandsReady loses self.old k → k.statement ≡ None → StandsOpen k txn → HasOutboxBetween loses k txn self.old.later → reading ≡ self.old.reading → Suits self.old.pipelining call (Some txn) → is_outside call ≡ false → is_round call ≡ false → OnOk result (Knows loses self.new (known_asked call reading k)) }
         ensures waits { is_outside call ≡ false → is_round call ≡ false → OnOk result (AwaitsOutbox self.old.later self.new.due) }
@@ -127,14 +141,14 @@ impl<'a> Coordinator<'a> {
         ensures splits { self.new.splits ≡ self.old.splits }
         ensures pipelines { self.new.pipelining ≡ self.old.pipelining }
     {
-        let why = take_cause(&mut txn);
+        let why = take_cause(txn.lent_mut());
         match call {
             Call::Rollback => self.roll_back(txn, why),
             call => self.show_or_serve(call, reading, txn),
         }
     }
 
-    fn roll_back(&mut self, txn: OpenTxn, why: Why) -> Result<(), NoMemory>
+    fn roll_back(&mut self, txn: HeldTxn, why: Why) -> Result<(), NoMemory>
         ensures knows { (loses : Bool) (k : Known) (s : Statement) → StandsReady loses self.old k → IsFresh loses k txn s why → HasAside loses k txn self.old.later → s.call ≡ calls.Rollback → OnOk result (Knows loses self.new k) }
         ensures waits { OnOk result (AwaitsOutbox self.old.later self.new.due) }
         ensures left { OnOk result (IsLeftOf self.old.later self.new.later) }
@@ -142,13 +156,13 @@ impl<'a> Coordinator<'a> {
         ensures splits { self.new.splits ≡ self.old.splits }
         ensures pipelines { self.new.pipelining ≡ self.old.pipelining }
     {
-        match &txn.anchor {
+        match &txn.lent().anchor {
             Some(_) => self.abort(txn, why),
-            None => self.finish(OpenCall::roll_back_unwritten(txn, why)),
+            None => self.finish(OpenCall::roll_back_unwritten(txn.into_txn(), why)),
         }
     }
 
-    fn abort(&mut self, txn: OpenTxn, why: Why) -> Result<(), NoMemory>
+    fn abort(&mut self, txn: HeldTxn, why: Why) -> Result<(), NoMemory>
         ensures knows { (loses : Bool) (k : Known) (s : Statement) → StandsReady loses self.old k → IsFresh loses k txn s why → HasAside loses k txn self.old.later → s.call ≡ calls.Rollback → OnOk result (Knows loses self.new k) }
         ensures waits { OnOk result (AwaitsOutbox self.old.later self.new.due) }
         ensures left { OnOk result (IsLeftOf self.old.later self.new.later) }
@@ -156,7 +170,7 @@ impl<'a> Coordinator<'a> {
         ensures splits { self.new.splits ≡ self.old.splits }
         ensures pipelines { self.new.pipelining ≡ self.old.pipelining }
     {
-        let call = abort_of(self.alloc, &txn, why)?;
+        let call = abort_of(self.alloc, txn.lent(), why)?;
         self.go_on(call, txn)
     }
 }

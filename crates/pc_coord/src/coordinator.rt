@@ -34,6 +34,7 @@ ghost use Rattle.pc_call.specs.Losses.{wave_lost};
 ghost use Rattle.pc_coord.specs.declared.round.Round.TheVariants as rounds;
 
 use crate::due::{Due, Opened};
+use crate::held::HeldTxn;
 use crate::job::Job;
 use crate::next::Next;
 use crate::pusher::Pusher;
@@ -42,7 +43,6 @@ use pc_base::{NoMemory, Timestamp, TryCopy};
 use pc_call::{Later, OpenCall, Purpose};
 use pc_hlc::Hlc;
 use pc_proto::{Answer, Call, Keys, Reply};
-use pc_txn::OpenTxn;
 use pc_wave::Step;
 use std::alloc::Global;
 use std::marker::Model;
@@ -67,7 +67,7 @@ pub struct Coordinator<'a> {
     pub(crate) clock: Hlc,
     /// How many transactions were begun: the number of the last one.
     pub(crate) begun: u32,
-    pub(crate) txn: Option<OpenTxn>,
+    pub(crate) txn: Option<HeldTxn>,
     /// Its puts that wait in the outbox.
     pub(crate) later: Later,
     /// The reading of the clock at which the last call was asked.
@@ -275,10 +275,13 @@ impl<'a> Coordinator<'a> {
     {
         match &self.txn {
             None => None,
-            Some(txn) => Some(Pusher {
-                id: txn.id,
-                level: txn.priority,
-            }),
+            Some(txn) => {
+                let txn = txn.lent();
+                Some(Pusher {
+                    id: txn.id,
+                    level: txn.priority,
+                })
+            }
         }
     }
 
@@ -303,7 +306,7 @@ impl<'a> Coordinator<'a> {
         self.due = Due::Nothing;
     }
 
-    fn take_txn(&mut self) -> Option<OpenTxn>
+    fn take_txn(&mut self) -> Option<HeldTxn>
         ensures taken { result ≡ self.old.txn }
         ensures left { self.new ≡ without_txn self.old }
     {
@@ -327,7 +330,7 @@ impl<'a> Coordinator<'a> {
         match &self.txn {
             None => Ok(Next::Idle),
             Some(txn) => {
-                let reader = call.reader(txn);
+                let reader = call.reader(txn.lent());
                 let step = call.step()?;
                 Ok(next_by(step, reader, self.tells_at_once(call)))
             }

@@ -1,6 +1,6 @@
+use crate::held::HeldTxn;
 use pc_call::OpenCall;
 use pc_proto::Answer;
-use pc_txn::OpenTxn;
 
 /// What is due.
 #[derive(Drop)]
@@ -17,5 +17,5 @@ pub enum Due {
 #[derive(Drop)]
 pub struct Opened {
     pub call: OpenCall,
-    pub txn: OpenTxn,
+    pub txn: HeldTxn,
 }

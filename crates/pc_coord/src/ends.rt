@@ -39,6 +39,7 @@ ghost use Rattle.pc_proto.specs.declared.why.Why.{Why};
 ghost use Rattle.pc_coord.specs.UsedUp.{ComesLost, answer_lost};
 
 use crate::coordinator::Coordinator;
+use crate::held::HeldTxn;
 use crate::kinds::{Decision, decision_of};
 use pc_base::{NoMemory, Timestamp, TryCopy, TxnId};
 use pc_call::{OpenCall, Purpose};
@@ -51,7 +52,7 @@ impl<'a> Coordinator<'a> {
     pub(crate) fn end_blocked(
         &mut self,
         call: OpenCall,
-        txn: OpenTxn,
+        txn: HeldTxn,
         holder: TxnId,
     ) -> Result<(), NoMemory>
         ensures knows { (loses : Bool) (k : Known) → StandsReady loses self.old k → InCall (setting_of loses self.old) k txn call.purpose call.wave → KeepsAside loses self.old.pipelining k txn call.purpose self.old.later call.wave → MayBlockIt self.old.session (setting_of loses self.old) k txn call.purpose call.wave holder → (step_of call.wave ≡ steps.Blocked holder) → OnOk result (Knows loses self.new k) }
@@ -74,7 +75,7 @@ impl<'a> Coordinator<'a> {
 
     /// The open commit gives up by this answer, which leaves its transaction open: at once where nothing of it can be committed, else behind a heartbeat that
     /// shows so.
-    pub(crate) fn give_up(&mut self, txn: OpenTxn, answer: Answer) -> Result<(), NoMemory>
+    pub(crate) fn give_up(&mut self, txn: HeldTxn, answer: Answer) -> Result<(), NoMemory>
         ensures knows { (loses : Bool) (k : Known) → StandsReady loses self.old k → GivesUpBy loses k txn answer → HasAside loses k txn self.old.later → Suits self.old.pipelining calls.Commit (Some txn) → OnOk result (Knows loses self.new k) }
         ensures waits { OnOk result (AwaitsOutbox self.old.later self.new.due) }
         ensures comes { (messages : List Message) → list_any is_in_conflict messages ≡ false → ((holder : TxnId) → answer ≢ answers.Blocked holder) → OnOk result (ComesOf messages self.new.due) }
@@ -84,16 +85,16 @@ impl<'a> Coordinator<'a> {
         ensures splits { self.new.splits ≡ self.old.splits }
         ensures pipelines { self.new.pipelining ≡ self.old.pipelining }
     {
-        if txn.staging.is_uncommitted() {
+        if txn.lent().staging.is_uncommitted() {
             return self.leave_open(txn, answer);
         }
-        let call = last_beat_of(self.alloc, &txn, self.reading, answer)?;
+        let call = last_beat_of(self.alloc, txn.lent(), self.reading, answer)?;
         self.call(call, txn);
         Ok(())
     }
 
     /// The open commit is told this, and its transaction stays open: nothing of it can be committed.
-    fn leave_open(&mut self, mut txn: OpenTxn, answer: Answer) -> Result<(), NoMemory>
+    fn leave_open(&mut self, mut txn: HeldTxn, answer: Answer) -> Result<(), NoMemory>
         ensures knows { (loses : Bool) (k : Known) → StandsReady loses self.old k → GivesUpBy loses k txn answer → HasAside loses k txn self.old.later → Suits self.old.pipelining calls.Commit (Some txn) → is_over txn.staging ≡ true → OnOk result (Knows loses self.new k) }
         ensures told { OnOk result (self.new.due ≡ dues.Tell answer) }
         ensures left { OnOk result (IsLeftOf self.old.later self.new.later) }
@@ -101,7 +102,7 @@ impl<'a> Coordinator<'a> {
         ensures splits { self.new.splits ≡ self.old.splits }
         ensures pipelines { self.new.pipelining ≡ self.old.pipelining }
     {
-        give_up_by(&mut txn, &answer)?;
+        give_up_by(txn.lent_mut(), &answer)?;
         self.clear_by(&answer);
         self.tell(answer, txn);
         Ok(())
@@ -121,7 +122,7 @@ impl<'a> Coordinator<'a> {
     pub(crate) fn last_beat_heard(
         &mut self,
         call: OpenCall,
-        txn: OpenTxn,
+        txn: HeldTxn,
         step: u64,
         reply: &Reply,
     ) -> Result<(), NoMemory>
@@ -136,8 +137,12 @@ impl<'a> Coordinator<'a> {
     {
         let decision = decision_of(reply)?;
         match decision {
-            Decision::Committed { epoch, ts } => self.finish(call.found_committed(txn, epoch, ts)),
-            Decision::Aborted { why } => self.finish(call.aborted(txn, why)),
+            Decision::Committed { epoch, ts } => self.finish(call.found_committed(
+                txn.into_txn(),
+                epoch,
+                ts,
+            )),
+            Decision::Aborted { why } => self.finish(call.aborted(txn.into_txn(), why)),
             Decision::Refused { recorded } => self.gives_up(call, txn, recorded, step),
             Decision::Nothing => {
                 self.told();
@@ -150,7 +155,7 @@ impl<'a> Coordinator<'a> {
     fn gives_up(
         &mut self,
         call: OpenCall,
-        mut txn: OpenTxn,
+        mut txn: HeldTxn,
         recorded: Timestamp,
         step: u64,
     ) -> Result<(), NoMemory>
@@ -163,7 +168,7 @@ impl<'a> Coordinator<'a> {
         ensures splits { self.new.splits ≡ self.old.splits }
         ensures pipelines { self.new.pipelining ≡ self.old.pipelining }
     {
-        let then = call.gives_up(&mut txn, recorded, step);
+        let then = call.gives_up(txn.lent_mut(), recorded, step);
         match then {
             Some(answer) => self.leave_open(txn, answer),
             None => {
@@ -177,7 +182,7 @@ impl<'a> Coordinator<'a> {
     pub(crate) fn lose(
         &mut self,
         mut call: OpenCall,
-        txn: OpenTxn,
+        txn: HeldTxn,
         number: u64,
     ) -> Result<(), NoMemory>
         ensures knows { (loses : Bool) (k : Known) → StandsReady loses self.old k → loses ≡ true → InCall (setting_of loses self.old) k txn call.purpose call.wave → KeepsAside loses self.old.pipelining k txn call.purpose self.old.later call.wave → wave_awaits number call.wave ≡ true → OnOk result (Knows loses self.new k) }
@@ -187,7 +192,7 @@ impl<'a> Coordinator<'a> {
         ensures splits { self.new.splits ≡ self.old.splits }
         ensures pipelines { self.new.pipelining ≡ self.old.pipelining }
     {
-        call.lost(&txn, number, self.tries);
+        call.lost(txn.lent(), number, self.tries);
         self.go_on(call, txn)
     }
 
@@ -196,7 +201,7 @@ impl<'a> Coordinator<'a> {
     pub(crate) fn end_lost(
         &mut self,
         call: OpenCall,
-        mut txn: OpenTxn,
+        mut txn: HeldTxn,
         faults: u32,
     ) -> Result<(), NoMemory>
         ensures knows { (loses : Bool) (start k : Known) → StandsReady loses self.old k → loses ≡ true → ((why : Why) → call.purpose ≡ purposes.Abort why → InCall (setting_of loses self.old) k txn call.purpose call.wave) → (((why : Why) → call.purpose ≢ purposes.Abort why) → MayGiveUpLost (setting_of loses self.old) start txn) → HasAside loses k txn self.old.later → GoesOnBeside start k txn.id → BeginsNothing k → WasLost k faults → OnOk result (Knows loses self.new k) }
@@ -209,13 +214,13 @@ impl<'a> Coordinator<'a> {
         ensures splits { self.new.splits ≡ self.old.splits }
         ensures pipelines { self.new.pipelining ≡ self.old.pipelining }
     {
-        if let Some(over) = call.rolled_back_unheard(&txn)? {
+        if let Some(over) = call.rolled_back_unheard(txn.lent())? {
             return self.finish(over);
         }
-        if !txn.staging.is_uncommitted() {
-            return self.finish(call.unknown(&txn));
+        if !txn.lent().staging.is_uncommitted() {
+            return self.finish(call.unknown(txn.lent()));
         }
-        txn.staging.forget();
+        txn.lent_mut().staging.forget();
         self.tell(call.unavailable(faults), txn);
         Ok(())
     }

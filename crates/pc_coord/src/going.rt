@@ -38,18 +38,18 @@ ghost use Rattle.pc_coord.specs.declared.round.Round.TheVariants as rounds;
 
 use crate::coordinator::Coordinator;
 use crate::due::{Due, Opened};
+use crate::held::HeldTxn;
 use crate::job::job_of;
 use crate::kinds::{Decision, conflict_due, decision_of, status_in, written_at};
 use crate::round::Round;
 use pc_base::{NoMemory, Timestamp, TryCopy, TxnId};
 use pc_call::{OpenCall, Over, Purpose, Refreshed};
 use pc_proto::{Answer, Reply};
-use pc_txn::OpenTxn;
 use pc_wave::WaveState;
 
 impl<'a> Coordinator<'a> {
     /// The open call goes on by what is due of these messages, or is told what they came to.
-    pub(crate) fn go_on(&mut self, call: OpenCall, txn: OpenTxn) -> Result<(), NoMemory>
+    pub(crate) fn go_on(&mut self, call: OpenCall, txn: HeldTxn) -> Result<(), NoMemory>
         ensures knows { (loses : Bool) (k : Known) → StandsReady loses self.old k → InCall (setting_of loses self.old) k txn call.purpose call.wave → KeepsAside loses self.old.pipelining k txn call.purpose self.old.later call.wave → (step_of call.wave ≡ steps.Answered → IsForMany call.purpose) → OnOk result (Knows loses self.new k) }
         ensures waits { OnOk result (AwaitsBy call.wave self.old.later self.new.due) }
         ensures comes { goes_by_sequence call.purpose ≡ false → OnOk result (ComesOf call.wave self.new.due) }
@@ -76,7 +76,7 @@ impl<'a> Coordinator<'a> {
     }
 
     /// More is due of these messages.
-    pub(crate) fn call(&mut self, call: OpenCall, txn: OpenTxn)
+    pub(crate) fn call(&mut self, call: OpenCall, txn: HeldTxn)
         ensures { self.new ≡ calling call txn self.old }
     {
         self.txn = Some(txn);
@@ -84,7 +84,7 @@ impl<'a> Coordinator<'a> {
     }
 
     /// The open call is to be told this, and its transaction stays open.
-    pub(crate) fn tell(&mut self, answer: Answer, txn: OpenTxn)
+    pub(crate) fn tell(&mut self, answer: Answer, txn: HeldTxn)
         ensures { self.new ≡ telling answer (Some txn) self.old.job self.old }
     {
         self.txn = Some(txn);
@@ -108,7 +108,7 @@ impl<'a> Coordinator<'a> {
     }
 
     /// Each of these messages was answered: a read is told, what was refreshed commits or restarts, and a call whose earlier writes are proved goes on.
-    fn end(&mut self, call: OpenCall, txn: OpenTxn) -> Result<(), NoMemory>
+    fn end(&mut self, call: OpenCall, txn: HeldTxn) -> Result<(), NoMemory>
         ensures knows { (loses : Bool) (k : Known) → StandsReady loses self.old k → InCall (setting_of loses self.old) k txn call.purpose call.wave → KeepsAside loses self.old.pipelining k txn call.purpose self.old.later call.wave → step_of call.wave ≡ steps.Answered → IsForMany call.purpose → OnOk result (Knows loses self.new k) }
         ensures waits { OnOk result (AwaitsOutbox self.old.later self.new.due) }
         ensures comes { step_of call.wave ≡ steps.Answered → goes_by_sequence call.purpose ≡ false → OnOk result (ComesOf call.wave self.new.due) }
@@ -136,7 +136,7 @@ impl<'a> Coordinator<'a> {
     }
 
     /// All writes for which the call waited are proved: it goes on by its own messages.
-    fn proven(&mut self, call: OpenCall, txn: OpenTxn) -> Result<(), NoMemory>
+    fn proven(&mut self, call: OpenCall, txn: HeldTxn) -> Result<(), NoMemory>
         ensures knows { (loses : Bool) (k : Known) (kept : Call) (all : Bool) → StandsReady loses self.old k → InCall (setting_of loses self.old) k txn call.purpose call.wave → KeepsAside loses self.old.pipelining k txn call.purpose self.old.later call.wave → call.purpose ≡ purposes.Prove kept all → step_of call.wave ≡ steps.Answered → OnOk result (Knows loses self.new k) }
         ensures waits { OnOk result (AwaitsOutbox self.old.later self.new.due) }
         ensures comes { list_any is_in_conflict call.wave ≡ false → OnOk result (ComesOf call.wave self.new.due) }
@@ -146,7 +146,7 @@ impl<'a> Coordinator<'a> {
         ensures splits { self.new.splits ≡ self.old.splits }
         ensures pipelines { self.new.pipelining ≡ self.old.pipelining }
     {
-        let next = call.proven(self.alloc, self.splits, &txn)?;
+        let next = call.proven(self.alloc, self.splits, txn.lent())?;
         match next {
             Some(call) => self.call(call, txn),
             None => self.told(),
@@ -154,7 +154,7 @@ impl<'a> Coordinator<'a> {
         Ok(())
     }
 
-    fn read(&mut self, call: OpenCall, mut txn: OpenTxn) -> Result<(), NoMemory>
+    fn read(&mut self, call: OpenCall, mut txn: HeldTxn) -> Result<(), NoMemory>
         ensures knows { (loses : Bool) (k : Known) → StandsReady loses self.old k → InCall (setting_of loses self.old) k txn call.purpose call.wave → KeepsAside loses self.old.pipelining k txn call.purpose self.old.later call.wave → call.purpose ≡ purposes.Read → step_of call.wave ≡ steps.Answered → OnOk result (Knows loses self.new k) }
         ensures waits { OnOk result (AwaitsOutbox self.old.later self.new.due) }
         ensures comes { OnOk result (ComesOf call.wave self.new.due) }
@@ -164,12 +164,12 @@ impl<'a> Coordinator<'a> {
         ensures splits { self.new.splits ≡ self.old.splits }
         ensures pipelines { self.new.pipelining ≡ self.old.pipelining }
     {
-        let answer = call.read(self.alloc, &mut txn)?;
+        let answer = call.read(self.alloc, txn.lent_mut())?;
         self.tell(answer, txn);
         Ok(())
     }
 
-    fn refreshed(&mut self, call: OpenCall, txn: OpenTxn) -> Result<(), NoMemory>
+    fn refreshed(&mut self, call: OpenCall, txn: HeldTxn) -> Result<(), NoMemory>
         ensures knows { (loses : Bool) (k : Known) (refusals : ℕ) (puts : List Message) → StandsReady loses self.old k → InCall (setting_of loses self.old) k txn call.purpose call.wave → KeepsAside loses self.old.pipelining k txn call.purpose self.old.later call.wave → call.purpose ≡ purposes.Refresh refusals puts → step_of call.wave ≡ steps.Answered → OnOk result (Knows loses self.new k) }
         ensures waits { OnOk result (AwaitsOutbox self.old.later self.new.due) }
         ensures comes { list_any is_in_conflict call.wave ≡ false → OnOk result (ComesOf call.wave self.new.due) }
@@ -179,7 +179,7 @@ impl<'a> Coordinator<'a> {
         ensures splits { self.new.splits ≡ self.old.splits }
         ensures pipelines { self.new.pipelining ≡ self.old.pipelining }
     {
-        let refreshed = call.refreshed(self.alloc, &txn, &mut self.later, self.reading)?;
+        let refreshed = call.refreshed(self.alloc, txn.lent(), &mut self.later, self.reading)?;
         match refreshed {
             Refreshed::Commit(call) => {
                 self.call(call, txn);
@@ -202,7 +202,7 @@ impl<'a> Coordinator<'a> {
         ensures pipelines { self.new.pipelining ≡ self.old.pipelining }
     {
         let Opened { mut call, mut txn } = taken;
-        call.sent(&mut txn, number)?;
+        call.sent(txn.lent_mut(), number)?;
         if self.tells_at_once(&call) {
             call.keep_for_later(&mut self.later, number)?;
             self.tell(Answer::Written, txn);
@@ -216,7 +216,7 @@ impl<'a> Coordinator<'a> {
     pub(crate) fn hear(
         &mut self,
         call: OpenCall,
-        txn: OpenTxn,
+        txn: HeldTxn,
         number: u64,
         step: u64,
         reply: &Reply,
@@ -249,7 +249,7 @@ impl<'a> Coordinator<'a> {
     pub(crate) fn come_back(
         &mut self,
         mut call: OpenCall,
-        txn: OpenTxn,
+        txn: HeldTxn,
         number: u64,
         reply: &Reply,
     ) -> Result<(), NoMemory>
@@ -272,7 +272,7 @@ impl<'a> Coordinator<'a> {
     fn proof_heard(
         &mut self,
         call: OpenCall,
-        txn: OpenTxn,
+        txn: HeldTxn,
         number: u64,
         step: u64,
         reply: &Reply,
@@ -298,7 +298,7 @@ impl<'a> Coordinator<'a> {
     pub(crate) fn proved(
         &mut self,
         mut call: OpenCall,
-        mut txn: OpenTxn,
+        mut txn: HeldTxn,
         number: u64,
         step: u64,
         ts: Timestamp,
@@ -315,7 +315,7 @@ impl<'a> Coordinator<'a> {
         ensures pipelines { self.new.pipelining ≡ self.old.pipelining }
     {
         let told = reply.copy()?;
-        call.proved(&mut txn, number, step, ts, told);
+        call.proved(txn.lent_mut(), number, step, ts, told);
         self.go_on(call, txn)
     }
 
@@ -323,7 +323,7 @@ impl<'a> Coordinator<'a> {
     fn write_heard(
         &mut self,
         call: OpenCall,
-        txn: OpenTxn,
+        txn: HeldTxn,
         number: u64,
         step: u64,
         reply: &Reply,
@@ -348,7 +348,7 @@ impl<'a> Coordinator<'a> {
     fn written(
         &mut self,
         call: OpenCall,
-        mut txn: OpenTxn,
+        mut txn: HeldTxn,
         ts: Timestamp,
         step: u64,
     ) -> Result<(), NoMemory>
@@ -361,7 +361,7 @@ impl<'a> Coordinator<'a> {
         ensures splits { self.new.splits ≡ self.old.splits }
         ensures pipelines { self.new.pipelining ≡ self.old.pipelining }
     {
-        call.written(&mut txn, ts, step);
+        call.written(txn.lent_mut(), ts, step);
         self.tell(Answer::Written, txn);
         Ok(())
     }
@@ -370,7 +370,7 @@ impl<'a> Coordinator<'a> {
     fn commit_heard(
         &mut self,
         call: OpenCall,
-        txn: OpenTxn,
+        txn: HeldTxn,
         step: u64,
         reply: &Reply,
     ) -> Result<(), NoMemory>
@@ -385,8 +385,12 @@ impl<'a> Coordinator<'a> {
     {
         let decision = decision_of(reply)?;
         match decision {
-            Decision::Committed { epoch, ts } => self.finish(call.committed(txn, epoch, ts)),
-            Decision::Aborted { why } => self.finish(call.aborted(txn, why)),
+            Decision::Committed { epoch, ts } => self.finish(call.committed(
+                txn.into_txn(),
+                epoch,
+                ts,
+            )),
+            Decision::Aborted { why } => self.finish(call.aborted(txn.into_txn(), why)),
             Decision::Refused { recorded } => self.refused(call, txn, recorded, step),
             Decision::Nothing => {
                 self.told();
@@ -399,7 +403,7 @@ impl<'a> Coordinator<'a> {
     fn refused(
         &mut self,
         call: OpenCall,
-        mut txn: OpenTxn,
+        mut txn: HeldTxn,
         recorded: Timestamp,
         step: u64,
     ) -> Result<(), NoMemory>
@@ -412,7 +416,7 @@ impl<'a> Coordinator<'a> {
         ensures splits { self.new.splits ≡ self.old.splits }
         ensures pipelines { self.new.pipelining ≡ self.old.pipelining }
     {
-        let refused = call.refused(&mut txn, recorded, step);
+        let refused = call.refused(txn.lent_mut(), recorded, step);
         match refused {
             Some(refusals) => self.commit_on(txn, refusals),
             None => self.give_up(txn, Answer::Moved { ts: recorded }),
@@ -420,7 +424,7 @@ impl<'a> Coordinator<'a> {
     }
 
     /// This was replied to an abort: its transaction is over.
-    fn abort_heard(&mut self, call: OpenCall, txn: OpenTxn, reply: &Reply) -> Result<(), NoMemory>
+    fn abort_heard(&mut self, call: OpenCall, txn: HeldTxn, reply: &Reply) -> Result<(), NoMemory>
         ensures knows { (loses : Bool) (k : Known) (h : Heard) (number : ℕ) (why : Why) → HearsNow loses self.old call txn number reply.now k h → call.purpose ≡ purposes.Abort why → OnOk result (Knows loses self.new (known_heard h k)) }
         ensures waits { OnOk result (AwaitsOutbox self.old.later self.new.due) }
         ensures comes { (messages : List Message) (why : Why) → call.purpose ≡ purposes.Abort why → OnOk result (ComesOf messages self.new.due) }
@@ -433,7 +437,7 @@ impl<'a> Coordinator<'a> {
         let status = status_in(reply)?;
         match status {
             Some(view) => {
-                let over = call.rolled_back(txn, &view)?;
+                let over = call.rolled_back(txn.into_txn(), &view)?;
                 self.finish(over)
             }
             None => {
@@ -447,7 +451,7 @@ impl<'a> Coordinator<'a> {
     pub(crate) fn settle(
         &mut self,
         mut call: OpenCall,
-        txn: OpenTxn,
+        txn: HeldTxn,
         number: u64,
         round: Round,
     ) -> Result<(), NoMemory>
@@ -472,7 +476,7 @@ impl<'a> Coordinator<'a> {
     }
 
     /// The push of a round was refused: the call is told which transaction blocks it.
-    fn refuse(&mut self, call: OpenCall, txn: OpenTxn) -> Result<(), NoMemory>
+    fn refuse(&mut self, call: OpenCall, txn: HeldTxn) -> Result<(), NoMemory>
         ensures knows { (loses : Bool) (start k : Known) (clock number : ℕ) (conflict : Reply) → StandsReady loses self.old k → IsCounted self.old.session clock self.old.begun start → InCall (setting_of loses self.old) start txn call.purpose call.wave → KeepsAside loses self.old.pipelining k txn call.purpose self.old.later call.wave → step_of call.wave ≡ steps.Round number conflict → RefusesRound start k txn.id conflict → OnOk result (Knows loses self.new k) }
         ensures waits { OnOk result (AwaitsOutbox self.old.later self.new.due) }
         ensures comes { (number : ℕ) (conflict : Reply) (holder : TxnId) → step_of call.wave ≡ steps.Round number conflict → goes_by_sequence call.purpose ≡ false → holder_in conflict ≡ Some holder → OnOk result (self.new.due ≡ dues.Tell (answers.Blocked holder)) }
@@ -494,7 +498,7 @@ impl<'a> Coordinator<'a> {
     }
 
     /// The push in this conflict's round was refused.
-    fn block(&mut self, call: OpenCall, txn: OpenTxn, conflict: &Reply) -> Result<(), NoMemory>
+    fn block(&mut self, call: OpenCall, txn: HeldTxn, conflict: &Reply) -> Result<(), NoMemory>
         ensures knows { (loses : Bool) (start k : Known) (clock number : ℕ) → StandsReady loses self.old k → IsCounted self.old.session clock self.old.begun start → InCall (setting_of loses self.old) start txn call.purpose call.wave → KeepsAside loses self.old.pipelining k txn call.purpose self.old.later call.wave → step_of call.wave ≡ steps.Round number conflict.now → RefusesRound start k txn.id conflict.now → OnOk result (Knows loses self.new k) }
         ensures waits { OnOk result (AwaitsOutbox self.old.later self.new.due) }
         ensures comes { (holder : TxnId) → is_for_stage call.purpose ≡ false → holder_in conflict.now ≡ Some holder → OnOk result (self.new.due ≡ dues.Tell (answers.Blocked holder)) }

@@ -7,6 +7,7 @@ mod coordinator;
 mod due;
 mod ends;
 mod going;
+mod held;
 mod job;
 mod kinds;
 mod laws;

@@ -24,6 +24,7 @@ ghost use Rattle.pc_world.specs.Tell.Refusal.{MayBlock};
 ghost use Rattle.pc_call.specs.Outbox.{AreToSendOrOnWay, MayWait, TakesFrom};
 
 use crate::coordinator::Coordinator;
+use crate::held::HeldTxn;
 use pc_base::{Key, NoMemory, Span, TryCopy, Value};
 use pc_call::{Later, OpenCall, is_to_prove};
 use pc_proto::Call;
@@ -38,7 +39,7 @@ impl<'a> Coordinator<'a> {
         &mut self,
         call: Call,
         reading: u64,
-        txn: OpenTxn,
+        txn: HeldTxn,
     ) -> Result<(), NoMemory>
         ensures knows { (loses : Bool) (k : Known) (why : Why) → StandsReady loses self.old k → IsJustAsked k txn (record { call = call; reading = reading }) why → HasAside loses k txn self.old.later → MayBlock call → reading ≡ self.old.reading → Suits self.old.pipelining call (Some txn) → OnOk result (Knows loses self.new k) }
         ensures waits { MayBlock call → OnOk result (AwaitsOutbox self.old.later self.new.due) }
@@ -47,7 +48,7 @@ impl<'a> Coordinator<'a> {
         ensures splits { self.new.splits ≡ self.old.splits }
         ensures pipelines { self.new.pipelining ≡ self.old.pipelining }
     {
-        if txn.is_silent(reading) {
+        if txn.lent().is_silent(reading) {
             self.show(call, reading, txn)
         } else {
             self.serve(&call, txn)
@@ -55,7 +56,7 @@ impl<'a> Coordinator<'a> {
     }
 
     /// The heartbeat of the transaction goes out first.
-    fn show(&mut self, call: Call, reading: u64, txn: OpenTxn) -> Result<(), NoMemory>
+    fn show(&mut self, call: Call, reading: u64, txn: HeldTxn) -> Result<(), NoMemory>
         ensures knows { (loses : Bool) (k : Known) (why : Why) → StandsReady loses self.old k → IsJustAsked k txn (record { call = call; reading = reading }) why → HasAside loses k txn self.old.later → MayBlock call → reading ≡ self.old.reading → Suits self.old.pipelining call (Some txn) → is_silent reading txn ≡ true → OnOk result (Knows loses self.new k) }
         ensures waits { OnOk result (AwaitsOutbox self.old.later self.new.due) }
         ensures left { OnOk result (IsLeftOf self.old.later self.new.later) }
@@ -63,12 +64,12 @@ impl<'a> Coordinator<'a> {
         ensures splits { self.new.splits ≡ self.old.splits }
         ensures pipelines { self.new.pipelining ≡ self.old.pipelining }
     {
-        let call = beat_of(self.alloc, &txn, call, reading)?;
+        let call = beat_of(self.alloc, txn.lent(), call, reading)?;
         self.go_on(call, txn)
     }
 
     /// A call that reads, writes or commits begins.
-    pub(crate) fn serve(&mut self, call: &Call, txn: OpenTxn) -> Result<(), NoMemory>
+    pub(crate) fn serve(&mut self, call: &Call, txn: HeldTxn) -> Result<(), NoMemory>
         ensures knows { (loses : Bool) (k : Known) (s : Statement) (why : Why) → StandsReady loses self.old k → IsFresh loses k txn s why → HasAside loses k txn self.old.later → s.call ≡ call.now → MayBlock call.now → Suits self.old.pipelining call.now (Some txn) → OnOk result (Knows loses self.new k) }
         ensures waits { MayBlock call.now → OnOk result (AwaitsOutbox self.old.later self.new.due) }
         ensures comes { (messages : List Message) → MayBlock call.now → list_any is_in_conflict messages ≡ false → OnOk result (ComesOf messages self.new.due) }
@@ -77,7 +78,7 @@ impl<'a> Coordinator<'a> {
         ensures splits { self.new.splits ≡ self.old.splits }
         ensures pipelines { self.new.pipelining ≡ self.old.pipelining }
     {
-        if is_to_prove(call, &txn) {
+        if is_to_prove(call, txn.lent()) {
             return self.prove(call, txn);
         }
         match call {
@@ -94,7 +95,7 @@ impl<'a> Coordinator<'a> {
     }
 
     /// Writes in flight for which the call waits are proved first.
-    fn prove(&mut self, call: &Call, txn: OpenTxn) -> Result<(), NoMemory>
+    fn prove(&mut self, call: &Call, txn: HeldTxn) -> Result<(), NoMemory>
         ensures knows { (loses : Bool) (k : Known) (s : Statement) (why : Why) → StandsReady loses self.old k → IsFresh loses k txn s why → HasAside loses k txn self.old.later → s.call ≡ call.now → BeginsBehindProofs call.now → waits_for_some call.now txn.in_flight ≡ true → Suits self.old.pipelining call.now (Some txn) → OnOk result (Knows loses self.new k) }
         ensures waits { OnOk result (AwaitsOutbox self.old.later self.new.due) }
         ensures comes { (messages : List Message) → list_any is_in_conflict messages ≡ false → OnOk result (ComesOf messages self.new.due) }
@@ -103,12 +104,12 @@ impl<'a> Coordinator<'a> {
         ensures splits { self.new.splits ≡ self.old.splits }
         ensures pipelines { self.new.pipelining ≡ self.old.pipelining }
     {
-        let call = prove_first(self.alloc, &txn, &mut self.later, call.copy()?)?;
+        let call = prove_first(self.alloc, txn.lent(), &mut self.later, call.copy()?)?;
         self.call(call, txn);
         Ok(())
     }
 
-    fn get(&mut self, txn: OpenTxn, key: &Key) -> Result<(), NoMemory>
+    fn get(&mut self, txn: HeldTxn, key: &Key) -> Result<(), NoMemory>
         ensures knows { (loses : Bool) (k : Known) (s : Statement) (why : Why) → StandsReady loses self.old k → IsFresh loses k txn s why → HasAside loses k txn self.old.later → s.call ≡ calls.Get key.now → waits_for_some (calls.Get key.now) txn.in_flight ≡ false → Suits self.old.pipelining (calls.Get key.now) (Some txn) → OnOk result (Knows loses self.new k) }
         ensures waits { OnOk result (AwaitsOutbox self.old.later self.new.due) }
         ensures comes { (messages : List Message) → list_any is_in_conflict messages ≡ false → OnOk result (ComesOf messages self.new.due) }
@@ -117,11 +118,11 @@ impl<'a> Coordinator<'a> {
         ensures splits { self.new.splits ≡ self.old.splits }
         ensures pipelines { self.new.pipelining ≡ self.old.pipelining }
     {
-        let call = OpenCall::get(self.alloc, &txn, key)?;
+        let call = OpenCall::get(self.alloc, txn.lent(), key)?;
         self.go_on(call, txn)
     }
 
-    fn scan(&mut self, txn: OpenTxn, span: &Span) -> Result<(), NoMemory>
+    fn scan(&mut self, txn: HeldTxn, span: &Span) -> Result<(), NoMemory>
         ensures knows { (loses : Bool) (k : Known) (s : Statement) (why : Why) → StandsReady loses self.old k → IsFresh loses k txn s why → HasAside loses k txn self.old.later → s.call ≡ calls.Scan span.now → waits_for_some (calls.Scan span.now) txn.in_flight ≡ false → Suits self.old.pipelining (calls.Scan span.now) (Some txn) → OnOk result (Knows loses self.new k) }
         ensures waits { OnOk result (AwaitsOutbox self.old.later self.new.due) }
         ensures comes { (messages : List Message) → list_any is_in_conflict messages ≡ false → OnOk result (ComesOf messages self.new.due) }
@@ -130,12 +131,12 @@ impl<'a> Coordinator<'a> {
         ensures splits { self.new.splits ≡ self.old.splits }
         ensures pipelines { self.new.pipelining ≡ self.old.pipelining }
     {
-        let call = OpenCall::scan(self.alloc, self.splits, &txn, span)?;
+        let call = OpenCall::scan(self.alloc, self.splits, txn.lent(), span)?;
         self.go_on(call, txn)
     }
 
     /// The call writes; no value is a deletion.
-    fn write(&mut self, txn: OpenTxn, key: &Key, value: &Option<Value>) -> Result<(), NoMemory>
+    fn write(&mut self, txn: HeldTxn, key: &Key, value: &Option<Value>) -> Result<(), NoMemory>
         ensures knows { (loses : Bool) (k : Known) (s : Statement) (why : Why) → StandsReady loses self.old k → IsFresh loses k txn s why → HasAside loses k txn self.old.later → s.call ≡ write_call key.now value.now → waits_for_some (write_call key.now value.now) txn.in_flight ≡ false → Suits self.old.pipelining (write_call key.now value.now) (Some txn) → OnOk result (Knows loses self.new k) }
         ensures waits { OnOk result (AwaitsOutbox self.old.later self.new.due) }
         ensures comes { (messages : List Message) → list_any is_in_conflict messages ≡ false → OnOk result (ComesOf messages self.new.due) }
@@ -144,11 +145,11 @@ impl<'a> Coordinator<'a> {
         ensures splits { self.new.splits ≡ self.old.splits }
         ensures pipelines { self.new.pipelining ≡ self.old.pipelining }
     {
-        let put = OpenCall::write(self.alloc, &txn, key, value)?;
+        let put = OpenCall::write(self.alloc, txn.lent(), key, value)?;
         self.go_on(put, txn)
     }
 
-    fn commit(&mut self, txn: OpenTxn) -> Result<(), NoMemory>
+    fn commit(&mut self, txn: HeldTxn) -> Result<(), NoMemory>
         ensures knows { (loses : Bool) (k : Known) (s : Statement) (why : Why) → StandsReady loses self.old k → IsFresh loses k txn s why → HasAside loses k txn self.old.later → s.call ≡ calls.Commit → Suits self.old.pipelining calls.Commit (Some txn) → OnOk result (Knows loses self.new k) }
         ensures waits { OnOk result (AwaitsOutbox self.old.later self.new.due) }
         ensures comes { (messages : List Message) → list_any is_in_conflict messages ≡ false → OnOk result (ComesOf messages self.new.due) }
@@ -157,13 +158,13 @@ impl<'a> Coordinator<'a> {
         ensures splits { self.new.splits ≡ self.old.splits }
         ensures pipelines { self.new.pipelining ≡ self.old.pipelining }
     {
-        match &txn.anchor {
+        match &txn.lent().anchor {
             Some(_) => self.commit_written(txn),
-            None => self.finish(OpenCall::commit_unwritten(txn)),
+            None => self.finish(OpenCall::commit_unwritten(txn.into_txn())),
         }
     }
 
-    fn commit_written(&mut self, txn: OpenTxn) -> Result<(), NoMemory>
+    fn commit_written(&mut self, txn: HeldTxn) -> Result<(), NoMemory>
         ensures knows { (loses : Bool) (k : Known) (s : Statement) (why : Why) (anchor : List ℕ) → StandsReady loses self.old k → IsFresh loses k txn s why → HasAside loses k txn self.old.later → s.call ≡ calls.Commit → Suits self.old.pipelining calls.Commit (Some txn) → txn.anchor ≡ Some anchor → OnOk result (Knows loses self.new k) }
         ensures waits { OnOk result (AwaitsOutbox self.old.later self.new.due) }
         ensures comes { (messages : List Message) → list_any is_in_conflict messages ≡ false → OnOk result (ComesOf messages self.new.due) }

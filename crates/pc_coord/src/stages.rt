@@ -27,12 +27,12 @@ ghost use Rattle.pc_world.specs.Known.Transactions.{Txn};
 ghost use Rattle.pc_world.specs.Tell.Refusal.{WasLost};
 
 use crate::coordinator::Coordinator;
+use crate::held::HeldTxn;
 use crate::kinds::{Decision, decision_of, written_at};
 use pc_base::{NoMemory, Timestamp, TryCopy, TxnId};
 use pc_call::{OpenCall, StageTold, StagedOn};
 use pc_proto::{Answer, Reply};
 use pc_refusals::Refusals;
-use pc_txn::OpenTxn;
 use pc_wave::Wave;
 
 impl<'a> Coordinator<'a> {
@@ -40,7 +40,7 @@ impl<'a> Coordinator<'a> {
     pub(crate) fn stage_wave_heard(
         &mut self,
         call: OpenCall,
-        txn: OpenTxn,
+        txn: HeldTxn,
         number: u64,
         step: u64,
         reply: &Reply,
@@ -65,7 +65,7 @@ impl<'a> Coordinator<'a> {
     fn stage_heard(
         &mut self,
         call: OpenCall,
-        txn: OpenTxn,
+        txn: HeldTxn,
         number: u64,
         step: u64,
         reply: &Reply,
@@ -81,8 +81,12 @@ impl<'a> Coordinator<'a> {
     {
         let decision = decision_of(reply)?;
         match decision {
-            Decision::Committed { epoch, ts } => self.finish(call.found_committed(txn, epoch, ts)),
-            Decision::Aborted { why } => self.finish(call.aborted(txn, why)),
+            Decision::Committed { epoch, ts } => self.finish(call.found_committed(
+                txn.into_txn(),
+                epoch,
+                ts,
+            )),
+            Decision::Aborted { why } => self.finish(call.aborted(txn.into_txn(), why)),
             Decision::Refused { recorded } => {
                 self.stage_told(call, txn, number, step, recorded, reply)
             }
@@ -94,7 +98,7 @@ impl<'a> Coordinator<'a> {
     fn stage_told(
         &mut self,
         mut call: OpenCall,
-        mut txn: OpenTxn,
+        mut txn: HeldTxn,
         number: u64,
         step: u64,
         recorded: Timestamp,
@@ -110,7 +114,7 @@ impl<'a> Coordinator<'a> {
         ensures pipelines { self.new.pipelining ≡ self.old.pipelining }
     {
         let told = reply.copy()?;
-        let told = call.stage_told(&mut txn, number, step, recorded, told);
+        let told = call.stage_told(txn.lent_mut(), number, step, recorded, told);
         match told {
             StageTold::Staged => self.go_on(call, txn),
             StageTold::Refused => self.stage_refused(call, txn, recorded),
@@ -121,7 +125,7 @@ impl<'a> Coordinator<'a> {
     fn stage_refused(
         &mut self,
         call: OpenCall,
-        txn: OpenTxn,
+        txn: HeldTxn,
         recorded: Timestamp,
     ) -> Result<(), NoMemory>
         ensures knows { (loses : Bool) (k : Known) (s : Statement) (n : ℕ) → StandsReady loses self.old k → k.statement ≡ Some s → CallStagesOn loses recorded k txn call → HasAside loses k txn self.old.later → MayWait self.old.pipelining self.old.later → Suits self.old.pipelining calls.Commit (Some txn) → call.purpose ≡ purposes.Stage n → (is_lost_after self.old.tries call.wave ≡ true → (loses ≡ true) × WasLost k self.old.tries) → OnOk result (Knows loses self.new k) }
@@ -140,7 +144,7 @@ impl<'a> Coordinator<'a> {
     }
 
     /// All messages of the wave in which the transaction stages were answered: it is committed by its stage, or its stage is late.
-    pub(crate) fn staged(&mut self, call: OpenCall, txn: OpenTxn) -> Result<(), NoMemory>
+    pub(crate) fn staged(&mut self, call: OpenCall, txn: HeldTxn) -> Result<(), NoMemory>
         ensures knows { (loses : Bool) (k : Known) (n : ℕ) → StandsReady loses self.old k → InCall (setting_of loses self.old) k txn call.purpose call.wave → KeepsAside loses self.old.pipelining k txn call.purpose self.old.later call.wave → call.purpose ≡ purposes.Stage n → step_of call.wave ≡ steps.Answered → OnOk result (Knows loses self.new k) }
         ensures waits { OnOk result (AwaitsOutbox self.old.later self.new.due) }
         ensures left { (n : ℕ) → call.purpose ≡ purposes.Stage n → OnOk result (IsLeftOf self.old.later self.new.later) }
@@ -149,10 +153,11 @@ impl<'a> Coordinator<'a> {
         ensures splits { self.new.splits ≡ self.old.splits }
         ensures pipelines { self.new.pipelining ≡ self.old.pipelining }
     {
-        if txn.staging.is_committed(&txn.in_flight, txn.write_ts) {
-            return self.finish(call.committed_by_stage(txn));
+        let open = txn.lent();
+        let recorded = open.write_ts;
+        if open.staging.is_committed(&open.in_flight, recorded) {
+            return self.finish(call.committed_by_stage(txn.into_txn()));
         }
-        let recorded = txn.write_ts;
         self.stage_on(call, txn, recorded)
     }
 
@@ -161,7 +166,7 @@ impl<'a> Coordinator<'a> {
     fn stage_on(
         &mut self,
         call: OpenCall,
-        txn: OpenTxn,
+        txn: HeldTxn,
         recorded: Timestamp,
     ) -> Result<(), NoMemory>
         ensures knows { (loses : Bool) (k : Known) (s : Statement) (n : ℕ) → StandsReady loses self.old k → k.statement ≡ Some s → CallStagesOn loses recorded k txn call → HasAside loses k txn self.old.later → MayWait self.old.pipelining self.old.later → Suits self.old.pipelining calls.Commit (Some txn) → call.purpose ≡ purposes.Stage n → OnOk result (Knows loses self.new k) }
@@ -172,7 +177,13 @@ impl<'a> Coordinator<'a> {
         ensures splits { self.new.splits ≡ self.old.splits }
         ensures pipelines { self.new.pipelining ≡ self.old.pipelining }
     {
-        let next = call.stages_on(self.alloc, &txn, &mut self.later, self.reading, recorded)?;
+        let next = call.stages_on(
+            self.alloc,
+            txn.lent(),
+            &mut self.later,
+            self.reading,
+            recorded,
+        )?;
         match next {
             Some(StagedOn::Commit(call)) => {
                 self.call(call, txn);
@@ -187,7 +198,7 @@ impl<'a> Coordinator<'a> {
     }
 
     /// The open transaction, which wrote, goes on to commit after its commit was moved so often, where no stage of the call left puts.
-    pub(crate) fn commit_on(&mut self, txn: OpenTxn, refusals: Refusals) -> Result<(), NoMemory>
+    pub(crate) fn commit_on(&mut self, txn: HeldTxn, refusals: Refusals) -> Result<(), NoMemory>
         ensures knows { (loses : Bool) (k : Known) (t : Txn) (s : Statement) → StandsReady loses self.old k → CommitsOnFrom loses t.read_ts refusals k t txn s [] → HasAside loses k txn self.old.later → MayWait self.old.pipelining self.old.later → Suits self.old.pipelining calls.Commit (Some txn) → OnOk result (Knows loses self.new k) }
         ensures comes { (messages : List Message) → list_any is_in_conflict messages ≡ false → OnOk result (ComesOf messages self.new.due) }
         ensures waits { OnOk result (AwaitsOutbox self.old.later self.new.due) }
@@ -200,7 +211,7 @@ impl<'a> Coordinator<'a> {
         let none = Wave::new(self.alloc);
         let call = OpenCall::commits(
             self.alloc,
-            &txn,
+            txn.lent(),
             &mut self.later,
             self.reading,
             refusals,
@@ -214,7 +225,7 @@ impl<'a> Coordinator<'a> {
     pub(crate) fn query_heard(
         &mut self,
         call: OpenCall,
-        txn: OpenTxn,
+        txn: HeldTxn,
         step: u64,
         reply: &Reply,
     ) -> Result<(), NoMemory>
@@ -237,7 +248,7 @@ impl<'a> Coordinator<'a> {
     }
 
     /// The write was found: it is proved.
-    fn found(&mut self, call: OpenCall, mut txn: OpenTxn) -> Result<(), NoMemory>
+    fn found(&mut self, call: OpenCall, mut txn: HeldTxn) -> Result<(), NoMemory>
         ensures knows { (loses : Bool) (k : Known) (h : Heard) (number n : ℕ) (holder : TxnId) (puts : List Message) → HearsNow loses self.old call txn number replies.Found k h → call.purpose ≡ purposes.Query n holder puts → OnOk result (Knows loses self.new (known_heard h k)) }
         ensures waits { (loses : Bool) (k : Known) (h : Heard) (number n : ℕ) (holder : TxnId) (puts : List Message) → loses ≡ false → HearsNow loses self.old call txn number replies.Found k h → call.purpose ≡ purposes.Query n holder puts → OnOk result (AwaitsOutbox self.old.later self.new.due) }
         ensures left { OnOk result (IsLeftOf self.old.later self.new.later) }
@@ -246,7 +257,7 @@ impl<'a> Coordinator<'a> {
         ensures splits { self.new.splits ≡ self.old.splits }
         ensures pipelines { self.new.pipelining ≡ self.old.pipelining }
     {
-        let next = call.found(&mut txn);
+        let next = call.found(txn.lent_mut());
         match next {
             Some(call) => self.go_on(call, txn),
             None => {
@@ -257,7 +268,7 @@ impl<'a> Coordinator<'a> {
     }
 
     /// The write was missing: its stage is late, and the commit gives up, blocked.
-    fn missed(&mut self, call: OpenCall, mut txn: OpenTxn, step: u64) -> Result<(), NoMemory>
+    fn missed(&mut self, call: OpenCall, mut txn: HeldTxn, step: u64) -> Result<(), NoMemory>
         ensures knows { (loses : Bool) (k : Known) (h : Heard) (number n : ℕ) (holder : TxnId) (puts : List Message) → HearsNow loses self.old call txn number replies.Missing k h → call.purpose ≡ purposes.Query n holder puts → h.step ≡ step → OnOk result (Knows loses self.new (known_heard h k)) }
         ensures waits { OnOk result (AwaitsOutbox self.old.later self.new.due) }
         ensures left { OnOk result (IsLeftOf self.old.later self.new.later) }
@@ -266,7 +277,7 @@ impl<'a> Coordinator<'a> {
         ensures splits { self.new.splits ≡ self.old.splits }
         ensures pipelines { self.new.pipelining ≡ self.old.pipelining }
     {
-        let blocked = call.missed(&mut txn, step)?;
+        let blocked = call.missed(txn.lent_mut(), step)?;
         match blocked {
             Some(holder) => self.give_up(txn, Answer::Blocked { holder }),
             None => {
@@ -280,7 +291,7 @@ impl<'a> Coordinator<'a> {
     pub(crate) fn stage_blocked(
         &mut self,
         call: OpenCall,
-        txn: OpenTxn,
+        txn: HeldTxn,
         holder: TxnId,
     ) -> Result<(), NoMemory>
         ensures knows { (loses : Bool) (k : Known) (n : ℕ) → StandsReady loses self.old k → IsBlockedStage (setting_of loses self.old) k txn n call.wave holder → KeepsAside loses self.old.pipelining k txn call.purpose self.old.later call.wave → ((number : ℕ) → wave_awaits number call.wave ≡ false) → call.purpose ≡ purposes.Stage n → OnOk result (Knows loses self.new k) }
@@ -291,10 +302,10 @@ impl<'a> Coordinator<'a> {
         ensures splits { self.new.splits ≡ self.old.splits }
         ensures pipelines { self.new.pipelining ≡ self.old.pipelining }
     {
-        if !call.is_live(&txn) {
+        if !call.is_live(txn.lent()) {
             return self.give_up(txn, Answer::Blocked { holder });
         }
-        let query = call.query(self.alloc, &txn, holder)?;
+        let query = call.query(self.alloc, txn.lent(), holder)?;
         self.call(query, txn);
         Ok(())
     }

@@ -16,8 +16,8 @@ returns-clause-knows c = λ loses k s r fresh h is.
     let set = setting_of loses self in
     let x = c.args.txn in
     let made = c.in_ok-call.call in
-    let w = c.in_ok-call.ensures.stands set k self.later s h.outbox fresh (rollback_suits self.pipelining s.call x.in_flight is) is in
-    let m = c.in_ok-call.ensures.made in
+    let w = (rw c.lent.ensures at c.in_ok-call.ensures.stands) set k self.later s h.outbox fresh (rollback_suits self.pipelining s.call x.in_flight is) is in
+    let m = (rw c.lent.ensures at c.in_ok-call.ensures.made) in
     let asked : w.s.call ≡ calls.Rollback = ap (λ (s : Statement). s.call) (same_Some w.s s (sym w.opened ∙ fresh.opened)) ∙ is in
     let plain = behind_none set k x made.purpose made.wave w (rollback_behind w.s.call asked) in
     c.go_on.ensures.knows loses k r w (one_aside self.pipelining k x self.later h made.purpose made.wave (own_abort x c.args.why m.0) m.1 refl (rollback_joined set k x made.purpose made.wave w self.later asked) plain.1 plain.0)

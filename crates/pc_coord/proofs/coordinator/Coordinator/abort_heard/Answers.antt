@@ -22,7 +22,7 @@ returns-in_ok-over-in-Some-clause-knows c = λ loses k h number why is aborts.
     let same = status_reply c.args.reply.now c.in-Some.view (sym c.in_ok-status.ensures ∙ c.in-Some.is) in
     let m = alone set k x call.purpose call.wave is.in_call (purposes.Abort why) aborts tt in
     finish_ok loses c.finish.result s c.finish.new.self (known_heard h k) c.in_ok-over-in-Some.over c.finish.ensures.ok is.ready
-    (c.in_ok-over-in-Some.ensures.over s.session is.before s.begun number set k why h is.counted is.in_call aborts is.waited (subst (λ r. IsHeardTo k number r h) same is.heard))
+    ((rw c.into_txn.ensures at c.in_ok-over-in-Some.ensures.over) s.session is.before s.begun number set k why h is.counted is.in_call aborts is.waited (subst (λ r. IsHeardTo k number r h) same is.heard))
     (alone_over loses s call x number c.args.reply.now k h is m.0 m.1) (served_begins set k x call.purpose call.wave is.in_call)
 
 pub returns-in_ok-over-in-Some-clause-waits : goal.returns-in_ok-over-in-Some-clause-waits
@@ -35,7 +35,7 @@ returns-in-None-clause-knows c = λ loses k h number why is aborts.
 pub returns-in_ok-over-in-Some-clause-comes : goal.returns-in_ok-over-in-Some-clause-comes
 returns-in_ok-over-in-Some-clause-comes c = λ messages why aborts.
     finished_comes c.finish.result messages c.finish.new.self c.args.self.now c.in_ok-over-in-Some.over c.finish.ensures.ok
-    (subst (IsBlockOf messages) (sym (ap (λ (o : Over). o.answer) (c.in_ok-over-in-Some.ensures.made why aborts))) (rolled_block messages c.in-Some.view why c.args.txn))
+    (subst (IsBlockOf messages) (sym (ap (λ (o : Over). o.answer) ((rw c.into_txn.ensures at c.in_ok-over-in-Some.ensures.made) why aborts))) (rolled_block messages c.in-Some.view why c.args.txn))
 
 pub returns-in_ok-over-in-Some-clause-left : goal.returns-in_ok-over-in-Some-clause-left
 returns-in_ok-over-in-Some-clause-left c = finish_left c.finish.result c.args.self.now c.finish.new.self c.in_ok-over-in-Some.over c.args.self.now.later c.finish.ensures.ok

@@ -21,10 +21,10 @@ returns-in-Rollback-clause-knows c = λ loses k r none o outbox read suits insid
     let k2 = known_asked c.args.call c.args.reading k in
     let x2 = c.take_cause-why.new.txn in
     let asked : IsJustAsked k2 x2 s c.take_cause-why.result =
-    subst (λ (x : OpenTxn). IsJustAsked k2 x s c.take_cause-why.result) (sym c.take_cause-why.ensures.left)
-    (subst (λ why. IsJustAsked k2 (caused whys.Client c.args.txn) s why) (sym c.take_cause-why.ensures.taken) (fresh_asked c.args.call c.args.reading k c.args.txn o)) in
+    subst (λ (x : OpenTxn). IsJustAsked k2 x s c.take_cause-why.result) (sym (rw c.lent_mut.ensures.value at c.take_cause-why.ensures.left))
+    (subst (λ why. IsJustAsked k2 (caused whys.Client c.args.txn) s why) (sym (rw c.lent_mut.ensures.value at c.take_cause-why.ensures.taken)) (fresh_asked c.args.call c.args.reading k c.args.txn o)) in
     let r2 = ready_asked loses self k c.args.call c.args.reading read r in
-    let h = subst (λ (x : OpenTxn). HasAside loses k2 x self.later) (sym c.take_cause-why.ensures.left)
+    let h = subst (λ (x : OpenTxn). HasAside loses k2 x self.later) (sym (rw c.lent_mut.ensures.value at c.take_cause-why.ensures.left))
     (aside_asked c.args.call c.args.reading k c.args.txn (caused whys.Client c.args.txn) self.later ((λ anchor. refl), (λ f there. there)) outbox) in
     c.roll_back.ensures.knows loses k2 s r2 (fresh_aside k2 x2 c.args.call c.args.reading c.take_cause-why.result asked loses (λ may. subst MayBlock c.in-Rollback.is may)) h c.in-Rollback.is
 
@@ -38,13 +38,13 @@ returns-in_default-clause-knows c = λ loses k r none o outbox read suits inside
     let k2 = known_asked c.args.call c.args.reading k in
     let x2 = c.take_cause-why.new.txn in
     let asked : IsJustAsked k2 x2 s c.take_cause-why.result =
-    subst (λ (x : OpenTxn). IsJustAsked k2 x s c.take_cause-why.result) (sym c.take_cause-why.ensures.left)
-    (subst (λ why. IsJustAsked k2 (caused whys.Client c.args.txn) s why) (sym c.take_cause-why.ensures.taken) (fresh_asked c.args.call c.args.reading k c.args.txn o)) in
+    subst (λ (x : OpenTxn). IsJustAsked k2 x s c.take_cause-why.result) (sym (rw c.lent_mut.ensures.value at c.take_cause-why.ensures.left))
+    (subst (λ why. IsJustAsked k2 (caused whys.Client c.args.txn) s why) (sym (rw c.lent_mut.ensures.value at c.take_cause-why.ensures.taken)) (fresh_asked c.args.call c.args.reading k c.args.txn o)) in
     let r2 = ready_asked loses self k c.args.call c.args.reading read r in
-    let h = subst (λ (x : OpenTxn). HasAside loses k2 x self.later) (sym c.take_cause-why.ensures.left)
+    let h = subst (λ (x : OpenTxn). HasAside loses k2 x self.later) (sym (rw c.lent_mut.ensures.value at c.take_cause-why.ensures.left))
     (aside_asked c.args.call c.args.reading k c.args.txn (caused whys.Client c.args.txn) self.later ((λ anchor. refl), (λ f there. there)) outbox) in
     c.show_or_serve.ensures.knows loses k2 c.take_cause-why.result r2 asked h (may_block c.args.call inside plain c.in_default.not-Rollback) read
-    (subst (λ (x : OpenTxn). SuitsFlightIn self.pipelining c.args.call x.in_flight) (sym c.take_cause-why.ensures.left) suits)
+    (subst (λ (x : OpenTxn). SuitsFlightIn self.pipelining c.args.call x.in_flight) (sym (rw c.lent_mut.ensures.value at c.take_cause-why.ensures.left)) suits)
 
 pub returns-in_default-clause-waits : goal.returns-in_default-clause-waits
 returns-in_default-clause-waits c = λ inside plain. c.show_or_serve.ensures.waits (may_block c.args.call inside plain c.in_default.not-Rollback)

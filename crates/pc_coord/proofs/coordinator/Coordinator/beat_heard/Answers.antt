@@ -22,7 +22,7 @@ returns-in-Aborted-clause-knows c = λ loses k h number reading kept is beats at
     let v = aborted_reply c.args.reply.now c.in-Aborted.why (sym c.in_ok-decision.ensures ∙ c.in-Aborted.is) in
     let m = alone set k x call.purpose call.wave is.in_call (purposes.Beat kept reading) beats tt in
     finish_ok loses c.finish.result s c.finish.new.self (known_heard h k) c.found_aborted.result c.finish.ensures.ok is.ready
-    (c.found_aborted.ensures.over s.session is.before s.begun number v.0 reading set k kept v.1 h is.counted is.in_call beats is.waited (subst (λ r. IsHeardTo k number r h) v.2 is.heard))
+    ((rw c.into_txn.ensures at c.found_aborted.ensures.over) s.session is.before s.begun number v.0 reading set k kept v.1 h is.counted is.in_call beats is.waited (subst (λ r. IsHeardTo k number r h) v.2 is.heard))
     (alone_over loses s call x number c.args.reply.now k h is m.0 m.1) (served_begins set k x call.purpose call.wave is.in_call)
 
 pub returns-in-Aborted-clause-waits : goal.returns-in-Aborted-clause-waits
@@ -30,7 +30,7 @@ returns-in-Aborted-clause-waits c = λ reading kept beats asks. finish_outbox c.
 
 pub returns-in-Aborted-clause-comes : goal.returns-in-Aborted-clause-comes
 returns-in-Aborted-clause-comes c = λ messages reading kept beats asks none.
-    finished_comes c.finish.result messages c.finish.new.self c.args.self.now c.found_aborted.result c.finish.ensures.ok (subst (IsBlockOf messages) (sym (ap (λ (o : Over). o.answer) c.found_aborted.ensures.made)) tt)
+    finished_comes c.finish.result messages c.finish.new.self c.args.self.now c.found_aborted.result c.finish.ensures.ok (subst (IsBlockOf messages) (sym (ap (λ (o : Over). o.answer) (rw c.into_txn.ensures at c.found_aborted.ensures.made))) tt)
 
 pub returns-in-Refused-clause-knows : goal.returns-in-Refused-clause-knows
 returns-in-Refused-clause-knows c = λ loses k h number reading kept is beats at.

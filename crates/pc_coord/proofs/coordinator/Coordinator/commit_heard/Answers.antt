@@ -23,7 +23,7 @@ returns-in-Committed-clause-knows c = λ loses k h number refusals is commits at
     let v = committed_reply c.args.reply.now c.in-Committed.epoch c.in-Committed.ts (sym c.in_ok-decision.ensures ∙ c.in-Committed.is) in
     let m = alone set k x call.purpose call.wave is.in_call (purposes.Commit refusals) commits tt in
     finish_ok loses c.finish.result s c.finish.new.self (known_heard h k) c.committed.result c.finish.ensures.ok is.ready
-    (c.committed.ensures.over s.session is.before s.begun number refusals set k v.0 h is.counted is.in_call commits is.waited (subst (λ r. IsHeardTo k number r h) v.1 is.heard))
+    ((rw c.into_txn.ensures at c.committed.ensures.over) s.session is.before s.begun number refusals set k v.0 h is.counted is.in_call commits is.waited (subst (λ r. IsHeardTo k number r h) v.1 is.heard))
     (alone_over loses s call x number c.args.reply.now k h is m.0 m.1) (served_begins set k x call.purpose call.wave is.in_call)
 
 pub returns-in-Committed-clause-waits : goal.returns-in-Committed-clause-waits
@@ -31,7 +31,7 @@ returns-in-Committed-clause-waits c = finish_outbox c.finish.result c.args.self.
 
 pub returns-in-Committed-clause-comes : goal.returns-in-Committed-clause-comes
 returns-in-Committed-clause-comes c = λ messages none.
-    finished_comes c.finish.result messages c.finish.new.self c.args.self.now c.committed.result c.finish.ensures.ok (subst (IsBlockOf messages) (sym (ap (λ (o : Over). o.answer) c.committed.ensures.made)) tt)
+    finished_comes c.finish.result messages c.finish.new.self c.args.self.now c.committed.result c.finish.ensures.ok (subst (IsBlockOf messages) (sym (ap (λ (o : Over). o.answer) (rw c.into_txn.ensures at c.committed.ensures.made))) tt)
 
 pub returns-in-Aborted-clause-knows : goal.returns-in-Aborted-clause-knows
 returns-in-Aborted-clause-knows c = λ loses k h number refusals is commits at.
@@ -42,7 +42,7 @@ returns-in-Aborted-clause-knows c = λ loses k h number refusals is commits at.
     let v = aborted_reply c.args.reply.now c.in-Aborted.why (sym c.in_ok-decision.ensures ∙ c.in-Aborted.is) in
     let m = alone set k x call.purpose call.wave is.in_call (purposes.Commit refusals) commits tt in
     finish_ok loses c.finish-in-Aborted.result s c.finish-in-Aborted.new.self (known_heard h k) c.aborted.result c.finish-in-Aborted.ensures.ok is.ready
-    (c.aborted.ensures.over s.session is.before s.begun number v.0 set k v.1 h is.counted is.in_call (subst MayFindAborted (sym commits) tt) is.waited (subst (λ r. IsHeardTo k number r h) v.2 is.heard))
+    ((rw c.into_txn-in-Aborted.ensures at c.aborted.ensures.over) s.session is.before s.begun number v.0 set k v.1 h is.counted is.in_call (subst MayFindAborted (sym commits) tt) is.waited (subst (λ r. IsHeardTo k number r h) v.2 is.heard))
     (alone_over loses s call x number c.args.reply.now k h is m.0 m.1) (served_begins set k x call.purpose call.wave is.in_call)
 
 pub returns-in-Aborted-clause-waits : goal.returns-in-Aborted-clause-waits
@@ -50,7 +50,7 @@ returns-in-Aborted-clause-waits c = finish_outbox c.finish-in-Aborted.result c.a
 
 pub returns-in-Aborted-clause-comes : goal.returns-in-Aborted-clause-comes
 returns-in-Aborted-clause-comes c = λ messages none.
-    finished_comes c.finish-in-Aborted.result messages c.finish-in-Aborted.new.self c.args.self.now c.aborted.result c.finish-in-Aborted.ensures.ok (subst (IsBlockOf messages) (sym (ap (λ (o : Over). o.answer) c.aborted.ensures.made)) tt)
+    finished_comes c.finish-in-Aborted.result messages c.finish-in-Aborted.new.self c.args.self.now c.aborted.result c.finish-in-Aborted.ensures.ok (subst (IsBlockOf messages) (sym (ap (λ (o : Over). o.answer) (rw c.into_txn-in-Aborted.ensures at c.aborted.ensures.made))) tt)
 
 pub returns-in-Refused-clause-knows : goal.returns-in-Refused-clause-knows
 returns-in-Refused-clause-knows c = λ loses k h number refusals is commits at.

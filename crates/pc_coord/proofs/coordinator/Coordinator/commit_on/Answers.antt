@@ -22,8 +22,8 @@ returns-clause-knows c = λ loses k t s r on h may suits.
     let takes = subst (λ l. CommitsBy l c.commits.new.later c.in_ok-call.call) (ap (λ (n : Coordination). n.later) c.self.view_is) c.in_ok-call.ensures.takes in
     let reads = r.asked_at s.reading (ap reading_in on.on.opened) ∙ ap (λ (n : Coordination). n.reading) (sym c.self.view_is) in
     goes_ok loses self (record self { later = later }) c.call.new.self k later made x refl (c.call.ensures ∙ ap (λ (n : Coordination). calling c.in_ok-call.call c.args.txn (record n { later = c.commits.new.later })) c.self.view_is) r
-    (c.in_ok-call.ensures.goes_on set k t s (subst (λ (puts : List Message). CommitsOnFrom loses t.read_ts c.args.refusals k t x s puts) (sym c.new-none.ensures.made) on) has (subst (MayWait self.pipelining) back may) reads suits)
-    h (c.in_ok-call.ensures.outbox loses k has) takes.0.0 (commit_joined made.purpose later takes.1) (commit_plain made.purpose takes.1) c.in_ok-call.ensures.unsent (sends_some made.wave takes.0.1)
+    ((rw c.lent.ensures at c.in_ok-call.ensures.goes_on) set k t s (subst (λ (puts : List Message). CommitsOnFrom loses t.read_ts c.args.refusals k t x s puts) (sym c.new-none.ensures.made) on) has (subst (MayWait self.pipelining) back may) reads suits)
+    h ((rw c.lent.ensures at c.in_ok-call.ensures.outbox) loses k has) takes.0.0 (commit_joined made.purpose later takes.1) (commit_plain made.purpose takes.1) c.in_ok-call.ensures.unsent (sends_some made.wave takes.0.1)
 
 pub returns-clause-waits : goal.returns-clause-waits
 returns-clause-waits c =

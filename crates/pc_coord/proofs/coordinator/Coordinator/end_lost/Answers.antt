@@ -22,9 +22,9 @@ pub returns-in-Some-clause-knows : goal.returns-in-Some-clause-knows
 returns-in-Some-clause-knows c = λ loses start k r lossy aborts gives h goes begins lost.
     let s = c.args.self.now in
     let set = setting_of loses s in
-    let why = unheard_abort c.args.call.purpose c.args.txn c.in-Some.over (sym c.in_ok-over.ensures.made ∙ c.in-Some.is) in
+    let why = unheard_abort c.args.call.purpose c.args.txn c.in-Some.over (sym (rw c.lent.ensures at c.in_ok-over.ensures.made) ∙ c.in-Some.is) in
     finish_ok loses c.finish.result s c.finish.new.self k c.in-Some.over c.finish.ensures.ok r
-    (subst (λ o. IfSome o (MayTellOver set s.session k)) c.in-Some.is (c.in_ok-over.ensures.over s.session set k lossy (aborts why.0 why.1)))
+    (subst (λ o. IfSome o (MayTellOver set s.session k)) c.in-Some.is ((rw c.lent.ensures at c.in_ok-over.ensures.over) s.session set k lossy (aborts why.0 why.1)))
     (λ quiet. absurd (quiet_lost loses quiet lossy)) begins
 
 pub returns-in-Some-clause-waits : goal.returns-in-Some-clause-waits
@@ -33,15 +33,15 @@ returns-in-Some-clause-waits c = finish_outbox c.finish.result c.args.self.now c
 pub returns-in-Some-clause-comes : goal.returns-in-Some-clause-comes
 returns-in-Some-clause-comes c = λ messages.
     finished_comes c.finish.result messages c.finish.new.self c.args.self.now c.in-Some.over c.finish.ensures.ok
-    (unheard_block messages c.args.call.purpose c.args.txn c.in-Some.over (sym c.in_ok-over.ensures.made ∙ c.in-Some.is))
+    (unheard_block messages c.args.call.purpose c.args.txn c.in-Some.over (sym (rw c.lent.ensures at c.in_ok-over.ensures.made) ∙ c.in-Some.is))
 
 pub returns-then-not-is_uncommitted-clause-knows : goal.returns-then-not-is_uncommitted-clause-knows
 returns-then-not-is_uncommitted-clause-knows c = λ loses start k r lossy aborts gives h goes begins lost.
     let s = c.args.self.now in
     let set = setting_of loses s in
-    let u = gives (no_abort c.args.call.purpose c.args.txn (sym c.in_ok-over.ensures.made ∙ c.in_default.is)) in
+    let u = gives (no_abort c.args.call.purpose c.args.txn (sym (rw c.lent.ensures at c.in_ok-over.ensures.made) ∙ c.in_default.is)) in
     finish_ok loses c.finish-then-not-is_uncommitted.result s c.finish-then-not-is_uncommitted.new.self k c.unknown.result c.finish-then-not-is_uncommitted.ensures.ok r
-    (c.unknown.ensures.over s.session c.args.faults set start k lossy u goes lost (sym c.is_uncommitted.ensures.made ∙ c.if-not-is_uncommitted.true))
+    ((rw c.lent-then-not-is_uncommitted.ensures at c.unknown.ensures.over) s.session c.args.faults set start k lossy u goes lost (sym (rw c.lent-2.ensures at c.is_uncommitted.ensures.made) ∙ c.if-not-is_uncommitted.true))
     (λ quiet. absurd (quiet_lost loses quiet lossy)) begins
 
 pub returns-then-not-is_uncommitted-clause-waits : goal.returns-then-not-is_uncommitted-clause-waits
@@ -50,19 +50,19 @@ returns-then-not-is_uncommitted-clause-waits c = finish_outbox c.finish-then-not
 pub returns-then-not-is_uncommitted-clause-comes : goal.returns-then-not-is_uncommitted-clause-comes
 returns-then-not-is_uncommitted-clause-comes c = λ messages.
     finished_comes c.finish-then-not-is_uncommitted.result messages c.finish-then-not-is_uncommitted.new.self c.args.self.now c.unknown.result c.finish-then-not-is_uncommitted.ensures.ok
-    (subst (IsBlockOf messages) (sym (ap (λ (o : Over). o.answer) c.unknown.ensures.made)) tt)
+    (subst (IsBlockOf messages) (sym (ap (λ (o : Over). o.answer) (rw c.lent-then-not-is_uncommitted.ensures at c.unknown.ensures.made))) tt)
 
 pub returns-clause-knows : goal.returns-clause-knows
 returns-clause-knows c = λ loses start k r lossy aborts gives h goes begins lost.
     let s = c.args.self.now in
     let set = setting_of loses s in
     let x = c.args.txn in
-    let u = gives (no_abort c.args.call.purpose x (sym c.in_ok-over.ensures.made ∙ c.in_default.is)) in
+    let u = gives (no_abort c.args.call.purpose x (sym (rw c.lent.ensures at c.in_ok-over.ensures.made) ∙ c.in_default.is)) in
     let answer = c.unavailable.result in
     let x2 : OpenTxn = record x { staging = c.forget.new.self } in
-    let told = subst (λ o. MayTellOpen set s.session k answer (record x { staging = o })) (sym c.forget.ensures.made)
-    (c.unavailable.ensures.told s.session set start k x lossy u goes (sym c.is_uncommitted.ensures.made ∙ c.if-not-is_uncommitted.false) lost) in
-    tell_ok loses s c.tell.new.self k answer x2 c.tell.ensures r told
+    let told = subst (λ o. MayTellOpen set s.session k answer (record x { staging = o })) (sym (rw c.lent_mut.ensures.value at c.forget.ensures.made))
+    (c.unavailable.ensures.told s.session set start k x lossy u goes (sym (rw c.lent-2.ensures at c.is_uncommitted.ensures.made) ∙ c.if-not-is_uncommitted.false) lost) in
+    tell_ok loses s c.tell.new.self k answer x2 (rw c.lent_mut.ensures.value at c.tell.ensures) r told
     (wait_on k x x2 s.later answer (split_beside start k x.id goes u.split) h (subst IsStaying (sym c.unavailable.ensures.made) tt) ((λ anchor. refl), (λ f there. there))) begins
 
 pub returns-clause-waits : goal.returns-clause-waits
@@ -90,18 +90,18 @@ pub returns-in-Some-clause-used_up : goal.returns-in-Some-clause-used_up
 returns-in-Some-clause-used_up c =
     let call = c.args.call in
     finish_answer c.finish.result c.args.self.now c.finish.new.self c.in-Some.over (answer_lost c.args.faults c.args.txn call.purpose) c.finish.ensures.ok
-    (unheard_answer c.args.faults call.purpose c.args.txn c.in-Some.over (sym c.in_ok-over.ensures.made ∙ c.in-Some.is))
+    (unheard_answer c.args.faults call.purpose c.args.txn c.in-Some.over (sym (rw c.lent.ensures at c.in_ok-over.ensures.made) ∙ c.in-Some.is))
 
 pub returns-then-not-is_uncommitted-clause-used_up : goal.returns-then-not-is_uncommitted-clause-used_up
 returns-then-not-is_uncommitted-clause-used_up c =
     let call = c.args.call in
     let x = c.args.txn in
     finish_answer c.finish-then-not-is_uncommitted.result c.args.self.now c.finish-then-not-is_uncommitted.new.self c.unknown.result (answer_lost c.args.faults x call.purpose) c.finish-then-not-is_uncommitted.ensures.ok
-    (ap (λ (o : Over). o.answer) c.unknown.ensures.made ∙ sym (unknown_answer c.args.faults call.purpose x (no_abort call.purpose x (sym c.in_ok-over.ensures.made ∙ c.in_default.is)) (sym c.is_uncommitted.ensures.made ∙ c.if-not-is_uncommitted.true)))
+    (ap (λ (o : Over). o.answer) (rw c.lent-then-not-is_uncommitted.ensures at c.unknown.ensures.made) ∙ sym (unknown_answer c.args.faults call.purpose x (no_abort call.purpose x (sym (rw c.lent.ensures at c.in_ok-over.ensures.made) ∙ c.in_default.is)) (sym (rw c.lent-2.ensures at c.is_uncommitted.ensures.made) ∙ c.if-not-is_uncommitted.true)))
 
 pub returns-clause-used_up : goal.returns-clause-used_up
 returns-clause-used_up c =
     let call = c.args.call in
     let x = c.args.txn in
     ap (λ (n : Coordination). n.due) c.tell.ensures
-    ∙ ap dues.Tell (c.unavailable.ensures.made ∙ sym (unavailable_answer c.args.faults call.purpose x (no_abort call.purpose x (sym c.in_ok-over.ensures.made ∙ c.in_default.is)) (sym c.is_uncommitted.ensures.made ∙ c.if-not-is_uncommitted.false)))
+    ∙ ap dues.Tell (c.unavailable.ensures.made ∙ sym (unavailable_answer c.args.faults call.purpose x (no_abort call.purpose x (sym (rw c.lent.ensures at c.in_ok-over.ensures.made) ∙ c.in_default.is)) (sym (rw c.lent-2.ensures at c.is_uncommitted.ensures.made) ∙ c.if-not-is_uncommitted.false)))

@@ -27,7 +27,7 @@ returns-in-Some-clause-knows c = λ loses k h number n holder puts is asks.
     let none = subst (λ p. LeavesNoneWaiting p s.later) asks is.aside.joined in
     let m = alone set k x call.purpose call.wave is.in_call (purposes.Query n holder puts) asks tt in
     let w = subst (λ o. IfSome o (λ (made : OpenCall). InCall set k2 x2 made.purpose made.wave)) c.in-Some.is
-    (c.found-next.ensures.stands s.session is.before s.begun number n set k holder puts h is.counted is.in_call asks is.waited is.heard is.missed) in
+    ((rw c.lent_mut.ensures.value at c.found-next.ensures.stands) s.session is.before s.begun number n set k holder puts h is.counted is.in_call asks is.waited is.heard is.missed) in
     let stages = subst (λ o. IfSome o (λ (made : OpenCall). made.purpose ≡ purposes.Stage n)) c.in-Some.is (c.found-next.ensures.staged n holder puts asks) in
     let h2 = empty_aside k2 x x2 s.later none (alone_aside loses s call x number replies.Found k h is m.0 m.1 x (stays_but h.request x x ((λ anchor. refl), (λ f there. there)))) in
     c.go_on.ensures.knows loses k2 is.ready w (staged_aside s.pipelining k2 x2 s.later made.wave made.purpose n stages none h2) (λ due. subst IsForMany (sym stages) tt)
@@ -48,7 +48,7 @@ returns-in-Some-clause-waits c = λ loses k h number n holder puts quiet is asks
     let none = subst (λ p. LeavesNoneWaiting p s.later) asks is.aside.joined in
     let m = alone set k x call.purpose call.wave is.in_call (purposes.Query n holder puts) asks tt in
     let w = subst (λ o. IfSome o (λ (made : OpenCall). InCall set k2 x2 made.purpose made.wave)) c.in-Some.is
-    (c.found-next.ensures.stands s.session is.before s.begun number n set k holder puts h is.counted is.in_call asks is.waited is.heard is.missed) in
+    ((rw c.lent_mut.ensures.value at c.found-next.ensures.stands) s.session is.before s.begun number n set k holder puts h is.counted is.in_call asks is.waited is.heard is.missed) in
     let stages = subst (λ o. IfSome o (λ (made : OpenCall). made.purpose ≡ purposes.Stage n)) c.in-Some.is (c.found-next.ensures.staged n holder puts asks) in
     let h2 = empty_aside k2 x x2 s.later none (alone_aside loses s call x number replies.Found k h is m.0 m.1 x (stays_but h.request x x ((λ anchor. refl), (λ f there. there)))) in
     on_outbox c.go_on.result made.wave s.later c.go_on.new.self.due (staged_idle set k2 x2 made.purpose made.wave w n stages quiet (subst (HasAside loses k2 x2) none h2)) c.go_on.ensures.waits
@@ -68,7 +68,7 @@ returns-in-Some-clause-joins c = λ loses k h number n holder puts is asks.
     let none = subst (λ p. LeavesNoneWaiting p s.later) asks is.aside.joined in
     let m = alone set k x call.purpose call.wave is.in_call (purposes.Query n holder puts) asks tt in
     let w = subst (λ o. IfSome o (λ (made : OpenCall). InCall set k2 x2 made.purpose made.wave)) c.in-Some.is
-    (c.found-next.ensures.stands s.session is.before s.begun number n set k holder puts h is.counted is.in_call asks is.waited is.heard is.missed) in
+    ((rw c.lent_mut.ensures.value at c.found-next.ensures.stands) s.session is.before s.begun number n set k holder puts h is.counted is.in_call asks is.waited is.heard is.missed) in
     let stages = subst (λ o. IfSome o (λ (made : OpenCall). made.purpose ≡ purposes.Stage n)) c.in-Some.is (c.found-next.ensures.staged n holder puts asks) in
     let h2 = empty_aside k2 x x2 s.later none (alone_aside loses s call x number replies.Found k h is m.0 m.1 x (stays_but h.request x x ((λ anchor. refl), (λ f there. there)))) in
     c.go_on.ensures.joins set k2 w (staged_aside s.pipelining k2 x2 s.later made.wave made.purpose n stages none h2)

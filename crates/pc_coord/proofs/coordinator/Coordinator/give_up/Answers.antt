@@ -16,7 +16,7 @@ use Rattle.pc_coord.proofs.Joining.{same_left, told_idle_ok, unsent_call_idle}
 use Rattle.pc_coord.proofs.coordinator.Coordinator.give_up.Goals as goal
 
 pub returns-then-is_uncommitted-clause-knows : goal.returns-then-is_uncommitted-clause-knows
-returns-then-is_uncommitted-clause-knows c = λ loses k r g h suits. c.leave_open.ensures.knows loses k r g h suits (sym c.is_uncommitted.ensures.made ∙ c.if-is_uncommitted.true)
+returns-then-is_uncommitted-clause-knows c = λ loses k r g h suits. c.leave_open.ensures.knows loses k r g h suits (sym (rw c.lent.ensures at c.is_uncommitted.ensures.made) ∙ c.if-is_uncommitted.true)
 
 pub returns-then-is_uncommitted-clause-waits : goal.returns-then-is_uncommitted-clause-waits
 returns-then-is_uncommitted-clause-waits c = told_waits c.leave_open.result c.leave_open.new.self c.args.self.now.later c.args.answer c.leave_open.ensures.told
@@ -30,8 +30,8 @@ returns-clause-knows c = λ loses k r g h suits.
     let set = setting_of loses self in
     let x = c.args.txn in
     let made = c.in_ok-call.call in
-    let m = c.in_ok-call.ensures.made in
-    let w = c.in_ok-call.ensures.stands set k g.s g g.opened (r.asked_at g.s.reading (ap reading_in g.opened) ∙ ap (λ (n : Coordination). n.reading) (sym c.self.view_is)) (sym c.is_uncommitted.ensures.made ∙ c.if-is_uncommitted.false) suits in
+    let m = (rw c.lent-2.ensures at c.in_ok-call.ensures.made) in
+    let w = (rw c.lent-2.ensures at c.in_ok-call.ensures.stands) set k g.s g g.opened (r.asked_at g.s.reading (ap reading_in g.opened) ∙ ap (λ (n : Coordination). n.reading) (sym c.self.view_is)) (sym (rw c.lent.ensures at c.is_uncommitted.ensures.made) ∙ c.if-is_uncommitted.false) suits in
     let commits : w.s.call ≡ calls.Commit = ap (λ (s : Statement). s.call) (same_Some w.s g.s (sym w.opened ∙ g.opened)) ∙ g.gives_up.call in
     let plain = behind_none set k x made.purpose made.wave w (commit_behind w.s.call commits) in
     call_ok loses self c.call.new.self k made x c.call.ensures r w

@@ -26,11 +26,11 @@ returns-in-Some-clause-knows c = λ loses k h number reading told reply is u las
     let k2 = known_heard h k in
     let m = alone set k x call.purpose call.wave is.in_call (purposes.LastBeat told reading) last tt in
     let g = subst (λ o. IfSome o (λ (answer : Answer). (answer ≡ told) × GivesUpBy loses k2 x2 answer × (is_over x2.staging ≡ true))) c.in-Some.is
-    (c.gives_up-then.ensures.given s.session is.before s.begun number reading set k told reply h is.counted is.in_call last is.waited is.heard u is.after at) in
+    ((rw c.lent_mut.ensures.value at c.gives_up-then.ensures.given) s.session is.before s.begun number reading set k told reply h is.counted is.in_call last is.waited is.heard u is.after at) in
     let serves = served_last set k x call.purpose call.wave is.in_call told reading last in
-    let suits = subst (λ (y : OpenTxn). SuitsFlightIn s.pipelining calls.Commit y.in_flight) (sym c.gives_up-then.ensures.risen) (subst (λ (call : Call). SuitsFlightIn s.pipelining call x.in_flight) serves.gives_up.call is.in_call.plain) in
+    let suits = subst (λ (y : OpenTxn). SuitsFlightIn s.pipelining calls.Commit y.in_flight) (sym (rw c.lent_mut.ensures.value at c.gives_up-then.ensures.risen)) (subst (λ (call : Call). SuitsFlightIn s.pipelining call x.in_flight) serves.gives_up.call is.in_call.plain) in
     c.leave_open.ensures.knows loses k2 is.ready g.1
-    (alone_aside loses s call x number reply k h is m.0 m.1 x2 (raised_but h.request c.args.recorded c.args.step x x2 c.gives_up-then.ensures.risen)) suits g.2
+    (alone_aside loses s call x number reply k h is m.0 m.1 x2 (raised_but h.request c.args.recorded c.args.step x x2 (rw c.lent_mut.ensures.value at c.gives_up-then.ensures.risen))) suits g.2
 
 pub returns-in-Some-clause-waits : goal.returns-in-Some-clause-waits
 returns-in-Some-clause-waits c = told_waits c.leave_open.result c.leave_open.new.self c.args.self.now.later c.in-Some.answer c.leave_open.ensures.told

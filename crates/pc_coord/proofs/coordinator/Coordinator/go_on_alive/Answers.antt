@@ -21,10 +21,10 @@ returns-in-Some-clause-knows c = λ loses k h number reading kept reply is u bea
     let x = c.args.txn in
     let x2 = c.alive-kept.new.txn in
     let same : kept ≡ c.in-Some.kept = same_Some kept c.in-Some.kept (sym (ap call_kept beats) ∙ sym c.alive-kept.ensures.kept ∙ c.in-Some.is) in
-    let g = c.alive-kept.ensures.goes_on s.session is.before s.begun number reading set k kept reply h is.counted is.in_call beats is.waited is.heard u at in
+    let g = (rw c.lent_mut.ensures.value at c.alive-kept.ensures.goes_on) s.session is.before s.begun number reading set k kept reply h is.counted is.in_call beats is.waited is.heard u at in
     let m = alone set k x call.purpose call.wave is.in_call (purposes.Beat kept reading) beats tt in
     c.serve.ensures.knows loses (known_heard h k) (record { call = kept; reading = reading }) g.why is.ready g.fresh
-    (alone_aside loses s call x number reply k h is m.0 m.1 x2 (raised_but h.request c.args.recorded c.args.step x x2 c.alive-kept.ensures.risen))
+    (alone_aside loses s call x number reply k h is m.0 m.1 x2 (raised_but h.request c.args.recorded c.args.step x x2 (rw c.lent_mut.ensures.value at c.alive-kept.ensures.risen)))
     same (subst MayBlock same g.asks) (subst (λ (call : Call). SuitsFlightIn s.pipelining call x2.in_flight) same g.suits)
 
 pub returns-in-Some-clause-waits : goal.returns-in-Some-clause-waits

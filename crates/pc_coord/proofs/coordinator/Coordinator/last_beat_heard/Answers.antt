@@ -20,7 +20,7 @@ returns-in-Committed-clause-knows c = λ loses k h number reading told is last a
     let v = committed_reply c.args.reply.now c.in-Committed.epoch c.in-Committed.ts (sym c.in_ok-decision.ensures ∙ c.in-Committed.is) in
     let m = alone set k x call.purpose call.wave is.in_call (purposes.LastBeat told reading) last tt in
     finish_ok loses c.finish.result s c.finish.new.self (known_heard h k) c.found_committed.result c.finish.ensures.ok is.ready
-    (c.found_committed.ensures.over s.session is.before s.begun number set k v.0 h is.counted is.in_call (subst MayFindCommitted (sym last) tt) is.waited (subst (λ r. IsHeardTo k number r h) v.1 is.heard))
+    ((rw c.into_txn.ensures at c.found_committed.ensures.over) s.session is.before s.begun number set k v.0 h is.counted is.in_call (subst MayFindCommitted (sym last) tt) is.waited (subst (λ r. IsHeardTo k number r h) v.1 is.heard))
     (alone_over loses s call x number c.args.reply.now k h is m.0 m.1) (served_begins set k x call.purpose call.wave is.in_call)
 
 pub returns-in-Committed-clause-waits : goal.returns-in-Committed-clause-waits
@@ -35,7 +35,7 @@ returns-in-Aborted-clause-knows c = λ loses k h number reading told is last at.
     let v = aborted_reply c.args.reply.now c.in-Aborted.why (sym c.in_ok-decision.ensures ∙ c.in-Aborted.is) in
     let m = alone set k x call.purpose call.wave is.in_call (purposes.LastBeat told reading) last tt in
     finish_ok loses c.finish-in-Aborted.result s c.finish-in-Aborted.new.self (known_heard h k) c.aborted.result c.finish-in-Aborted.ensures.ok is.ready
-    (c.aborted.ensures.over s.session is.before s.begun number v.0 set k v.1 h is.counted is.in_call (subst MayFindAborted (sym last) tt) is.waited (subst (λ r. IsHeardTo k number r h) v.2 is.heard))
+    ((rw c.into_txn-in-Aborted.ensures at c.aborted.ensures.over) s.session is.before s.begun number v.0 set k v.1 h is.counted is.in_call (subst MayFindAborted (sym last) tt) is.waited (subst (λ r. IsHeardTo k number r h) v.2 is.heard))
     (alone_over loses s call x number c.args.reply.now k h is m.0 m.1) (served_begins set k x call.purpose call.wave is.in_call)
 
 pub returns-in-Aborted-clause-waits : goal.returns-in-Aborted-clause-waits

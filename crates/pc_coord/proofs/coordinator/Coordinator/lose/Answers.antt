@@ -17,8 +17,8 @@ returns-clause-knows c = λ loses k r lossy w a waits.
     let call = c.args.call in
     let x = c.args.txn in
     let n = c.args.number in
-    let made : c.lost.new.self ≡ record call { wave = wave_lost n s.tries x call.wave } = c.lost.ensures.made ∙ ap (λ (v : Coordination). record call { wave = wave_lost n v.tries x call.wave }) c.self.view_is in
-    let w2 = c.lost.ensures.stands set k lossy (subst (λ (v : Coordination). 1 ≤ v.tries) (sym c.self.view_is) r.course.tried) w waits in
+    let made : c.lost.new.self ≡ record call { wave = wave_lost n s.tries x call.wave } = (rw c.lent.ensures at c.lost.ensures.made) ∙ ap (λ (v : Coordination). record call { wave = wave_lost n v.tries x call.wave }) c.self.view_is in
+    let w2 = (rw c.lent.ensures at c.lost.ensures.stands) set k lossy (subst (λ (v : Coordination). 1 ≤ v.tries) (sym c.self.view_is) r.course.tried) w waits in
     let a2 = subst (λ (n : OpenCall). KeepsAside loses s.pipelining k x n.purpose s.later n.wave) (sym made) (lost_aside set k x call.purpose call.wave w n s.tries waits s.pipelining s.later lossy a) in
     c.go_on.ensures.knows loses k r w2 a2
     (λ due. subst (λ (n : OpenCall). IsForMany n.purpose) (sym made) (lost_many set k x call.purpose call.wave w n s.tries waits (ap (λ (n : OpenCall). step_of n.wave) (sym made) ∙ due)))
@@ -26,11 +26,11 @@ returns-clause-knows c = λ loses k r lossy w a waits.
 pub returns-clause-waits : goal.returns-clause-waits
 returns-clause-waits c =
     let s = c.args.self.now in
-    let made = c.lost.ensures.made ∙ ap (λ (v : Coordination). record c.args.call { wave = wave_lost c.args.number v.tries c.args.txn c.args.call.wave }) c.self.view_is in
+    let made = (rw c.lent.ensures at c.lost.ensures.made) ∙ ap (λ (v : Coordination). record c.args.call { wave = wave_lost c.args.number v.tries c.args.txn c.args.call.wave }) c.self.view_is in
     subst (λ (n : OpenCall). OnOk c.go_on.result (AwaitsBy n.wave s.later c.go_on.new.self.due)) made c.go_on.ensures.waits
 
 pub returns-clause-used_up : goal.returns-clause-used_up
 returns-clause-used_up c =
     let s = c.args.self.now in
-    let made = c.lost.ensures.made ∙ ap (λ (v : Coordination). record c.args.call { wave = wave_lost c.args.number v.tries c.args.txn c.args.call.wave }) c.self.view_is in
+    let made = (rw c.lent.ensures at c.lost.ensures.made) ∙ ap (λ (v : Coordination). record c.args.call { wave = wave_lost c.args.number v.tries c.args.txn c.args.call.wave }) c.self.view_is in
     subst (λ (n : OpenCall). OnOk c.go_on.result (ComesLost s.tries c.args.txn n.purpose n.wave c.go_on.new.self.due)) made c.go_on.ensures.used_up

@@ -20,10 +20,10 @@ returns-in-Some-clause-knows c = λ loses k h number n holder puts is asks at.
     let x2 = c.missed.new.txn in
     let m = alone set k x call.purpose call.wave is.in_call (purposes.Query n holder puts) asks tt in
     let g = subst (λ o. IfSome o (λ (by : TxnId). GivesUpBy loses (known_heard h k) x2 (answers.Blocked by))) c.in-Some.is
-    (c.in_ok-blocked.ensures.blocked s.session is.before s.begun number n set k holder puts h is.counted is.in_call asks is.waited is.heard at) in
+    ((rw c.lent_mut.ensures.value at c.in_ok-blocked.ensures.blocked) s.session is.before s.begun number n set k holder puts h is.counted is.in_call asks is.waited is.heard at) in
     c.give_up.ensures.knows loses (known_heard h k) is.ready g
-    (alone_aside loses s call x number _ k h is m.0 m.1 x2 (missed_but h.request call.purpose c.args.step x x2 c.in_ok-blocked.ensures.missed))
-    (missed_suits set k x call.purpose call.wave is.in_call n holder puts asks c.args.step x2 c.in_ok-blocked.ensures.missed)
+    (alone_aside loses s call x number _ k h is m.0 m.1 x2 (missed_but h.request call.purpose c.args.step x x2 (rw c.lent_mut.ensures.value at c.in_ok-blocked.ensures.missed)))
+    (missed_suits set k x call.purpose call.wave is.in_call n holder puts asks c.args.step x2 (rw c.lent_mut.ensures.value at c.in_ok-blocked.ensures.missed))
 
 pub returns-in-Some-clause-waits : goal.returns-in-Some-clause-waits
 returns-in-Some-clause-waits c = c.give_up.ensures.waits

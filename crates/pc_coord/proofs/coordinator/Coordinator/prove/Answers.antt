@@ -25,9 +25,9 @@ returns-clause-knows c = λ loses k s why r fresh h is behind some suits.
     let takes = subst (λ l. TakesFrom l c.prove_first.new.later c.in_ok-call.call.wave) (ap (λ (n : Coordination). n.later) c.self.view_is) c.in_ok-call.ensures.takes in
     let plain = proving_plain made.purpose later c.in_ok-call.ensures.proves in
     goes_ok loses self (record self { later = later }) c.call.new.self k later made x refl (c.call.ensures ∙ ap (λ (n : Coordination). calling c.in_ok-call.call c.args.txn (record n { later = c.prove_first.new.later })) c.self.view_is) r
-    (c.in_ok-call.ensures.stands set k s why fresh (subst (λ (call : Call). SuitsFlightIn self.pipelining call x.in_flight) (sym is) suits) (is ∙ same) (subst BeginsBehindProofs same behind) has (subst (MayWait self.pipelining) back r.course.may_wait)
+    ((rw c.lent.ensures at c.in_ok-call.ensures.stands) set k s why fresh (subst (λ (call : Call). SuitsFlightIn self.pipelining call x.in_flight) (sym is) suits) (is ∙ same) (subst BeginsBehindProofs same behind) has (subst (MayWait self.pipelining) back r.course.may_wait)
     (λ all. is_full loses k x s why fresh _ all))
-    h (c.in_ok-call.ensures.outbox loses k has) takes plain.1 plain.0 c.in_ok-call.ensures.unsent (c.in_ok-call.ensures.some (subst (λ (call : Call). waits_for_some call x.in_flight ≡ true) same some))
+    h ((rw c.lent.ensures at c.in_ok-call.ensures.outbox) loses k has) takes plain.1 plain.0 c.in_ok-call.ensures.unsent ((rw c.lent.ensures at c.in_ok-call.ensures.some) (subst (λ (call : Call). waits_for_some call x.in_flight ≡ true) same some))
 
 pub returns-clause-waits : goal.returns-clause-waits
 returns-clause-waits c =

@@ -20,9 +20,9 @@ returns-clause-knows c = λ loses k h is0 written proves at.
     let call = c.args.call in
     let k2 = known_heard h k in
     let is = subst (λ r. HearsNow loses s call c.args.txn c.args.number r k h) (sym c.in_ok-told.ensures) is0 in
-    let w = c.proved.ensures.stands s.session is.before s.begun set k h is.counted is.in_call proves is.waited is.heard (c.in_ok-told.ensures ∙ written) is.missed at is.whole in
+    let w = (rw c.lent_mut.ensures.value at c.proved.ensures.stands) s.session is.before s.begun set k h is.counted is.in_call proves is.waited is.heard (c.in_ok-told.ensures ∙ written) is.missed at is.whole in
     let a = subst (λ (n : OpenCall). KeepsAside loses s.pipelining k2 c.proved.new.txn n.purpose s.later n.wave) (sym c.proved.ensures.made)
-    (subst (λ (x : OpenTxn). KeepsAside loses s.pipelining k2 x call.purpose s.later (first_changed (awaits_at c.args.number) (back_with c.args.number c.in_ok-told.told) call.wave)) (sym c.proved.ensures.landed) (proved_aside loses s call c.args.txn c.args.number c.in_ok-told.told k h is c.args.ts c.args.step proves)) in
+    (subst (λ (x : OpenTxn). KeepsAside loses s.pipelining k2 x call.purpose s.later (first_changed (awaits_at c.args.number) (back_with c.args.number c.in_ok-told.told) call.wave)) (sym (rw c.lent_mut.ensures.value at c.proved.ensures.landed)) (proved_aside loses s call c.args.txn c.args.number c.in_ok-told.told k h is c.args.ts c.args.step proves)) in
     c.go_on.ensures.knows loses k2 is.ready w a (λ due. subst IsForMany (sym (ap (λ (n : OpenCall). n.purpose) c.proved.ensures.made)) (prove_many call.purpose proves))
 
 pub returns-clause-waits : goal.returns-clause-waits
@@ -49,9 +49,9 @@ returns-clause-joins c = λ loses k h is0 written proves at.
     let call = c.args.call in
     let k2 = known_heard h k in
     let is = subst (λ r. HearsNow loses s call c.args.txn c.args.number r k h) (sym c.in_ok-told.ensures) is0 in
-    let w = c.proved.ensures.stands s.session is.before s.begun set k h is.counted is.in_call proves is.waited is.heard (c.in_ok-told.ensures ∙ written) is.missed at is.whole in
+    let w = (rw c.lent_mut.ensures.value at c.proved.ensures.stands) s.session is.before s.begun set k h is.counted is.in_call proves is.waited is.heard (c.in_ok-told.ensures ∙ written) is.missed at is.whole in
     let a = subst (λ (n : OpenCall). KeepsAside loses s.pipelining k2 c.proved.new.txn n.purpose s.later n.wave) (sym c.proved.ensures.made)
-    (subst (λ (x : OpenTxn). KeepsAside loses s.pipelining k2 x call.purpose s.later (first_changed (awaits_at c.args.number) (back_with c.args.number c.in_ok-told.told) call.wave)) (sym c.proved.ensures.landed) (proved_aside loses s call c.args.txn c.args.number c.in_ok-told.told k h is c.args.ts c.args.step proves)) in
+    (subst (λ (x : OpenTxn). KeepsAside loses s.pipelining k2 x call.purpose s.later (first_changed (awaits_at c.args.number) (back_with c.args.number c.in_ok-told.told) call.wave)) (sym (rw c.lent_mut.ensures.value at c.proved.ensures.landed)) (proved_aside loses s call c.args.txn c.args.number c.in_ok-told.told k h is c.args.ts c.args.step proves)) in
     c.go_on.ensures.joins set k2 w a
 
 pub returns-clause-goes_on : goal.returns-clause-goes_on

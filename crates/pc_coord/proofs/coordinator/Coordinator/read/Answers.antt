@@ -18,9 +18,9 @@ returns-clause-knows c = λ loses k r w a reads due.
     let set = setting_of loses s in
     let ms = c.args.call.wave in
     let x2 = c.read.new.txn in
-    tell_ok loses s c.tell.new.self k c.in_ok-answer.answer x2 c.tell.ensures r (c.in_ok-answer.ensures.told s.session s.clock s.begun set k s.later r.counted w a.outbox reads due)
+    tell_ok loses s c.tell.new.self k c.in_ok-answer.answer x2 c.tell.ensures r ((rw c.lent_mut.ensures.value at c.in_ok-answer.ensures.told) s.session s.clock s.begun set k s.later r.counted w a.outbox reads due)
     (waits_idle set k c.args.txn x2 c.args.call.purpose ms s.pipelining s.later c.in_ok-answer.answer w a (λ n. answered_idle n ms due) (subst IsStaying (sym c.in_ok-answer.ensures.answer) (read_stays ms))
-    ((λ anchor. ap (λ (x : OpenTxn). meta_now x anchor) c.in_ok-answer.ensures.kept), (λ f there. subst (λ (x : OpenTxn). Contains x.in_flight f) (sym c.in_ok-answer.ensures.kept) there)))
+    ((λ anchor. ap (λ (x : OpenTxn). meta_now x anchor) (rw c.lent_mut.ensures.value at c.in_ok-answer.ensures.kept)), (λ f there. subst (λ (x : OpenTxn). Contains x.in_flight f) (sym (rw c.lent_mut.ensures.value at c.in_ok-answer.ensures.kept)) there)))
     (served_begins set k c.args.txn c.args.call.purpose ms w)
 
 pub returns-clause-waits : goal.returns-clause-waits

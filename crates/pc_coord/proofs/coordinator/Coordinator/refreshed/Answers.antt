@@ -28,8 +28,8 @@ returns-in-Commit-clause-knows c = λ loses k refusals puts r w a refreshes due.
     let reads = asked_reading loses s k r w.s w.opened ∙ ap (λ (n : Coordination). Some n.reading) (sym c.self.view_is) in
     let t = subst (TakesRefreshed c.args.self.now.later c.refreshed.new.later) c.in-Commit.is (subst (λ l. TakesRefreshed l c.refreshed.new.later c.in_ok-refreshed.refreshed) (ap (λ (n : Coordination). n.later) c.self.view_is) c.in_ok-refreshed.ensures.takes) in
     goes_ok loses s (record s { later = later }) c.call.new.self k later made c.args.txn refl (c.call.ensures ∙ ap (λ (n : Coordination). calling c.in-Commit.call c.args.txn (record n { later = c.refreshed.new.later })) c.self.view_is) r
-    (subst (GoesOnOrGivesUp set s.session k c.args.txn) c.in-Commit.is (c.in_ok-refreshed.ensures.refreshed s.session s.clock s.begun refusals set k puts r.counted w refreshes due has (subst (MayWait s.pipelining) back r.course.may_wait) reads))
-    h (subst (KeepsOutboxOn loses k c.args.txn later) c.in-Commit.is (c.in_ok-refreshed.ensures.outbox loses k has)) t.0.0
+    (subst (GoesOnOrGivesUp set s.session k c.args.txn) c.in-Commit.is ((rw c.lent.ensures at c.in_ok-refreshed.ensures.refreshed) s.session s.clock s.begun refusals set k puts r.counted w refreshes due has (subst (MayWait s.pipelining) back r.course.may_wait) reads))
+    h (subst (KeepsOutboxOn loses k c.args.txn later) c.in-Commit.is ((rw c.lent.ensures at c.in_ok-refreshed.ensures.outbox) loses k has)) t.0.0
     (commit_joined made.purpose later t.1) (commit_plain made.purpose t.1) (subst HasMessagesOrRestarts c.in-Commit.is c.in_ok-refreshed.ensures.alone) (sends_some made.wave t.0.1)
 
 pub returns-in-Commit-clause-waits : goal.returns-in-Commit-clause-waits
@@ -53,7 +53,7 @@ returns-in-Restart-clause-knows c = λ loses k refusals puts r w a refreshes due
     let reads = asked_reading loses s k r w.s w.opened ∙ ap (λ (n : Coordination). Some n.reading) (sym c.self.view_is) in
     let same = subst (TakesRefreshed c.args.self.now.later c.refreshed.new.later) c.in-Restart.is (subst (λ l. TakesRefreshed l c.refreshed.new.later c.in_ok-refreshed.refreshed) (ap (λ (n : Coordination). n.later) c.self.view_is) c.in_ok-refreshed.ensures.takes) in
     c.give_up.ensures.knows loses k (subst (λ (n : Coordination). StandsReady loses (record n { later = later }) k) (sym c.self.view_is) (same_waits loses s k later r same))
-    (subst (GoesOnOrGivesUp set s.session k c.args.txn) c.in-Restart.is (c.in_ok-refreshed.ensures.refreshed s.session s.clock s.begun refusals set k puts r.counted w refreshes due (subst (HasOutbox loses k c.args.txn) back h.outbox) (subst (MayWait s.pipelining) back r.course.may_wait) reads))
+    (subst (GoesOnOrGivesUp set s.session k c.args.txn) c.in-Restart.is ((rw c.lent.ensures at c.in_ok-refreshed.ensures.refreshed) s.session s.clock s.begun refusals set k puts r.counted w refreshes due (subst (HasOutbox loses k c.args.txn) back h.outbox) (subst (MayWait s.pipelining) back r.course.may_wait) reads))
     (subst (HasAside loses k c.args.txn) (sym same) h)
     (subst (λ (n : Coordination). SuitsFlightIn n.pipelining calls.Commit c.args.txn.in_flight) (sym c.self.view_is) (suits_open set k c.args.txn c.args.call.purpose ms w refusals puts refreshes))
 

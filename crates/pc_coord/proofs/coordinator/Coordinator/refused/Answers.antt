@@ -17,9 +17,9 @@ returns-in-Some-clause-knows c = λ loses k h number refusals reply is u commits
     let x = c.args.txn in
     let k2 = known_heard h k in
     let m = alone set k x call.purpose call.wave is.in_call (purposes.Commit refusals) commits tt in
-    let on = subst (IsRefusalOf set s.session k2 c.args.recorded c.refused-refused.new.txn) c.in-Some.is (c.refused-refused.ensures.refused s.session is.before s.begun number refusals set k s.later reply h is.counted is.in_call is.aside.outbox commits is.waited is.heard u at) in
-    c.commit_on.ensures.knows loses k2 on.0.t on.0.s is.ready (refused_from set k x call.purpose call.wave is.in_call refusals commits c.args.recorded c.args.step c.refused-refused.new.txn c.refused-refused.ensures.risen k2 c.in-Some.refusals on.0)
-    (alone_aside loses s call x number reply k h is m.0 m.1 c.refused-refused.new.txn (refused_but h.request c.args.recorded c.args.step x c.refused-refused.new.txn c.refused-refused.ensures.risen))
+    let on = subst (IsRefusalOf set s.session k2 c.args.recorded c.refused-refused.new.txn) c.in-Some.is ((rw c.lent_mut.ensures.value at c.refused-refused.ensures.refused) s.session is.before s.begun number refusals set k s.later reply h is.counted is.in_call is.aside.outbox commits is.waited is.heard u at) in
+    c.commit_on.ensures.knows loses k2 on.0.t on.0.s is.ready (refused_from set k x call.purpose call.wave is.in_call refusals commits c.args.recorded c.args.step c.refused-refused.new.txn (rw c.lent_mut.ensures.value at c.refused-refused.ensures.risen) k2 c.in-Some.refusals on.0)
+    (alone_aside loses s call x number reply k h is m.0 m.1 c.refused-refused.new.txn (refused_but h.request c.args.recorded c.args.step x c.refused-refused.new.txn (rw c.lent_mut.ensures.value at c.refused-refused.ensures.risen)))
     is.ready.course.may_wait on.1
 
 pub returns-in-None-clause-knows : goal.returns-in-None-clause-knows
@@ -30,10 +30,10 @@ returns-in-None-clause-knows c = λ loses k h number refusals reply is u commits
     let x = c.args.txn in
     let k2 = known_heard h k in
     let m = alone set k x call.purpose call.wave is.in_call (purposes.Commit refusals) commits tt in
-    let gives = subst (IsRefusalOf set s.session k2 c.args.recorded c.refused-refused.new.txn) c.in-None.is (c.refused-refused.ensures.refused s.session is.before s.begun number refusals set k s.later reply h is.counted is.in_call is.aside.outbox commits is.waited is.heard u at) in
+    let gives = subst (IsRefusalOf set s.session k2 c.args.recorded c.refused-refused.new.txn) c.in-None.is ((rw c.lent_mut.ensures.value at c.refused-refused.ensures.refused) s.session is.before s.begun number refusals set k s.later reply h is.counted is.in_call is.aside.outbox commits is.waited is.heard u at) in
     c.give_up.ensures.knows loses k2 is.ready gives
-    (alone_aside loses s call x number reply k h is m.0 m.1 c.refused-refused.new.txn (refused_but h.request c.args.recorded c.args.step x c.refused-refused.new.txn c.refused-refused.ensures.risen))
-    (refused_suits set k x call.purpose call.wave is.in_call refusals commits c.args.recorded c.args.step c.refused-refused.new.txn c.refused-refused.ensures.risen)
+    (alone_aside loses s call x number reply k h is m.0 m.1 c.refused-refused.new.txn (refused_but h.request c.args.recorded c.args.step x c.refused-refused.new.txn (rw c.lent_mut.ensures.value at c.refused-refused.ensures.risen)))
+    (refused_suits set k x call.purpose call.wave is.in_call refusals commits c.args.recorded c.args.step c.refused-refused.new.txn (rw c.lent_mut.ensures.value at c.refused-refused.ensures.risen))
 
 pub returns-in-Some-clause-comes : goal.returns-in-Some-clause-comes
 returns-in-Some-clause-comes c = λ messages none. c.commit_on.ensures.comes messages none

@@ -13,7 +13,7 @@ returns-in-Some-clause-knows c = λ loses k s r fresh h is. c.abort.ensures.know
 pub returns-in-None-clause-knows : goal.returns-in-None-clause-knows
 returns-in-None-clause-knows c = λ loses k s r fresh h is.
     let self = c.args.self.now in
-    finish_ok loses c.finish.result self c.finish.new.self k c.roll_back_unwritten.result c.finish.ensures.ok r (c.roll_back_unwritten.ensures.over self.session (setting_of loses self) k s fresh is c.in-None.is)
+    finish_ok loses c.finish.result self c.finish.new.self k c.roll_back_unwritten.result c.finish.ensures.ok r ((rw c.into_txn.ensures at c.roll_back_unwritten.ensures.over) self.session (setting_of loses self) k s fresh is (rw c.lent.ensures at c.in-None.is))
     (all_over k fresh.split c.args.txn self.later h) (asked_begins k s fresh.opened (ap is_begin is))
 
 pub returns-in-None-clause-waits : goal.returns-in-None-clause-waits

@@ -20,8 +20,8 @@ returns-clause-knows c = λ loses k s why r fresh h is none suits.
     let x = c.args.txn in
     let made = c.in_ok-call.call in
     let at = ap (λ (n : Coordination). n.splits) (sym c.self.view_is) in
-    let w = c.in_ok-call.ensures.stands set k self.later s why at (subst AreRising at r.course.rising) fresh h.outbox (subst (λ (call : Call). SuitsFlightIn self.pipelining call x.in_flight) (sym is) suits) is none in
-    c.go_on.ensures.knows loses k r w (scan_aside self.pipelining k x self.later h (spans_in c.self.inside.splits.now c.args.span.now) made c.in_ok-call.ensures.made) (unsent_many set k x made.purpose made.wave w c.in_ok-call.ensures.unsent)
+    let w = (rw c.lent.ensures at c.in_ok-call.ensures.stands) set k self.later s why at (subst AreRising at r.course.rising) fresh h.outbox (subst (λ (call : Call). SuitsFlightIn self.pipelining call x.in_flight) (sym is) suits) is none in
+    c.go_on.ensures.knows loses k r w (scan_aside self.pipelining k x self.later h (spans_in c.self.inside.splits.now c.args.span.now) made (rw c.lent.ensures at c.in_ok-call.ensures.made)) (unsent_many set k x made.purpose made.wave w c.in_ok-call.ensures.unsent)
 
 pub returns-clause-waits : goal.returns-clause-waits
 returns-clause-waits c = on_outbox c.go_on.result c.in_ok-call.call.wave c.args.self.now.later c.go_on.new.self.due (λ n. unsent_idle n c.in_ok-call.call.wave c.in_ok-call.ensures.unsent) c.go_on.ensures.waits
@@ -29,7 +29,7 @@ returns-clause-waits c = on_outbox c.go_on.result c.in_ok-call.call.wave c.args.
 pub returns-clause-comes : goal.returns-clause-comes
 returns-clause-comes c = λ messages none.
     on_ok c.go_on.result (ComesOf c.in_ok-call.call.wave c.go_on.new.self.due) (ComesOf messages c.go_on.new.self.due)
-    (λ comes. fresh_comes messages c.in_ok-call.call.wave c.go_on.new.self.due (to_send_go c.in_ok-call.call.wave c.in_ok-call.ensures.unsent) none comes) (c.go_on.ensures.comes (ap (λ (call : OpenCall). goes_by_sequence call.purpose) c.in_ok-call.ensures.made))
+    (λ comes. fresh_comes messages c.in_ok-call.call.wave c.go_on.new.self.due (to_send_go c.in_ok-call.call.wave c.in_ok-call.ensures.unsent) none comes) (c.go_on.ensures.comes (ap (λ (call : OpenCall). goes_by_sequence call.purpose) (rw c.lent.ensures at c.in_ok-call.ensures.made)))
 
 pub returns-clause-left : goal.returns-clause-left
 returns-clause-left c = c.go_on.ensures.left

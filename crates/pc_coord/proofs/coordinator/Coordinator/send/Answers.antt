@@ -28,9 +28,9 @@ returns-else-tells_at_once-clause-knows c = λ loses k range request r w a step 
     let x = c.args.taken.txn in
     let ks = known_sent c.args.number range request k in
     let once = sym (ap (λ (n : OpenCall). s.pipelining && is_writing n.purpose) c.in_ok-sent.ensures.made) ∙ (sym c.tells_at_once.ensures ∙ c.if-tells_at_once.false) in
-    let w2 = c.in_ok-sent.ensures.stands s.session s.clock s.begun range set k request r.counted w step next in
+    let w2 = (rw c.lent_mut.ensures.value at c.in_ok-sent.ensures.stands) s.session s.clock s.begun range set k request r.counted w step next in
     let a2 = subst (λ (n : OpenCall). KeepsAside loses s.pipelining ks c.sent.new.txn n.purpose s.later n.wave) (sym c.in_ok-sent.ensures.made)
-    (subst (λ (y : OpenTxn). KeepsAside loses s.pipelining ks y call.purpose s.later (first_changed is_to_send (sent_under c.args.number) call.wave)) (sym c.in_ok-sent.ensures.noted)
+    (subst (λ (y : OpenTxn). KeepsAside loses s.pipelining ks y call.purpose s.later (first_changed is_to_send (sent_under c.args.number) call.wave)) (sym (rw c.lent_mut.ensures.value at c.in_ok-sent.ensures.noted))
     (aside_sent set k x call.purpose call.wave w s.pipelining s.later a c.args.number range request step once)) in
     let waits = c.in_ok-sent.ensures.awaited request c.args.number step ∙ self_or c.args.number (wave_awaits c.args.number call.wave) in
     call_ok loses s c.call.new.self ks c.sent.new.self c.sent.new.txn c.call.ensures (ready_sent loses s k x call c.args.number range request r w step next went) w2 a2 (awaits_way c.args.number c.sent.new.self.wave waits)
@@ -52,7 +52,7 @@ returns-in_ok-keep_for_later-clause-knows c = λ loses k range request r w a ste
     let piped = and_parts s.pipelining (is_writing call.purpose) once in
     let writes = writing_is call.purpose s.pipelining once in
     let l = lay_key loses s k x call.purpose call.wave w a r.counted writes once c.args.number range request step next in
-    let told = c.in_ok-sent.ensures.at_once s.session s.clock s.begun range set k request l.0 l.1 r.counted w step next piped.0 writes l.2 l.3 in
+    let told = (rw c.lent_mut.ensures.value at c.in_ok-sent.ensures.at_once) s.session s.clock s.begun range set k request l.0 l.1 r.counted w step next piped.0 writes l.2 l.3 in
     let out = set_aside loses s k x call.purpose call.wave w a r.counted writes once c.args.number range request step next in
     let later = s.later ++ later_sent c.args.number (first_changed is_to_send (sent_under c.args.number) call.wave) in
     tell_ok loses (record s { later = later }) c.tell.new.self ks answers.Written c.sent.new.txn
@@ -63,7 +63,7 @@ returns-in_ok-keep_for_later-clause-knows c = λ loses k range request r w a ste
     ∙ ap (λ (n : Coordination). n.later ++ later_sent c.args.number c.sent.new.self.wave) c.self.view_is
     ∙ ap (λ (n : OpenCall). c.args.self.now.later ++ later_sent c.args.number n.wave) c.in_ok-sent.ensures.made))
     (ready_with loses s ks later (ready_sent loses s k x call c.args.number range request r w step next went) (subst (λ b. MayWait b later) (sym piped.0) tt))
-    told (subst (λ (y : OpenTxn). HasOutboxBetween loses (known_told answers.Written ks) y later) (sym c.in_ok-sent.ensures.noted) out) (served_begins set k x call.purpose call.wave w)
+    told (subst (λ (y : OpenTxn). HasOutboxBetween loses (known_told answers.Written ks) y later) (sym (rw c.lent_mut.ensures.value at c.in_ok-sent.ensures.noted)) out) (served_begins set k x call.purpose call.wave w)
 
 pub returns-in_ok-keep_for_later-clause-waiting : goal.returns-in_ok-keep_for_later-clause-waiting
 returns-in_ok-keep_for_later-clause-waiting c = λ once.

@@ -8,7 +8,7 @@ use Rattle.pc_coord.proofs.coordinator.Coordinator.serve.Goals as goal
 
 pub returns-then-is_to_prove-clause-knows : goal.returns-then-is_to_prove-clause-knows
 returns-then-is_to_prove-clause-knows c = λ loses k s why r fresh h is asks suits.
-    let some = sym c.is_to_prove.ensures ∙ c.if-is_to_prove.true in
+    let some = sym (rw c.lent.ensures at c.is_to_prove.ensures) ∙ c.if-is_to_prove.true in
     c.prove.ensures.knows loses k s why r fresh h is (waits_behind c.args.call.now c.args.txn.in_flight some) some suits
 
 pub returns-then-is_to_prove-clause-waits : goal.returns-then-is_to_prove-clause-waits
@@ -19,20 +19,20 @@ returns-then-is_to_prove-clause-comes c = λ messages asks none. c.prove.ensures
 
 pub returns-in-Get-clause-knows : goal.returns-in-Get-clause-knows
 returns-in-Get-clause-knows c = λ loses k s why r fresh h is asks suits.
-    c.get.ensures.knows loses k s why r fresh h (is ∙ c.in-Get.is) (ap (λ call. waits_for_some call c.args.txn.in_flight) (sym c.in-Get.is) ∙ (sym c.is_to_prove.ensures ∙ c.if-is_to_prove.false)) (subst (λ (call : Call). Suits c.args.self.now.pipelining call (Some c.args.txn)) c.in-Get.is suits)
+    c.get.ensures.knows loses k s why r fresh h (is ∙ c.in-Get.is) (ap (λ call. waits_for_some call c.args.txn.in_flight) (sym c.in-Get.is) ∙ (sym (rw c.lent.ensures at c.is_to_prove.ensures) ∙ c.if-is_to_prove.false)) (subst (λ (call : Call). Suits c.args.self.now.pipelining call (Some c.args.txn)) c.in-Get.is suits)
 
 pub returns-in-Scan-clause-knows : goal.returns-in-Scan-clause-knows
 returns-in-Scan-clause-knows c = λ loses k s why r fresh h is asks suits.
-    c.scan.ensures.knows loses k s why r fresh h (is ∙ c.in-Scan.is) (ap (λ call. waits_for_some call c.args.txn.in_flight) (sym c.in-Scan.is) ∙ (sym c.is_to_prove.ensures ∙ c.if-is_to_prove.false)) (subst (λ (call : Call). Suits c.args.self.now.pipelining call (Some c.args.txn)) c.in-Scan.is suits)
+    c.scan.ensures.knows loses k s why r fresh h (is ∙ c.in-Scan.is) (ap (λ call. waits_for_some call c.args.txn.in_flight) (sym c.in-Scan.is) ∙ (sym (rw c.lent.ensures at c.is_to_prove.ensures) ∙ c.if-is_to_prove.false)) (subst (λ (call : Call). Suits c.args.self.now.pipelining call (Some c.args.txn)) c.in-Scan.is suits)
 
 pub returns-in_ok-laid-in-Put-clause-knows : goal.returns-in_ok-laid-in-Put-clause-knows
 returns-in_ok-laid-in-Put-clause-knows c = λ loses k s why r fresh h is asks suits.
     let put = c.in-Put.is ∙ ap (calls.Put c.in-Put.key) (sym c.in_ok-laid-in-Put.ensures) in
-    c.write.ensures.knows loses k s why r fresh h (is ∙ put) (ap (λ call. waits_for_some call c.args.txn.in_flight) (sym put) ∙ (sym c.is_to_prove.ensures ∙ c.if-is_to_prove.false)) (subst (λ (call : Call). Suits c.args.self.now.pipelining call (Some c.args.txn)) put suits)
+    c.write.ensures.knows loses k s why r fresh h (is ∙ put) (ap (λ call. waits_for_some call c.args.txn.in_flight) (sym put) ∙ (sym (rw c.lent.ensures at c.is_to_prove.ensures) ∙ c.if-is_to_prove.false)) (subst (λ (call : Call). Suits c.args.self.now.pipelining call (Some c.args.txn)) put suits)
 
 pub returns-in-Delete-clause-knows : goal.returns-in-Delete-clause-knows
 returns-in-Delete-clause-knows c = λ loses k s why r fresh h is asks suits.
-    c.write-in-Delete.ensures.knows loses k s why r fresh h (is ∙ c.in-Delete.is) (ap (λ call. waits_for_some call c.args.txn.in_flight) (sym c.in-Delete.is) ∙ (sym c.is_to_prove.ensures ∙ c.if-is_to_prove.false)) (subst (λ (call : Call). Suits c.args.self.now.pipelining call (Some c.args.txn)) c.in-Delete.is suits)
+    c.write-in-Delete.ensures.knows loses k s why r fresh h (is ∙ c.in-Delete.is) (ap (λ call. waits_for_some call c.args.txn.in_flight) (sym c.in-Delete.is) ∙ (sym (rw c.lent.ensures at c.is_to_prove.ensures) ∙ c.if-is_to_prove.false)) (subst (λ (call : Call). Suits c.args.self.now.pipelining call (Some c.args.txn)) c.in-Delete.is suits)
 
 pub returns-in-Commit-clause-knows : goal.returns-in-Commit-clause-knows
 returns-in-Commit-clause-knows c = λ loses k s why r fresh h is asks suits.

@@ -15,7 +15,7 @@ pub returns-then-not-is_live-clause-knows : goal.returns-then-not-is_live-clause
 returns-then-not-is_live-clause-knows c = λ loses k n r blocked a idle stages.
     let s = c.args.self.now in
     let set = setting_of loses s in
-    c.give_up.ensures.knows loses k r (c.is_live.ensures.late n set k c.args.holder blocked c.if-not-is_live.true)
+    c.give_up.ensures.knows loses k r ((rw c.lent.ensures at c.is_live.ensures.late) n set k c.args.holder blocked c.if-not-is_live.true)
     (aside_idle s.pipelining k c.args.txn c.args.call.purpose s.later c.args.call.wave a idle) (blocked_suits set k c.args.txn n c.args.call.wave c.args.holder blocked)
 
 pub returns-clause-waits : goal.returns-clause-waits
@@ -31,9 +31,9 @@ returns-clause-knows c = λ loses k n r blocked a idle stages.
     let made = c.in_ok-query.query in
     let h = aside_idle s.pipelining k x c.args.call.purpose s.later c.args.call.wave a idle in
     let p = c.in_ok-query.ensures.purpose in
-    let e = c.in_ok-query.ensures.asks in
+    let e = (rw c.lent-2.ensures at c.in_ok-query.ensures.asks) in
     let none = blocked_empty set k x n c.args.call.wave c.args.holder blocked s.later a.outbox in
-    call_ok loses s c.call.new.self k made x c.call.ensures r (c.in_ok-query.ensures.stands n set k s.later blocked a.outbox stages (sym c.is_live.ensures.made ∙ c.if-not-is_live.false))
+    call_ok loses s c.call.new.self k made x c.call.ensures r ((rw c.lent-2.ensures at c.in_ok-query.ensures.stands) n set k s.later blocked a.outbox stages (sym (rw c.lent.ensures at c.is_live.ensures.made) ∙ c.if-not-is_live.false))
     (one_aside s.pipelining k x s.later h made.purpose made.wave (own_query x e.0 e.1) e.2 refl (subst (λ q. LeavesNoneWaiting q s.later) (sym p.1) none) (subst (λ q. HasProofs q made.wave) (sym p.1) tt) (ap is_writing p.1))
     (one_goes made.wave (own_query x e.0 e.1) e.2)
 

@@ -21,7 +21,7 @@ returns-in-Committed-clause-knows c = λ loses k h n is stages isnt at.
     let x = c.args.txn in
     let v = committed_reply c.args.reply.now c.in-Committed.epoch c.in-Committed.ts (sym c.in_ok-decision.ensures ∙ c.in-Committed.is) in
     finish_ok loses c.finish.result s c.finish.new.self (known_heard h k) c.found_committed.result c.finish.ensures.ok is.ready
-    (c.found_committed.ensures.over s.session is.before s.begun c.args.number set k v.0 h is.counted is.in_call (subst MayFindCommitted (sym stages) tt) is.waited (subst (λ r. IsHeardTo k c.args.number r h) v.1 is.heard))
+    ((rw c.into_txn.ensures at c.found_committed.ensures.over) s.session is.before s.begun c.args.number set k v.0 h is.counted is.in_call (subst MayFindCommitted (sym stages) tt) is.waited (subst (λ r. IsHeardTo k c.args.number r h) v.1 is.heard))
     (stage_over loses s call x c.args.number c.args.reply.now k h is n stages (subst IsRecordReply (sym v.1) tt)) (served_begins set k x call.purpose call.wave is.in_call)
 
 pub returns-in-Committed-clause-waits : goal.returns-in-Committed-clause-waits
@@ -40,7 +40,7 @@ returns-in-Aborted-clause-knows c = λ loses k h n is stages isnt at.
     let x = c.args.txn in
     let v = aborted_reply c.args.reply.now c.in-Aborted.why (sym c.in_ok-decision.ensures ∙ c.in-Aborted.is) in
     finish_ok loses c.finish-in-Aborted.result s c.finish-in-Aborted.new.self (known_heard h k) c.aborted.result c.finish-in-Aborted.ensures.ok is.ready
-    (c.aborted.ensures.over s.session is.before s.begun c.args.number v.0 set k v.1 h is.counted is.in_call (subst MayFindAborted (sym stages) tt) is.waited (subst (λ r. IsHeardTo k c.args.number r h) v.2 is.heard))
+    ((rw c.into_txn-in-Aborted.ensures at c.aborted.ensures.over) s.session is.before s.begun c.args.number v.0 set k v.1 h is.counted is.in_call (subst MayFindAborted (sym stages) tt) is.waited (subst (λ r. IsHeardTo k c.args.number r h) v.2 is.heard))
     (stage_over loses s call x c.args.number c.args.reply.now k h is n stages (subst IsRecordReply (sym v.2) tt)) (served_begins set k x call.purpose call.wave is.in_call)
 
 pub returns-in-Aborted-clause-waits : goal.returns-in-Aborted-clause-waits

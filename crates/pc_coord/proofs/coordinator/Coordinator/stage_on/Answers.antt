@@ -26,8 +26,8 @@ returns-in-Some-Commit-clause-knows c = λ loses k st n r opened on h may suits 
     let had = subst (λ (v : Coordination). HasOutbox loses k x v.later) (sym view) h.outbox in
     let may_wait = subst (λ (v : Coordination). MayWait s.pipelining v.later) (sym view) may in
     goes_ok loses s (record s { later = later }) c.call.new.self k later made x refl called r
-    (subst (λ o. IfSome o (IsStagedOn set k x)) is (c.in_ok-next.ensures.stands s.session s.clock s.begun n set k r.counted on had may_wait (asked_reading loses s k r st opened ∙ ap (λ (v : Coordination). Some v.reading) (sym view)) stages suits))
-    h (subst (λ o. IfSome o (KeepsOutboxStaged loses k x later)) is (c.in_ok-next.ensures.outbox loses k had)) t.0.0
+    (subst (λ o. IfSome o (IsStagedOn set k x)) is ((rw c.lent.ensures at c.in_ok-next.ensures.stands) s.session s.clock s.begun n set k r.counted on had may_wait (asked_reading loses s k r st opened ∙ ap (λ (v : Coordination). Some v.reading) (sym view)) stages suits))
+    h (subst (λ o. IfSome o (KeepsOutboxStaged loses k x later)) is ((rw c.lent.ensures at c.in_ok-next.ensures.outbox) loses k had)) t.0.0
     (commit_joined made.purpose later t.1) (commit_plain made.purpose t.1) (subst (λ o. IfSome o HasMessagesOn) is c.in_ok-next.ensures.unsent) (sends_some made.wave t.0.1)
 
 pub returns-in-Some-Commit-clause-waits : goal.returns-in-Some-Commit-clause-waits
@@ -48,7 +48,7 @@ returns-in-Some-GivesUp-clause-knows c = λ loses k st n r opened on h may suits
     let had = subst (λ (v : Coordination). HasOutbox loses k x v.later) (sym view) h.outbox in
     let may_wait = subst (λ (v : Coordination). MayWait s.pipelining v.later) (sym view) may in
     c.give_up.ensures.knows loses k (subst (λ (v : Coordination). StandsReady loses (record v { later = later }) k) (sym view) (same_waits loses s k later r same))
-    (subst (λ o. IfSome o (IsStagedOn set k x)) is (c.in_ok-next.ensures.stands s.session s.clock s.begun n set k r.counted on had may_wait (asked_reading loses s k r st opened ∙ ap (λ (v : Coordination). Some v.reading) (sym view)) stages suits))
+    (subst (λ o. IfSome o (IsStagedOn set k x)) is ((rw c.lent.ensures at c.in_ok-next.ensures.stands) s.session s.clock s.begun n set k r.counted on had may_wait (asked_reading loses s k r st opened ∙ ap (λ (v : Coordination). Some v.reading) (sym view)) stages suits))
     (subst (HasAside loses k x) (sym same) h) (subst (λ (v : Coordination). Suits v.pipelining calls.Commit (Some x)) (sym view) suits)
 
 pub returns-in-Some-GivesUp-clause-waits : goal.returns-in-Some-GivesUp-clause-waits

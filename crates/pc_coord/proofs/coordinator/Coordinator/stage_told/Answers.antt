@@ -30,11 +30,11 @@ returns-in-Staged-clause-knows c = λ loses k h n is0 stages u at.
     let call2 = c.stage_told-told.new.self in
     let is = subst (λ r. HearsNow loses s call x c.args.number r k h) (sym c.in_ok-told.ensures) is0 in
     let w = subst (IsStageTold set c.args.recorded k2 x2 call2) c.in-Staged.is
-    (c.stage_told-told.ensures.stands s.session is.before s.begun n set k h is.counted is.in_call stages is.waited is.heard (subst (λ r. IsUndecidedAt r c.args.recorded) (sym c.in_ok-told.ensures) u) is.turn at) in
+    ((rw c.lent_mut.ensures.value at c.stage_told-told.ensures.stands) s.session is.before s.begun n set k h is.counted is.in_call stages is.waited is.heard (subst (λ r. IsUndecidedAt r c.args.recorded) (sym c.in_ok-told.ensures) u) is.turn at) in
     let so = counted_stage c.args.number c.args.recorded c.args.step n call.wave x2 call.purpose stages in
     let purpose = ap (λ (n : OpenCall). n.purpose) c.stage_told-told.ensures.made ∙ so.1 in
     let a = subst (λ (ms : List Message). KeepsAside loses s.pipelining k2 x2 call2.purpose s.later ms) (sym (ap (λ (n : OpenCall). n.wave) c.stage_told-told.ensures.made))
-    (subst (λ (y : OpenTxn). KeepsAside loses s.pipelining k2 y call2.purpose s.later (first_changed (awaits_at c.args.number) (back_with c.args.number told) call.wave)) (sym c.stage_told-told.ensures.told)
+    (subst (λ (y : OpenTxn). KeepsAside loses s.pipelining k2 y call2.purpose s.later (first_changed (awaits_at c.args.number) (back_with c.args.number told) call.wave)) (sym (rw c.lent_mut.ensures.value at c.stage_told-told.ensures.told))
     (told_aside loses s call x c.args.number told k h is n stages (stage_ts c.args.number call.wave) c.args.recorded c.args.step so.0 call2.purpose purpose)) in
     c.go_on.ensures.knows loses k2 is.ready w a (λ due. subst IsForMany (sym purpose) tt)
 
@@ -57,16 +57,16 @@ returns-in-Refused-clause-knows c = λ loses k h n is0 stages u0 at.
     let call2 = c.stage_told-told.new.self in
     let is = subst (λ r. HearsNow loses s call x c.args.number r k h) (sym c.in_ok-told.ensures) is0 in
     let u = subst (λ r. IsUndecidedAt r c.args.recorded) (sym c.in_ok-told.ensures) u0 in
-    let on = subst (IsStageTold set c.args.recorded k2 x2 call2) c.in-Refused.is (c.stage_told-told.ensures.stands s.session is.before s.begun n set k h is.counted is.in_call stages is.waited is.heard u is.turn at) in
+    let on = subst (IsStageTold set c.args.recorded k2 x2 call2) c.in-Refused.is ((rw c.lent_mut.ensures.value at c.stage_told-told.ensures.stands) s.session is.before s.begun n set k h is.counted is.in_call stages is.waited is.heard u is.turn at) in
     let so = counted_stage c.args.number c.args.recorded c.args.step n call.wave x2 call.purpose stages in
     let purpose = ap (λ (n : OpenCall). n.purpose) c.stage_told-told.ensures.made ∙ so.1 in
     let ts = stage_ts c.args.number call.wave in
-    let aside = subst (λ (y : OpenTxn). HasAside loses k2 y s.later) (sym c.stage_told-told.ensures.told)
+    let aside = subst (λ (y : OpenTxn). HasAside loses k2 y s.later) (sym (rw c.lent_mut.ensures.value at c.stage_told-told.ensures.told))
     (stage_aside loses s call x c.args.number told k h is n stages (told_shows loses s call x c.args.number told k h is n stages c.args.recorded u) (stage_told_if ts c.args.recorded c.args.step told x)
     (told_stays h.request told ts c.args.recorded c.args.step x)) in
     c.stage_refused.ensures.knows loses k2 is.in_call.s so.0 is.ready is.in_call.opened on.0 aside is.ready.course.may_wait on.1 purpose
-    (λ lost. told_lost loses s call x c.args.number told k h is n stages x2 (λ anchor. ap (λ (y : OpenTxn). meta_now y anchor) c.stage_told-told.ensures.told ∙ told_meta told ts c.args.recorded c.args.step x anchor)
-    (λ f there. subst (λ (y : OpenTxn). Contains y.in_flight f) (sym c.stage_told-told.ensures.told) (told_flies told ts c.args.recorded c.args.step x f there))
+    (λ lost. told_lost loses s call x c.args.number told k h is n stages x2 (λ anchor. ap (λ (y : OpenTxn). meta_now y anchor) (rw c.lent_mut.ensures.value at c.stage_told-told.ensures.told) ∙ told_meta told ts c.args.recorded c.args.step x anchor)
+    (λ f there. subst (λ (y : OpenTxn). Contains y.in_flight f) (sym (rw c.lent_mut.ensures.value at c.stage_told-told.ensures.told)) (told_flies told ts c.args.recorded c.args.step x f there))
     (stages_give_up set c.args.recorded so.0 k2 x2 call2.wave (on.0 so.0 purpose) on.1) (sym (ap (λ (n : OpenCall). is_lost_after s.tries n.wave) c.stage_told-told.ensures.made) ∙ lost))
 
 pub returns-in-Refused-clause-waits : goal.returns-in-Refused-clause-waits
@@ -91,11 +91,11 @@ returns-in-Staged-clause-joins c = λ loses k h n is0 stages u at.
     let call2 = c.stage_told-told.new.self in
     let is = subst (λ r. HearsNow loses s call x c.args.number r k h) (sym c.in_ok-told.ensures) is0 in
     let w = subst (IsStageTold set c.args.recorded k2 x2 call2) c.in-Staged.is
-    (c.stage_told-told.ensures.stands s.session is.before s.begun n set k h is.counted is.in_call stages is.waited is.heard (subst (λ r. IsUndecidedAt r c.args.recorded) (sym c.in_ok-told.ensures) u) is.turn at) in
+    ((rw c.lent_mut.ensures.value at c.stage_told-told.ensures.stands) s.session is.before s.begun n set k h is.counted is.in_call stages is.waited is.heard (subst (λ r. IsUndecidedAt r c.args.recorded) (sym c.in_ok-told.ensures) u) is.turn at) in
     let so = counted_stage c.args.number c.args.recorded c.args.step n call.wave x2 call.purpose stages in
     let purpose = ap (λ (n : OpenCall). n.purpose) c.stage_told-told.ensures.made ∙ so.1 in
     let a = subst (λ (ms : List Message). KeepsAside loses s.pipelining k2 x2 call2.purpose s.later ms) (sym (ap (λ (n : OpenCall). n.wave) c.stage_told-told.ensures.made))
-    (subst (λ (y : OpenTxn). KeepsAside loses s.pipelining k2 y call2.purpose s.later (first_changed (awaits_at c.args.number) (back_with c.args.number told) call.wave)) (sym c.stage_told-told.ensures.told)
+    (subst (λ (y : OpenTxn). KeepsAside loses s.pipelining k2 y call2.purpose s.later (first_changed (awaits_at c.args.number) (back_with c.args.number told) call.wave)) (sym (rw c.lent_mut.ensures.value at c.stage_told-told.ensures.told))
     (told_aside loses s call x c.args.number told k h is n stages (stage_ts c.args.number call.wave) c.args.recorded c.args.step so.0 call2.purpose purpose)) in
     c.go_on.ensures.joins set k2 w a
 

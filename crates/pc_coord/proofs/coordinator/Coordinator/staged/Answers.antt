@@ -18,7 +18,7 @@ returns-then-is_committed-clause-knows c = λ loses k n r w a stages due.
     let p = c.args.call.purpose in
     let ms = c.args.call.wave in
     finish_ok loses c.finish.result s c.finish.new.self k c.committed_by_stage.result c.finish.ensures.ok r
-    (c.committed_by_stage.ensures.over s.session s.clock s.begun n set k r.counted w stages due (sym c.is_committed.ensures.made ∙ c.if-is_committed.true))
+    ((rw c.into_txn.ensures at c.committed_by_stage.ensures.over) s.session s.clock s.begun n set k r.counted w stages due (sym (rw c.lent-open.ensures at c.is_committed.ensures.made) ∙ c.if-is_committed.true))
     (all_over k w.split x s.later (aside_idle s.pipelining k x p s.later ms a (λ n. answered_idle n ms due))) (served_begins set k x p ms w)
 
 pub returns-then-is_committed-clause-waits : goal.returns-then-is_committed-clause-waits
@@ -31,8 +31,8 @@ returns-clause-knows c = λ loses k n r w a stages due.
     let x = c.args.txn in
     let p = c.args.call.purpose in
     let ms = c.args.call.wave in
-    c.stage_on.ensures.knows loses k w.s n r w.opened
-    (stages_on_late s.session s.clock s.begun n set k x c.args.call r.counted w stages due (sym c.is_committed.ensures.made ∙ c.if-is_committed.false))
+    (rw c.lent-open.ensures at c.stage_on.ensures.knows) loses k w.s n r w.opened
+    (stages_on_late s.session s.clock s.begun n set k x c.args.call r.counted w stages due (sym (rw c.lent-open.ensures at c.is_committed.ensures.made) ∙ c.if-is_committed.false))
     (aside_idle s.pipelining k x p s.later ms a (λ n. answered_idle n ms due)) r.course.may_wait (staged_suits set k x p ms w n stages) stages
 
 pub returns-clause-waits : goal.returns-clause-waits

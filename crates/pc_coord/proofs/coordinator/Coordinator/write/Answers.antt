@@ -17,16 +17,16 @@ returns-clause-knows c = λ loses k s why r fresh h is none suits.
     let set = setting_of loses self in
     let x = c.args.txn in
     let made = c.in_ok-put.put in
-    let w = c.in_ok-put.ensures.stands set k self.later s why fresh h.outbox (subst (λ (call : Call). SuitsFlightIn self.pipelining call x.in_flight) (sym is) suits) is none in
-    c.go_on.ensures.knows loses k r w (write_aside self.pipelining k x self.later h [] None fresh.t fresh.stands s c.args.key.now c.args.value.now fresh.opened is none made c.in_ok-put.ensures.made) (unsent_many set k x made.purpose made.wave w (laid_unsent c.args.txn c.args.key.now c.args.value.now c.in_ok-put.put c.in_ok-put.ensures.made))
+    let w = (rw c.lent.ensures at c.in_ok-put.ensures.stands) set k self.later s why fresh h.outbox (subst (λ (call : Call). SuitsFlightIn self.pipelining call x.in_flight) (sym is) suits) is none in
+    c.go_on.ensures.knows loses k r w (write_aside self.pipelining k x self.later h [] None fresh.t fresh.stands s c.args.key.now c.args.value.now fresh.opened is none made (rw c.lent.ensures at c.in_ok-put.ensures.made)) (unsent_many set k x made.purpose made.wave w (laid_unsent c.args.txn c.args.key.now c.args.value.now c.in_ok-put.put (rw c.lent.ensures at c.in_ok-put.ensures.made)))
 
 pub returns-clause-waits : goal.returns-clause-waits
-returns-clause-waits c = on_outbox c.go_on.result c.in_ok-put.put.wave c.args.self.now.later c.go_on.new.self.due (λ n. unsent_idle n c.in_ok-put.put.wave (laid_unsent c.args.txn c.args.key.now c.args.value.now c.in_ok-put.put c.in_ok-put.ensures.made)) c.go_on.ensures.waits
+returns-clause-waits c = on_outbox c.go_on.result c.in_ok-put.put.wave c.args.self.now.later c.go_on.new.self.due (λ n. unsent_idle n c.in_ok-put.put.wave (laid_unsent c.args.txn c.args.key.now c.args.value.now c.in_ok-put.put (rw c.lent.ensures at c.in_ok-put.ensures.made))) c.go_on.ensures.waits
 
 pub returns-clause-comes : goal.returns-clause-comes
 returns-clause-comes c = λ messages none.
     on_ok c.go_on.result (ComesOf c.in_ok-put.put.wave c.go_on.new.self.due) (ComesOf messages c.go_on.new.self.due)
-    (λ comes. fresh_comes messages c.in_ok-put.put.wave c.go_on.new.self.due (to_send_go c.in_ok-put.put.wave (laid_unsent c.args.txn c.args.key.now c.args.value.now c.in_ok-put.put c.in_ok-put.ensures.made)) none comes) (c.go_on.ensures.comes (ap (λ (call : OpenCall). goes_by_sequence call.purpose) c.in_ok-put.ensures.made))
+    (λ comes. fresh_comes messages c.in_ok-put.put.wave c.go_on.new.self.due (to_send_go c.in_ok-put.put.wave (laid_unsent c.args.txn c.args.key.now c.args.value.now c.in_ok-put.put (rw c.lent.ensures at c.in_ok-put.ensures.made))) none comes) (c.go_on.ensures.comes (ap (λ (call : OpenCall). goes_by_sequence call.purpose) (rw c.lent.ensures at c.in_ok-put.ensures.made)))
 
 pub returns-clause-left : goal.returns-clause-left
 returns-clause-left c = c.go_on.ensures.left

@@ -20,9 +20,9 @@ returns-clause-knows c = λ loses k h number is writes at.
     let call = c.args.call in
     let x = c.args.txn in
     let reply = replies.Written c.args.ts in
-    let told = c.written.ensures.stands s.session is.before s.begun number set k h is.counted (not_at_once loses s call x number reply k h is writes) is.in_call writes is.waited is.heard is.missed at in
+    let told = (rw c.lent_mut.ensures.value at c.written.ensures.stands) s.session is.before s.begun number set k h is.counted (not_at_once loses s call x number reply k h is writes) is.in_call writes is.waited is.heard is.missed at in
     let m = alone set k x call.purpose call.wave is.in_call purposes.Write writes tt in
-    let stays = subst (λ (x2 : OpenTxn). StaysBut h.request x x2) (sym c.written.ensures.landed)
+    let stays = subst (λ (x2 : OpenTxn). StaysBut h.request x x2) (sym (rw c.lent_mut.ensures.value at c.written.ensures.landed))
     (landed_one call.wave m.0 h.request c.args.ts c.args.step x m.1 (asked_one loses s call x number reply k h is m.0 m.1)) in
     tell_ok loses s c.tell.new.self (known_heard h k) answers.Written c.written.new.txn c.tell.ensures is.ready told (alone_waits loses s call x number reply k h is m.0 m.1 answers.Written c.written.new.txn tt stays)
     (served_begins set k x call.purpose call.wave is.in_call)
