@@ -2,13 +2,13 @@
 use Rattle.std.proofs.Common.{◌≡◌, ℕ, true, false, List, [], ◌∷◌, map, is_some, refl, sym, ap, subst, ◌∙◌}
 use Rattle.pc_desk.proofs.Errands.{errand_may}
 use Rattle.pc_desk.proofs.StraysGone.{ready_first, stray_done, stray_kept, stray_may}
-use Rattle.pc_desk.proofs.StraysLeft.{not_held}
+use Rattle.pc_desk.proofs.StraysLeft.{never_held, not_held}
 use Rattle.pc_desk.proofs.StraysRefused.{errand_sent, stray_refused}
 use Rattle.pc_desk.specs.Aside.{HasDroppedFirst}
 use Rattle.pc_desk.specs.declared.errand.Errand.{Errand}
 use Rattle.pc_desk.specs.declared.halt.Halt.{Halt}
 use Rattle.pc_desk.specs.Desk.{DeskMeaning, IsDesk, IsReadyToGo, KeepsTrack, Posted, WaitingMessage, as_sent, waiting_as}
-use Rattle.pc_desk.specs.Ending.{EndsOnly}
+use Rattle.pc_desk.specs.Ending.{EndsOnly, holds_back}
 use Rattle.pc_desk.specs.Errand.{IsErrandOf, IsItsCopy, held_by, is_not_now}
 use Rattle.pc_desk.specs.Evaluating.{HasEvaluated, IsRefusedErrand}
 use Rattle.pc_desk.specs.OwnLog.{verdict_of}
@@ -63,5 +63,6 @@ module _ {C N : Type 0} {G : Ghosts N CommitWorld} (old v mid : DeskMeaning C) (
     pub taken_refused : KeepsTrack old → old.posted ≡ [] → is_some (known_of old.log.part.own).statement ≡ true → (new : DeskMeaning C) (halt : Halt) → IsRefusedErrand mid new dropped halt → EndsOnly (λ made. ⊥) old new halt
     taken_refused track none called new halt refused =
         let at = out-old ∙ ap (λ b. record old { later = map waits_as rest; bag = b }) (not_held verdict message errand (posted_of message) old.bag of) in
+        let unheld = ap holds_back (sym ready.ruled) ∙ never_held verdict message errand of in
         stray_refused old new message (map waits_as rest) track first none dropped (subst (λ (e : Errand N G). MayGo old e.message) (sym is) (errand_may old verdict message errand ready of).0)
-        (subst (λ (e : Errand N G). as_sent (posted_of e.message) ≡ as_sent (posted_of message)) (sym is) (errand_sent verdict message errand of)) (λ puts. called) halt (subst (λ (d : DeskMeaning C). IsRefusedErrand d new dropped halt) at refused)
+        (subst (λ (e : Errand N G). as_sent (posted_of e.message) ≡ as_sent (posted_of message)) (sym is) (errand_sent verdict message errand of)) unheld (λ puts. called) halt (subst (λ (d : DeskMeaning C). IsRefusedErrand d new dropped halt) at refused)
