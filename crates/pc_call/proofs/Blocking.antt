@@ -47,7 +47,7 @@ use Rattle.pc_wave.specs.declared.message.Message.{Message}
 use Rattle.pc_wave.specs.declared.step.Step.TheVariants as steps
 use Rattle.pc_wave.proofs.Lists.{at_least-fewer}
 use Rattle.pc_wave.specs.declared.message.Progress.TheVariants as progresses
-use Rattle.pc_wave.specs.Messages.{is_in_conflict, progress_in_conflict, step_of}
+use Rattle.pc_wave.specs.Messages.{is_in_conflict, progress_in_conflict, step_of, first_in_conflict, has_answer, is_out, is_to_send, step_by}
 use Rattle.pc_world.specs.Answering.{MayAnswer}
 use Rattle.pc_world.specs.Counting.{AtLeast}
 use Rattle.pc_wave.specs.Standing.{goes_beside}
@@ -57,6 +57,8 @@ use Rattle.pc_world.specs.Known.Traffic.{Heard}
 use Rattle.pc_world.specs.Known.Transactions.{Txn}
 use Rattle.pc_world.specs.Send.Recovery.{was_refused}
 use Rattle.pc_world.specs.Tell.Refusal.{IsConflictOf, IsUncommittedIn, MetEight}
+use Rattle.pc_wave.proofs.Rounds.{first_found}
+use Rattle.std.specs.List.{list_all, list_any}
 
 -- another call than a commit asks for nothing here
 uncommitted : (k : Known) (call : Call) → (call ≡ calls.Commit → ⊥) → IsUncommittedIn k call
@@ -106,6 +108,16 @@ next_met (y ∷ puts) stage (h ∷ hs) m (inl met) found none =
     let same : y ≡ m = same_Some y m (sym (ap (λ b. cond b (Some y) (find is_in_conflict (puts ++ stage))) is) ∙ found) in
     (h, hs, refl, subst (λ m. HasMetConflict m h) same met.0)
 next_met (y ∷ puts) stage (h ∷ hs) m (inr met) found none = next_met puts stage (h ∷ hs) m met.1 (sym (ap (λ b. cond b (Some y) (find is_in_conflict (puts ++ stage))) met.0) ∙ found) none
+
+-- where a holder blocks the messages, no reply is waited for
+blocked_still : (ms : List Message) (holder : TxnId) → step_of ms ≡ steps.Blocked holder → list_any is_out ms ≡ false
+blocked_still ms holder due = by (first_in_conflict ms) refl (find is_to_send ms) (list_all has_answer ms) due
+  where
+    by : (first : Option Message) → first_in_conflict ms ≡ first → (next : Option Message) (b : Bool) → step_by first next b ≡ steps.Blocked holder → list_any is_out ms ≡ false
+    by (Some m) first next b e = (first_found ms m first).1
+    by None first (Some m) b e = absurd cc
+    by None first None true e = absurd cc
+    by None first None false e = absurd cc
 
 module _ (session clock count : ℕ) (set : Setting) (k : Known) (x : OpenTxn) (p : Purpose) (ms : List Message) (counted : IsCounted session clock count k) (w : InCall set k x p ms) where
   -- but a stage only such a call is blocked
@@ -158,7 +170,7 @@ module _ (session clock count : ℕ) (set : Setting) (k : Known) (x : OpenTxn) (
       told c eight = blocked set session k w.t x w.s w.open_in (bare c) w.cause w.opened c.able w.plain c.beaten holder (inr eight)
 
       by : (q : Purpose) → p ≡ q → MayBlockIt session set k x q ms holder
-      by (purposes.Stage n) e = let both = stage_blocks n e holder due in at_eighth set k x p ms w n e holder both.0 both.1
+      by (purposes.Stage n) e = let both = stage_blocks n e holder due in at_eighth set k x p ms w n e holder both.0 both.1 (blocked_still ms holder due)
       by q e = let d = blocked_due session clock count set k x p ms counted w holder due in told (call_blocked q e (λ stage. absurd stage) d.0) d.1
 
   module _ (now : Known) (number : ℕ) (conflict : Reply) (due : step_of ms ≡ steps.Round number conflict) (g : GoesOnBeside k now x.id) (other : is_for_stage p ≡ false) where

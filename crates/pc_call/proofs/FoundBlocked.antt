@@ -1,6 +1,6 @@
 -- The messages of a stage without the first that met an intent, which a query found.
 use Rattle.std.proofs.Common.{◌≡◌, zero, suc, Bool, true, false, cond, ◌⊎◌, inl, inr, List, [], ◌∷◌, ◌++◌, ◌+◌, ◌≤◌, find, Some, refl, sym, ap, ◌∙◌, subst, arith, All, Any, count_by}
-use Rattle.std.specs.List.{after_first, before_first}
+use Rattle.std.specs.List.{after_first, before_first, list_any}
 use Rattle.std.proofs.lemmas.Grind.{common_steps}
 use Rattle.std.proofs.lemmas.List.Elements.{All-cons, All-head, All-tail}
 use Rattle.std.proofs.lemmas.Option.{same_Some}
@@ -15,10 +15,12 @@ use Rattle.pc_lists.proofs.Anywhere.{any_head, any_later}
 use Rattle.pc_lists.proofs.Counts.{count-append, count-cons, one_if}
 use Rattle.pc_wave.specs.Course.{Course}
 use Rattle.pc_wave.specs.declared.message.Message.{Message}
-use Rattle.pc_wave.specs.Messages.{is_in_conflict, progress_in_conflict}
+use Rattle.pc_wave.specs.Messages.{is_in_conflict, progress_in_conflict, is_out}
 use Rattle.pc_wave.specs.Standing.{AreOfTwo, MessageStands, Pairwise, WaveStands}
 use Rattle.pc_world.specs.Known.{Known}
 use Rattle.pc_world.specs.Known.Traffic.{Heard}
+use Rattle.std.proofs.lemmas.List.Folds.{list_any_none}
+use Rattle.pc_wave.proofs.Changed.{any_none}
 
 pub without_is : (ms : List Message) → without_blocked ms ≡ before_first is_in_conflict ms ++ after_first is_in_conflict ms
 without_is [] = refl
@@ -43,6 +45,10 @@ left_pairs R (m ∷ ms) two = by (is_in_conflict m) (left_pairs R ms two.1)
 
 pub left_stand : (c : Course) (k : Known) (ms : List Message) → WaveStands c k ms → WaveStands c k (without_blocked ms)
 left_stand c k ms w = record { stand = left_all (MessageStands c k) ms w.stand; differ = left_pairs AreOfTwo ms w.differ }
+
+-- where none of them is waited for, none that is left is
+pub left_still : (ms : List Message) → list_any is_out ms ≡ false → list_any is_out (without_blocked ms) ≡ false
+left_still ms none = list_any_none is_out (without_blocked ms) (left_all (λ m. is_out m ≡ false) ms (any_none is_out ms none))
 
 -- what holds of the one that was found, too, holds of all
 pub all_again : (P : Message → Type 0) (ms : List Message) (m0 : Message) → find is_in_conflict ms ≡ Some m0 → P m0 → All P (without_blocked ms) → All P ms

@@ -15,7 +15,7 @@ use Rattle.pc_call.specs.Learned.{known_heard, known_sent}
 use Rattle.pc_call.specs.Missing.{IsAboveMisses}
 use Rattle.pc_call.specs.Opening.{GoesOn, after_send}
 use Rattle.pc_call.specs.Rounding.{MakesRound}
-use Rattle.pc_call.specs.Serving.{InCall, KeepsStages, Serves, out_of, IsOutOrLost}
+use Rattle.pc_call.specs.Serving.{InCall, KeepsStages, Serves, out_of, IsOutOrLost, SendsInOrder}
 use Rattle.pc_call.specs.Setting.{Setting}
 use Rattle.pc_call.specs.Stages.{MayProve}
 use Rattle.pc_proto.specs.declared.reply.Reply.{Reply}
@@ -71,8 +71,8 @@ module _ (session clock count : ℕ) (set : Setting) (k : Known) (x : OpenTxn) (
   Sends number range request x2 = InCall set (known_sent number range request k) x2 p (first_changed is_to_send (sent_under number) ms)
 
   -- the message that was due goes out
-  pub call_sent : (request : Request) → step_of ms ≡ steps.Send request → (number : ℕ) → number ≡ next_number k → (range : ℕ) → InCall set (known_sent number range request k) (after_send p ms x) p (first_changed is_to_send (sent_under number) ms)
-  call_sent request due number next range = by p refl
+  pub call_sent : (request : Request) → step_of ms ≡ steps.Send request → (number : ℕ) → number ≡ next_number k → (range : ℕ) → (set.course.loses ≡ true → SendsInOrder k ms) → InCall set (known_sent number range request k) (after_send p ms x) p (first_changed is_to_send (sent_under number) ms)
+  call_sent request due number next range order = by p refl
     where
       at : (q : Purpose) → p ≡ q → Sends number range request (after_send q ms x) → Sends number range request (after_send p ms x)
       at q e sends = subst (λ q. Sends number range request (after_send q ms x)) (sym e) sends
@@ -86,7 +86,7 @@ module _ (session clock count : ℕ) (set : Setting) (k : Known) (x : OpenTxn) (
       by purposes.Write e = at purposes.Write e (write_sends session clock count set k x p ms counted w request due number next range e (keeps_as purposes.Write e) (serves_as purposes.Write e))
       by (purposes.Refresh n puts) e =
           at (purposes.Refresh n puts) e (refresh_sends session clock count set k x p ms counted w request due number next range n puts e (serves_as (purposes.Refresh n puts) e))
-      by (purposes.Stage n) e = at (purposes.Stage n) e (stage_sends session clock count set k x p ms counted w request due number next range n e)
+      by (purposes.Stage n) e = at (purposes.Stage n) e (stage_sends session clock count set k x p ms counted w request due number next range n e order)
       by (purposes.Query n holder puts) e = at (purposes.Query n holder puts) e (query_sends session clock count set k x p ms counted w request due number next range n holder puts e)
       by (purposes.Commit n) e =
           at (purposes.Commit n) e (commit_sends session clock count set k x p ms counted w request due number next range n e (keeps_as (purposes.Commit n) e) (serves_as (purposes.Commit n) e))

@@ -10,7 +10,7 @@ use Rattle.pc_base.specs.declared.transaction.TxnId.{TxnId}
 use Rattle.pc_call.proofs.Beside.{past_of}
 use Rattle.pc_call.proofs.Eighths.{at_least-weaker, same_sym, same_trans}
 use Rattle.pc_call.proofs.Lists.{all_behind, all_front, all_unmapped}
-use Rattle.pc_call.proofs.StageLists.{front_two, order_kept, first_on, free_changed}
+use Rattle.pc_call.proofs.StageLists.{front_two, order_kept, first_on, free_changed, fewer_awaited}
 use Rattle.pc_call.specs.Beside.{AreAskedOrDone, IsAskedOrDone}
 use Rattle.pc_call.specs.declared.purpose.Purpose.{Purpose}
 use Rattle.pc_call.specs.declared.purpose.Purpose.TheVariants as purposes
@@ -177,12 +177,13 @@ module _ (set : Setting) (k : Known) (x : OpenTxn) (n : ℕ) (ms : List Message)
   puts_not = All-weaker (SendsAgain calls.Commit true k w.t x) NotLate2 (λ m own waits. ap (stages_late x) own.said) puts r.wave.again
 
   serves_by : (ps stage : List Message) → again ms ≡ ps ++ stage → All (SendsAgain calls.Commit true k w.t x) ps → Pairwise PutsEarlier ps → AreMetBy ps (rounds_made k).waiting → All (λ f. Any (IsOpenFor f) ps) x.in_flight
-      → StageStands k w.s w.t x w.stages r.commits.anchor stage → All (IsFirstUnmet ps) stage → ServesStage set.course n k w.s w.t x w.stages (again ms)
-  serves_by ps stage whole sends order met each stands unmet = record {
+      → StageStands k w.s w.t x w.stages r.commits.anchor stage → All (IsFirstUnmet ps) stage → ((number at : ℕ) → wave_awaits number ps ≡ true → wave_awaits at stage ≡ true → number < at)
+      → ServesStage set.course n k w.s w.t x w.stages (again ms)
+  serves_by ps stage whole sends order met each stands unmet behind = record {
     commits = r.commits;
     refused = r.refused;
     held = r.held;
-    wave = record { puts = ps; stage = stage; whole = whole; again = sends; in_order = order; waiting = met; each = each; stands = stands; unmet = unmet; last = λ quiet. not_quiet quiet };
+    wave = record { puts = ps; stage = stage; whole = whole; again = sends; in_order = order; waiting = met; each = each; stands = stands; unmet = unmet; behind = behind; last = λ quiet. not_quiet quiet };
     piped = r.piped;
     unpushed = r.unpushed;
   }
@@ -226,7 +227,8 @@ module _ (set : Setting) (k : Known) (x : OpenTxn) (n : ℕ) (ms : List Message)
       (all_anew x number tries some (SendsAgain calls.Commit true k w.t x) (again_anew x number tries some calls.Commit true k w.t) puts r.wave.again)
       (order_kept (awaits_at number) (lost_of tries) (λ m. refl) puts r.wave.in_order) (met_anew x number tries some puts (rounds_made k).waiting r.wave.waiting)
       (All-weaker (λ f. Any (IsOpenFor f) puts) (λ f. Any (IsOpenFor f) (again puts)) (λ f any. open_anew x number tries some f puts any) x.in_flight r.wave.each)
-      r.wave.stands (first_on puts (again puts) r.wave.stage (free_changed (awaits_at number) (lost_of tries) (λ m. refl) puts) r.wave.unmet))
+      r.wave.stands (first_on puts (again puts) r.wave.stage (free_changed (awaits_at number) (lost_of tries) (λ m. refl) puts) r.wave.unmet)
+      (λ number2 at some. r.wave.behind number2 at (fewer_awaited (awaits_at number) (lost_of tries) (λ m n. refl) number2 puts some)))
 
   -- the stage is lost, and is not late
   stage_lost : list_any (awaits_at number) puts ≡ false → (m : Message) → r.wave.stage ≡ m ∷ [] → awaits_at number m ≡ true → StageIsOut k w.t x w.stages m → stages_late x m.request ≡ false → InCall set k x P (wave_lost number tries x ms)
@@ -252,7 +254,8 @@ module _ (set : Setting) (k : Known) (x : OpenTxn) (n : ℕ) (ms : List Message)
         reads_there = out.reads_there;
         refreshes = out.refreshes;
       }))
-      (All-cons (IsFirstUnmet puts) (lost_of tries m) [] (λ unsent. let f : false ≡ true = sym (still_lost tries m.lost (one_more x number tries some m.lost)) ∙ unsent in absurd cc) (All-nil (IsFirstUnmet puts))))
+      (All-cons (IsFirstUnmet puts) (lost_of tries m) [] (λ unsent. let f : false ≡ true = sym (still_lost tries m.lost (one_more x number tries some m.lost)) ∙ unsent in absurd cc) (All-nil (IsFirstUnmet puts)))
+      (λ number2 at some there. absurd cc))
 
   -- ---- the stage is late: it leaves
 
@@ -361,6 +364,7 @@ module _ (set : Setting) (k : Known) (x : OpenTxn) (n : ℕ) (ms : List Message)
               each = r.wave.each;
               stands = record { one = out.one; kept = out.kept; here = out.here; late = all_late; refreshes = out.refreshes };
               unmet = All-nil (IsFirstUnmet puts);
+              behind = λ number2 at some there. absurd cc;
               last = λ quiet. not_quiet quiet;
             };
             piped = r.piped;
@@ -493,6 +497,7 @@ module _ (set : Setting) (k : Known) (x : OpenTxn) (p : Purpose) (ms : List Mess
         why = r.why;
         wave = r.wave;
         waiting = r.waiting;
+        still = r.still;
         first = r.first;
         paced = r.paced;
         fewer = r.fewer;

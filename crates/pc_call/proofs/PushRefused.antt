@@ -58,7 +58,7 @@ use Rattle.pc_txn.specs.Opened.{meta_now, put_at}
 use Rattle.pc_txn.specs.Standing.{HasMovedOn, LeavesAsIs, TxnStands, is_plain, is_query_of}
 use Rattle.pc_wave.proofs.Changed.{any_none, found_all}
 use Rattle.pc_wave.proofs.Lists.{any_before, at_least-before}
-use Rattle.pc_wave.proofs.Rounds.{IsInRound, due_round, first_pending}
+use Rattle.pc_wave.proofs.Rounds.{IsInRound, due_round, first_pending, none_out}
 use Rattle.pc_wave.proofs.Standings.{IsOther, IsOtherSent, go_out-kept, stands-kept, here-kept}
 use Rattle.pc_wave.proofs.Tries.{idle_tried, or_parts}
 use Rattle.pc_wave.specs.declared.message.Message.{Message}
@@ -399,6 +399,7 @@ module _ (session clock count : ℕ) (set : Setting) (start k : Known) (x : Open
             (All-weaker (λ m. IsTrue (goes_beside m.request)) IsSilentSent (λ m of. beside_silent m.request of) g.sent_more g.sent_beside)
             (All-weaker (λ h. IsTrue (goes_beside h.request)) IsSilentHeard (λ h of. beside_silent h.request of) g.heard_more g.heard_beside) (λ quiet. subst (λ q. HasBeatenBy q start w.t) e (w.beaten quiet));
         plain = w.plain;
+        still = none_out ms idle.1;
         commits = record {
           call = r.commits.call;
           anchor = r.commits.anchor;
@@ -419,6 +420,7 @@ module _ (session clock count : ℕ) (set : Setting) (start k : Known) (x : Open
           each = r.wave.each;
           stands = stage_then r.wave.stage r.wave.stands;
           unmet = r.wave.unmet;
+          behind = r.wave.behind;
           last = r.wave.last;
         };
         next = refused_next;

@@ -415,6 +415,7 @@ module _ (set : Setting) (k : Known) (x : OpenTxn) (n : ℕ) (ms : List Message)
             why = b.why;
             wave = b.staged;
             waiting = b.wave;
+            still = b.still;
             first = λ put found. subst (SendsWrite own.w) (same_Some m0 put (sym first_whole ∙ found)) (meta_now x own.anchor, own.ts, own.said);
             paced = b.paced;
             fewer = b.fewer;

@@ -4,7 +4,7 @@ use Rattle.std.specs.List.{list_any}
 use Rattle.std.proofs.lemmas.Bool.{and_from, and_parts, eq-eqb, ne_eqb}
 use Rattle.std.proofs.lemmas.List.{append-nil}
 use Rattle.std.proofs.lemmas.List.Elements.{All-append, All-cons, All-contains, All-head, All-nil, All-push, All-tail, All-weaker}
-use Rattle.std.proofs.lemmas.List.Folds.{list_any-append}
+use Rattle.std.proofs.lemmas.List.Folds.{list_any-append, list_any_none}
 use Rattle.std.proofs.lemmas.Option.{same_Some}
 use Rattle.pc_base.specs.declared.limits.TheConstants.{MOST_CONFLICTS}
 use Rattle.pc_base.specs.declared.transaction.TxnId.{TxnId}
@@ -67,7 +67,7 @@ use Rattle.pc_txn.specs.Counted.{IsCounted}
 use Rattle.pc_txn.specs.declared.txn.OpenTxn.{OpenTxn}
 use Rattle.pc_txn.specs.Opened.{meta_now, put_at, with_found}
 use Rattle.pc_txn.specs.Standing.{TxnStands, WasMissedAt}
-use Rattle.pc_wave.proofs.Changed.{found_all}
+use Rattle.pc_wave.proofs.Changed.{found_all, any_none}
 use Rattle.pc_wave.proofs.Lists.{any_before, at_least-before}
 use Rattle.pc_wave.proofs.Standings.{IsOther, IsOtherSent, go_out-kept, stands-kept, here-kept}
 use Rattle.pc_wave.proofs.Tries.{row-heard}
@@ -75,7 +75,7 @@ use Rattle.pc_wave.specs.Course.{Course}
 use Rattle.pc_wave.specs.declared.message.Message.{Message}
 use Rattle.pc_wave.specs.declared.message.Progress.{Progress}
 use Rattle.pc_wave.specs.declared.message.Progress.TheVariants as progresses
-use Rattle.pc_wave.specs.Messages.{is_in_conflict, losses_of, wave_awaits}
+use Rattle.pc_wave.specs.Messages.{is_in_conflict, losses_of, wave_awaits, awaits_at}
 use Rattle.pc_wave.specs.Standing.{AreOfTwo, CountsTries, IsAsFar, IsHeardTo, MessageStands, Pairwise, WaveStands}
 use Rattle.pc_wave.specs.Tries.{IsUnheardOf, sends_waited}
 use Rattle.pc_world.specs.Answering.{MayAnswer}
@@ -488,6 +488,16 @@ module _ (session clock count : ℕ) (set : Setting) (k : Known) (x : OpenTxn) (
       subst (λ ts. All (WasRefusedIfCommit ts k2.heard_now) k.sent_now) (sym write_same)
       (All-weaker (WasRefusedIfCommit w.t.write_ts k.heard_now) (WasRefusedIfCommit w.t.write_ts k2.heard_now) (λ m was commits. any_kept (IsRefusedBy w.t.write_ts m) k.heard_now (h ∷ []) (was commits)) k.sent_now q.refused)
 
+  -- what is waited for of those that are left was before
+  left_awaits : (number2 : ℕ) → wave_awaits number2 left_puts ≡ true → wave_awaits number2 all_puts ≡ true
+  left_awaits number2 some = by (wave_awaits number2 all_puts) refl
+    where
+      by : (b : Bool) → wave_awaits number2 all_puts ≡ b → wave_awaits number2 all_puts ≡ true
+      by true e = e
+      by false e =
+          let none : All (λ put. awaits_at number2 put ≡ false) left_puts = left_all (λ put. awaits_at number2 put ≡ false) all_puts (any_none (awaits_at number2) all_puts e) in
+          let f : false ≡ true = sym (list_any_none (awaits_at number2) left_puts none) ∙ some in absurd cc
+
   stages_on : ServesStage set.course n k2 w.s t2 x2 w.stages left
   stages_on = record {
     commits = record {
@@ -514,6 +524,7 @@ module _ (session clock count : ℕ) (set : Setting) (k : Known) (x : OpenTxn) (
       each = all_from_contains (λ f. Any (IsOpenFor f) left_puts) flight2 each_then;
       stands = stage_then q.wave.stage q.wave.stands;
       unmet = first_on all_puts left_puts q.wave.stage (left_all (λ put. is_in_conflict put ≡ false) all_puts) q.wave.unmet;
+      behind = λ number2 at some. q.wave.behind number2 at (left_awaits number2 some);
       last = λ quiet. left_all (λ put. All (GoesOutBefore put) q.wave.stage) all_puts (q.wave.last quiet);
     };
     piped = pipelined_by set.course.pipelines x.in_flight q.w (subst (λ call. SuitsFlightIn set.course.pipelines call x.in_flight) q.commits.call w.plain) q.there;

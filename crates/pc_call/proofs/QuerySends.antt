@@ -217,8 +217,10 @@ module _ (session clock count : ℕ) (set : Setting) (k : Known) (x : OpenTxn) (
       each = q.wave.each;
       stands = stage_then q.wave.stage q.wave.stands;
       unmet = q.wave.unmet;
+      behind = q.wave.behind;
       last = q.wave.last;
     };
+    still = q.still;
     waiting = record { stand = all_wait puts all_apart q.waiting.stand; differ = q.waiting.differ };
     first = q.first;
     paced = q.paced;

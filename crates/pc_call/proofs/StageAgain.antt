@@ -10,7 +10,7 @@ use Rattle.pc_call.proofs.Facts.{are_numbered}
 use Rattle.pc_call.proofs.Lists.{all_behind}
 use Rattle.pc_call.proofs.Meeting.{any_goes_on}
 use Rattle.pc_call.proofs.StageHears.{conflict_no_stage}
-use Rattle.pc_call.proofs.StageLists.{changed_front, find_behind, found_front, front_two, met_over, none_found, order_kept, first_on, free_changed}
+use Rattle.pc_call.proofs.StageLists.{changed_front, find_behind, found_front, front_two, met_over, none_found, order_kept, first_on, free_changed, out_before}
 use Rattle.pc_call.proofs.StageSends.{or_first}
 use Rattle.pc_call.specs.declared.purpose.Purpose.{Purpose}
 use Rattle.pc_call.specs.declared.purpose.Purpose.TheVariants as purposes
@@ -265,6 +265,7 @@ module _ (session clock count : ℕ) (set : Setting) (start k : Known) (x : Open
           (λ f some. any_goes_on (conflicts_at number) goes_again (IsOpenFor f) (λ y at goes. (goes.0, refl)) r.wave.puts some) x.in_flight r.wave.each;
       stands = stage_on r.wave.stage r.wave.stands;
       unmet = first_on r.wave.puts puts2 r.wave.stage (free_changed (conflicts_at number) goes_again (λ m. refl) r.wave.puts) r.wave.unmet;
+      behind = out_before puts2 r.wave.stage (all_last puts2);
       last = λ quiet. all_last puts2;
     };
     piped = r.piped;

@@ -424,6 +424,7 @@ module _ (set : Setting) (n : ℕ) (k : Known) (x : OpenTxn) (s : Statement) (pu
             refreshes = c.refreshes;
           });
       unmet = All-cons (IsFirstUnmet ms) (message_to_send staged) [] (λ unsent. every_put (λ m. is_in_conflict m ≡ false) (λ w there. (proves w there).free)) (All-nil (IsFirstUnmet ms));
+      behind = λ number at out waits. absurd cc;
       last = λ quiet. every_put (λ put. All (GoesOutBefore put) (message_to_send staged ∷ [])) (λ w there. All-cons (GoesOutBefore (message w)) (message_to_send staged) [] (λ at waits. absurd cc) (All-nil (GoesOutBefore (message w))));
     };
     unpushed = c.settled.push;

@@ -29,11 +29,12 @@ use Rattle.pc_txn.specs.Opened.{meta_now, put_at}
 use Rattle.pc_txn.specs.Standing.{TxnStands}
 use Rattle.pc_wave.proofs.Changed.{found_all}
 use Rattle.pc_wave.specs.declared.message.Message.{Message}
-use Rattle.pc_wave.specs.Messages.{is_in_conflict}
+use Rattle.pc_wave.specs.Messages.{is_in_conflict, is_out}
 use Rattle.pc_world.specs.Counting.{AtLeast}
 use Rattle.pc_world.specs.Known.{Known}
 use Rattle.pc_world.specs.Send.Recovery.{IsBlockedWrite, put_met}
 use Rattle.pc_world.specs.Tell.Refusal.{IsConflictOf}
+use Rattle.std.specs.List.{list_any}
 
 module _ {X : Type 0} (P : X → Type 0) (test : X → Bool) (passes : (x : X) → P x → test x ≡ true) where
   -- as many pass as there are at least
@@ -50,7 +51,7 @@ module _ {X : Type 0} (P : X → Type 0) (test : X → Bool) (passes : (x : X) �
       let low = at_least_counted (suc n) xs rest in
       omega (arith, c, low)
 
-module _ (set : Setting) (k : Known) (x : OpenTxn) (p : Purpose) (ms : List Message) (w : InCall set k x p ms) (n : ℕ) (e : p ≡ purposes.Stage n) (holder : TxnId) (next : IsNextBlock k holder) (why : IsBlockedWhy k holder) where
+module _ (set : Setting) (k : Known) (x : OpenTxn) (p : Purpose) (ms : List Message) (w : InCall set k x p ms) (n : ℕ) (e : p ≡ purposes.Stage n) (holder : TxnId) (next : IsNextBlock k holder) (why : IsBlockedWhy k holder) (still : list_any is_out ms ≡ false) where
   abbrev r : ServesStage set.course n k w.s w.t x w.stages ms
   r = subst (λ q. Serves set k w.s w.t x w.stages q ms) e w.serves
 
@@ -103,6 +104,7 @@ module _ (set : Setting) (k : Known) (x : OpenTxn) (p : Purpose) (ms : List Mess
     opened = w.opened;
     split = w.split;
     wave = w.wave;
+    still = still;
     paced = record { pushes = λ id. let low = w.paced.pushes id in let fewer = held_fewer id ms in omega (arith, low, fewer); behind = w.paced.behind };
     fewer = subst (λ q. NoOtherMetEighth (WaitsMeanwhile q w.t.id w.t.epoch x.in_flight) k.heard_now ms) e w.fewer;
     done = subst (λ q. AreAskedOrDone (WaitsMeanwhile q w.t.id w.t.epoch x.in_flight) k (map (λ m. m.request) ms)) e w.done;

@@ -1,5 +1,5 @@
 -- A put of a commit that stages came back: it met an intent, or its write was written.
-use Rattle.std.proofs.Common.{◌≡◌, ℕ, ◌+◌, ◌≤◌, Bool, true, false, cond, ◌⊎◌, inl, inr, List, [], ◌∷◌, ◌++◌, length, filter, find, Option, Some, None, refl, sym, ap, ◌∙◌, subst, arith, All, Any, Contains, IsTrue}
+use Rattle.std.proofs.Common.{◌≡◌, ℕ, ◌+◌, ◌≤◌, Bool, true, false, cond, ◌⊎◌, inl, inr, List, [], ◌∷◌, ◌++◌, length, filter, find, Option, Some, None, refl, sym, ap, ◌∙◌, subst, arith, All, Any, Contains, IsTrue, ◌<◌}
 use Rattle.std.proofs.lemmas.Bool.{and_parts}
 use Rattle.std.proofs.lemmas.List.Elements.{All-cons, All-contains, All-head, All-nil, All-push, All-weaker}
 use Rattle.std.proofs.lemmas.Option.{same_Some}
@@ -9,7 +9,7 @@ use Rattle.pc_call.proofs.StillReplies.{fewer_suit}
 use Rattle.pc_call.proofs.Hearing as Hearing
 use Rattle.pc_call.proofs.Lists.{all_changed, all_front, all_behind}
 use Rattle.pc_call.proofs.Meeting.{any_goes_on}
-use Rattle.pc_call.proofs.StageLists.{changed_front, find_behind, found_front, front_two, met_changed, met_more, none_found, order_kept, first_vacuous}
+use Rattle.pc_call.proofs.StageLists.{changed_front, find_behind, found_front, front_two, met_changed, met_more, none_found, order_kept, first_vacuous, fewer_awaited}
 use Rattle.pc_call.proofs.WhyStays.{made_then}
 use Rattle.pc_call.specs.declared.purpose.Purpose.{Purpose}
 use Rattle.pc_call.specs.declared.purpose.Purpose.TheVariants as purposes
@@ -224,6 +224,9 @@ module _ (session clock count : ℕ) (set : Setting) (k : Known) (x : OpenTxn) (
       (λ before. All-weaker (GoesOutBefore m0) (GoesOutBefore (back_with number reply m0)) (λ other goes at waits. (out, λ its waits. absurd (came its waits))) r.wave.stage before)
       (λ y apart before. before) r.wave.puts in_puts two_puts (r.wave.last quiet)
 
+  behind2 : ((m : Message) (n : ℕ) → awaits_at n (back_with number reply m) ≡ false) → (number2 at : ℕ) → wave_awaits number2 puts2 ≡ true → wave_awaits at r.wave.stage ≡ true → number2 < at
+  behind2 gone number2 at out = r.wave.behind number2 at (fewer_awaited (awaits_at number) (back_with number reply) gone number2 r.wave.puts out)
+
   rounds_of_put : (rounds_made k2) ≡ gone_on (with_conflict h (rounds_made k))
   rounds_of_put =
       made_then k w.t h w.open_in
@@ -311,6 +314,7 @@ module _ (session clock count : ℕ) (set : Setting) (k : Known) (x : OpenTxn) (
             x.in_flight r.wave.each;
         stands = stage_then r.wave.stage r.wave.stands;
         unmet = first_vacuous puts2 r.wave.stage (stage_gone r.wave.stage r.wave.stands (all_behind IsOutOrLost r.wave.puts r.wave.stage (subst (λ ms. All IsOutOrLost ms) r.wave.whole sent)));
+        behind = behind2 (λ m n. ap (awaits_at n) (ap (λ b. back_with_by b number reply m) conflict));
         last = last2 (ap is_to_send back_is) (λ at waits. let f : false ≡ true = sym (ap (awaits_at at) back_is) ∙ waits in absurd cc);
       };
       piped = r.piped;
@@ -386,6 +390,7 @@ module _ (session clock count : ℕ) (set : Setting) (k : Known) (x : OpenTxn) (
         each = all_from_contains (λ f. Any (IsOpenFor f) puts2) (filter (is_another own.w.key own.w.seq) x.in_flight) each_then;
         stands = stage_on r.wave.stage stage_sent r.wave.stands;
         unmet = first_vacuous puts2 r.wave.stage stage_sent;
+        behind = behind2 (λ m n. ap (awaits_at n) (back_so m));
         last = last2 (ap is_to_send (back_so m0)) (λ its waits. let f : false ≡ true = sym (ap (awaits_at its) (back_so m0)) ∙ waits in absurd cc);
       };
       piped = r.piped;

@@ -1,19 +1,19 @@
 -- What is found and changed in two lists of messages, one behind the other.
-use Rattle.std.proofs.Common.{◌≡◌, ℕ, nat_lt, Bool, true, false, cond, ◌||◌, ◌⊎◌, inl, inr, List, [], ◌∷◌, ◌++◌, drop, find, Some, None, refl, sym, ap, ◌∙◌, subst, arith, All, IsTrue, ◌&&◌, ◌==◌}
+use Rattle.std.proofs.Common.{◌≡◌, ℕ, ◌<◌, nat_lt, Bool, true, false, cond, ◌||◌, ◌⊎◌, inl, inr, List, [], ◌∷◌, ◌++◌, drop, find, Some, None, refl, sym, ap, ◌∙◌, subst, arith, All, IsTrue, ◌&&◌, ◌==◌}
 use Rattle.std.proofs.lemmas.Bool.{ltb-true}
 use Rattle.std.proofs.lemmas.Option.{same_Some}
 use Rattle.std.proofs.lemmas.List.Elements.{All-cons, All-head, All-nil, All-tail, All-weaker}
-use Rattle.pc_call.proofs.Lists.{all_front}
+use Rattle.pc_call.proofs.Lists.{all_behind, all_front}
 use Rattle.pc_call.specs.Met.{AreMetBy, HasMetConflict}
-use Rattle.pc_call.specs.Serving.{PutsEarlier, IsFirstUnmet}
+use Rattle.pc_call.specs.Serving.{GoesOutBefore, PutsEarlier, IsFirstUnmet}
 use Rattle.pc_follows.specs.RoundOrder.{goes_first, is_earlier_piece, is_lower_put, with_waiting}
 use Rattle.pc_proto.specs.declared.request.Request.{Request}
 use Rattle.pc_proto.specs.declared.request.Request.TheVariants as requests
-use Rattle.pc_wave.proofs.Changed.{found_all}
+use Rattle.pc_wave.proofs.Changed.{found_all, found_passes, found_some}
 use Rattle.pc_wave.specs.declared.message.Message.{Message}
 use Rattle.pc_wave.specs.declared.message.Progress.{Progress}
 use Rattle.pc_wave.specs.declared.message.Progress.TheVariants as progresses
-use Rattle.pc_wave.specs.Messages.{conflicts_at, first_changed, goes_again, is_in_conflict, progress_conflicts, progress_in_conflict, is_to_send}
+use Rattle.pc_wave.specs.Messages.{awaits_at, conflicts_at, first_changed, goes_again, is_in_conflict, progress_conflicts, progress_in_conflict, is_to_send, wave_awaits}
 use Rattle.pc_wave.specs.Standing.{AreOfTwo, Pairwise}
 use Rattle.pc_world.specs.Known.Traffic.{Heard}
 
@@ -225,3 +225,35 @@ free_changed test change free (m ∷ ms) all = by (test m) (free_changed test ch
     by : (b : Bool) → All (λ m. is_in_conflict m ≡ false) (first_changed test change ms) → All (λ m. is_in_conflict m ≡ false) (cond b (change m ∷ ms) (m ∷ first_changed test change ms))
     by true later = All-cons (λ m. is_in_conflict m ≡ false) (change m) ms (free m) (All-tail (λ m. is_in_conflict m ≡ false) m ms all)
     by false later = All-cons (λ m. is_in_conflict m ≡ false) m (first_changed test change ms) (All-head (λ m. is_in_conflict m ≡ false) m ms all) later
+
+-- ---- what is waited for
+
+-- where what changes is waited for no more, no other is
+pub fewer_awaited : (test : Message → Bool) (change : Message → Message) → ((m : Message) (n : ℕ) → awaits_at n (change m) ≡ false) → (n : ℕ) (ms : List Message) → wave_awaits n (first_changed test change ms) ≡ true → wave_awaits n ms ≡ true
+fewer_awaited test change gone n [] some = absurd cc
+fewer_awaited test change gone n (m ∷ ms) some = by (test m) some
+  where
+    rest : (a : Bool) → (a || wave_awaits n (first_changed test change ms)) ≡ true → (a || wave_awaits n ms) ≡ true
+    rest true e = refl
+    rest false e = fewer_awaited test change gone n ms e
+
+    later : (a : Bool) → wave_awaits n ms ≡ true → (a || wave_awaits n ms) ≡ true
+    later true e = refl
+    later false e = e
+
+    by : (b : Bool) → wave_awaits n (cond b (change m ∷ ms) (m ∷ first_changed test change ms)) ≡ true → (awaits_at n m || wave_awaits n ms) ≡ true
+    by true e = later (awaits_at n m) (sym (ap (λ b. b || wave_awaits n ms) (gone m n)) ∙ e)
+    by false e = rest (awaits_at n m) e
+
+-- each that is waited for went out before these
+pub out_before : (puts stage : List Message) → All (λ put. All (GoesOutBefore put) stage) puts → (number at : ℕ) → wave_awaits number puts ≡ true → wave_awaits at stage ≡ true → number < at
+out_before puts stage all number at some there =
+    let f = found_some (awaits_at number) puts some in
+    let g = found_some (awaits_at at) stage there in
+    let goes = found_all (awaits_at at) (GoesOutBefore f.0) stage g.0 g.1 (found_all (awaits_at number) (λ put. All (GoesOutBefore put) stage) puts f.0 f.1 all) in
+    (goes at (found_passes (awaits_at at) stage g.0 g.1)).1 number (found_passes (awaits_at number) puts f.0 f.1)
+
+-- what holds of each two holds of each of the first and each behind them
+pub pairs_across : {X : Type 0} (R : X → X → Type 0) (xs ys : List X) → Pairwise R (xs ++ ys) → All (λ x. All (R x) ys) xs
+pairs_across R [] ys two = All-nil (λ x. All (R x) ys)
+pairs_across R (x ∷ xs) ys two = All-cons (λ x. All (R x) ys) x xs (all_behind (R x) xs ys two.0) (pairs_across R xs ys two.1)

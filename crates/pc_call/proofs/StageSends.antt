@@ -9,7 +9,7 @@ use Rattle.std.proofs.lemmas.Option.{same_Some}
 use Rattle.pc_call.proofs.JustSo.{just_so_sent}
 use Rattle.pc_call.proofs.Lists.{all_changed, all_front}
 use Rattle.pc_call.proofs.Meeting.{any_goes_on}
-use Rattle.pc_call.proofs.StageLists.{changed_behind, changed_front, find_behind, found_front, front_two, met_changed, none_found, order_kept, first_on, first_vacuous, free_changed}
+use Rattle.pc_call.proofs.StageLists.{changed_behind, changed_front, find_behind, found_front, front_two, met_changed, none_found, order_kept, first_on, first_vacuous, free_changed, out_before, pairs_across}
 use Rattle.pc_call.proofs.Steps.{again_then, before_same, commit_call2, first_one, gone_out, numbered_now, st_one}
 use Rattle.pc_call.proofs.WhySent.{rounds_sent}
 use Rattle.pc_call.specs.declared.purpose.Purpose.{Purpose}
@@ -17,7 +17,7 @@ use Rattle.pc_call.specs.declared.purpose.Purpose.TheVariants as purposes
 use Rattle.pc_call.specs.Learned.{known_sent}
 use Rattle.pc_call.specs.Met.{AreMetBy}
 use Rattle.pc_call.specs.Opening.{after_send, staged_by}
-use Rattle.pc_call.specs.Serving.{GoesOutBefore, InCall, IsOpenFor, IsRefreshUpTo, KeepsStages, SendsAgain, Serves, ServesStage, StageIsNext, StageIsOut, StageStands, WasRefusedIfCommit, out_of}
+use Rattle.pc_call.specs.Serving.{GoesOutBefore, InCall, IsOpenFor, IsRefreshUpTo, KeepsStages, SendsAgain, Serves, ServesStage, StageIsNext, StageIsOut, StageStands, WasRefusedIfCommit, out_of, GoesOutFirst, SendsInOrder}
 use Rattle.pc_call.specs.Setting.{Setting}
 use Rattle.pc_follows.specs.RoundsMade.{RoundCount, rounds_made}
 use Rattle.pc_proto.specs.declared.call.Call.TheVariants as calls
@@ -32,13 +32,13 @@ use Rattle.pc_txn.specs.declared.txn.OpenTxn.{OpenTxn}
 use Rattle.pc_txn.specs.Opened.{put_at}
 use Rattle.pc_txn.specs.Staged.{stage_now, with_stage}
 use Rattle.pc_txn.specs.Standing.{HasMovedOn, TxnStands}
-use Rattle.pc_wave.proofs.Changed.{found_all, found_passes}
+use Rattle.pc_wave.proofs.Changed.{found_all, found_passes, found_some}
 use Rattle.pc_wave.proofs.Hearing.{awaits_as}
 use Rattle.pc_wave.specs.declared.message.Message.{Message}
 use Rattle.pc_wave.specs.declared.message.Progress.{Progress}
 use Rattle.pc_wave.specs.declared.message.Progress.TheVariants as progresses
 use Rattle.pc_wave.specs.declared.step.Step.TheVariants as steps
-use Rattle.pc_wave.specs.Messages.{awaits_at, first_changed, is_in_conflict, is_to_send, progress_has_answer, progress_in_conflict, progress_to_send, sent_under, step_of}
+use Rattle.pc_wave.specs.Messages.{awaits_at, first_changed, is_in_conflict, is_to_send, progress_has_answer, progress_in_conflict, progress_to_send, sent_under, step_of, wave_awaits}
 use Rattle.pc_wave.specs.Standing.{AreOfTwo, IsAsFar, MessageStands, Pairwise}
 use Rattle.pc_world.specs.Known.{Known, next_number}
 use Rattle.pc_world.specs.Known.Traffic.{Sent}
@@ -75,13 +75,17 @@ unanswered_now (progresses.Sent number) is = absurd cc
 unanswered_now (progresses.Met number conflict) is = absurd cc
 unanswered_now (progresses.Answered number reply) is = absurd cc
 
+alone : (a : Bool) → (a || false) ≡ true → a ≡ true
+alone true e = refl
+alone false e = e
+
 -- a message that was lost stages no more
 lost_no_stage : (b : Bool) (lost : ℕ) → 1 ≤ lost → (b && (lost == 0)) ≡ false
 lost_no_stage false lost some = refl
 lost_no_stage true lost some = ne_eqb lost 0 (λ none. omega (arith, some, none))
 
 module _ (session clock count : ℕ) (set : Setting) (k : Known) (x : OpenTxn) (p : Purpose) (ms : List Message) (counted : IsCounted session clock count k) (w : InCall set k x p ms)
-    (request : Request) (due : step_of ms ≡ steps.Send request) (number : ℕ) (next : number ≡ next_number k) (range n : ℕ) (is : p ≡ purposes.Stage n) where
+    (request : Request) (due : step_of ms ≡ steps.Send request) (number : ℕ) (next : number ≡ next_number k) (range n : ℕ) (is : p ≡ purposes.Stage n) (order : set.course.loses ≡ true → SendsInOrder k ms) where
   abbrev m2 : Sent
   m2 = record { number = number; range = range; request = request }
 
@@ -192,6 +196,34 @@ module _ (session clock count : ℕ) (set : Setting) (k : Known) (x : OpenTxn) (
         All-weaker (GoesOutBefore m1) (GoesOutBefore (sent_under number m1))
         (λ other goes at waits. let f : false ≡ true = sym (goes at waits).0 ∙ to_send1 in absurd cc) stage before
 
+    -- what is out of the stage was sent in the call
+    sent_here : (stage : List Message) → StageStands k w.s w.t x w.stages r.commits.anchor stage → (at : ℕ) → wave_awaits at stage ≡ true → list_any (λ sent. sent.number == at) k.sent_now ≡ true
+    sent_here [] stands at waits = absurd cc
+    sent_here (m ∷ []) (inl next) at waits = let f : false ≡ true = sym (ap progress_to_send (awaits_as at m.progress (alone (awaits_at at m) waits))) ∙ next.to_send in absurd cc
+    sent_here (m ∷ []) (inr out) at waits = out.sent_now at (alone (awaits_at at m) waits)
+    sent_here (m ∷ other ∷ rest) both at waits = absurd both
+
+    -- so the stage is not out, where a put is to be sent
+    stage_still : (at : ℕ) → wave_awaits at r.wave.stage ≡ true → ⊥
+    stage_still at waits = by set.course.loses refl
+      where
+        there : (m : Message) × (find (awaits_at at) r.wave.stage ≡ Some m)
+        there = found_some (awaits_at at) r.wave.stage waits
+
+        its : awaits_at at there.0 ≡ true
+        its = found_passes (awaits_at at) r.wave.stage there.0 there.1
+
+        by : (b : Bool) → set.course.loses ≡ b → ⊥
+        by false quiet =
+            let goes = found_all (awaits_at at) (GoesOutBefore m1) r.wave.stage there.0 there.1 (found_all is_to_send IsBehind r.wave.puts m1 found (r.wave.last quiet)) in
+            let f : false ≡ true = sym (goes at its).0 ∙ to_send1 in
+            cc
+        by true loses =
+            let across = pairs_across (GoesOutFirst k) r.wave.puts r.wave.stage (subst (λ ms. Pairwise (GoesOutFirst k) ms) r.wave.whole (order loses)) in
+            let goes = found_all (awaits_at at) (GoesOutFirst k m1) r.wave.stage there.0 there.1 (found_all is_to_send (λ m. All (GoesOutFirst k m) r.wave.stage) r.wave.puts m1 found across) in
+            let f : false ≡ true = sym (goes to_send1 at its) ∙ sent_here r.wave.stage r.wave.stands at waits in
+            cc
+
     put_serves : ServesStage set.course n k2 w.s t2 x w.stages ms2
     put_serves = record {
       commits = record {
@@ -216,6 +248,7 @@ module _ (session clock count : ℕ) (set : Setting) (k : Known) (x : OpenTxn) (
             (λ f some. any_goes_on is_to_send (sent_under number) (IsOpenFor f) (λ y at goes. (goes.0, refl)) r.wave.puts some) x.in_flight r.wave.each;
         stands = stage_then r.wave.stage r.wave.stands;
         unmet = first_on r.wave.puts (first_changed is_to_send (sent_under number) r.wave.puts) r.wave.stage (free_changed is_to_send (sent_under number) (λ m. refl) r.wave.puts) r.wave.unmet;
+        behind = λ number2 at some waits. absurd (stage_still at waits);
         last = λ none_lost.
             all_changed AreOfTwo is_to_send (sent_under number) IsBehind IsBehind m1 (λ before. goes_then r.wave.stage before) (λ y apart before. before) r.wave.puts found two_puts (r.wave.last none_lost);
       };
@@ -376,6 +409,7 @@ module _ (session clock count : ℕ) (set : Setting) (k : Known) (x : OpenTxn) (
           each = r.wave.each;
           stands = inr new_out;
           unmet = first_vacuous r.wave.puts (sent_under number m1 ∷ []) (All-cons (λ m. is_to_send m ≡ false) (sent_under number m1) [] refl (All-nil (λ m. is_to_send m ≡ false)));
+          behind = out_before r.wave.puts (sent_under number m1 ∷ []) (all_before r.wave.puts stand_puts all_out);
           last = λ none_lost. all_before r.wave.puts stand_puts all_out;
         };
         piped = r.piped;
@@ -470,6 +504,7 @@ module _ (session clock count : ℕ) (set : Setting) (k : Known) (x : OpenTxn) (
           each = r.wave.each;
           stands = inr out_again;
           unmet = first_vacuous r.wave.puts (sent_under number m1 ∷ []) (All-cons (λ m. is_to_send m ≡ false) (sent_under number m1) [] refl (All-nil (λ m. is_to_send m ≡ false)));
+          behind = out_before r.wave.puts (sent_under number m1 ∷ []) (all_before r.wave.puts stand_puts all_out);
           last = λ none_lost. all_before r.wave.puts stand_puts all_out;
         };
         piped = r.piped;

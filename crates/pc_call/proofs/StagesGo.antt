@@ -12,7 +12,7 @@ use Rattle.pc_call.specs.Learned.{known_heard, known_sent}
 use Rattle.pc_call.specs.Missing.{IsAboveMisses}
 use Rattle.pc_call.specs.Opening.{after_send}
 use Rattle.pc_call.specs.Rounding.{MakesRound}
-use Rattle.pc_call.specs.Serving.{InCall, IsOutOrLost}
+use Rattle.pc_call.specs.Serving.{InCall, IsOutOrLost, SendsInOrder}
 use Rattle.pc_call.specs.Setting.{Setting}
 use Rattle.pc_proto.specs.declared.reply.Reply.{Reply}
 use Rattle.pc_proto.specs.declared.reply.Reply.TheVariants as replies
@@ -31,8 +31,8 @@ use Rattle.pc_world.specs.Known.Traffic.{Heard}
 
 module _ (session clock count : ℕ) (set : Setting) (k : Known) (x : OpenTxn) (p : Purpose) (ms : List Message) (counted : IsCounted session clock count k) (w : InCall set k x p ms) where
   module _ (request : Request) (due : step_of ms ≡ steps.Send request) (number : ℕ) (next : number ≡ next_number k) (range : ℕ) where
-    pub stage_sends : (n : ℕ) → p ≡ purposes.Stage n → InCall set (known_sent number range request k) (after_send (purposes.Stage n) ms x) p (first_changed is_to_send (sent_under number) ms)
-    stage_sends n e = StageSends.stage_sends session clock count set k x p ms counted w request due number next range n e
+    pub stage_sends : (n : ℕ) → p ≡ purposes.Stage n → (set.course.loses ≡ true → SendsInOrder k ms) → InCall set (known_sent number range request k) (after_send (purposes.Stage n) ms x) p (first_changed is_to_send (sent_under number) ms)
+    stage_sends n e order = StageSends.stage_sends session clock count set k x p ms counted w request due number next range n e order
 
     pub query_sends : (n : ℕ) (holder : TxnId) (puts : List Message) → p ≡ purposes.Query n holder puts → InCall set (known_sent number range request k) x p (first_changed is_to_send (sent_under number) ms)
     query_sends n holder puts e = QuerySends.query_sends session clock count set k x p ms counted w request due number next range n holder puts e

@@ -310,6 +310,7 @@ module _ (session clock count : ℕ) (set : Setting) (k : Known) (x : OpenTxn) (
         each = serves.wave.each;
         stands = inr out2;
         unmet = first_vacuous serves.wave.puts (back ∷ []) (All-cons (λ m. is_to_send m ≡ false) back [] refl (All-nil (λ m. is_to_send m ≡ false)));
+        behind = λ number at some waits. absurd cc;
         last = λ quiet. All-weaker (λ put. All (GoesOutBefore put) serves.wave.stage) (λ put. All (GoesOutBefore put) (back ∷ [])) (λ put before. All-cons (GoesOutBefore put) back [] (λ at other. absurd cc) (All-nil (GoesOutBefore put))) serves.wave.puts (serves.wave.last quiet);
       };
       piped = serves.piped;

@@ -1,5 +1,6 @@
 -- A commit that stages is blocked by the next conflict of its writes: no round of it is made, or its push was refused. RFC 20180324.
-use Rattle.std.specs.Prelude.{◌≡◌, ℕ, None, Some, List, map, find, All}
+use Rattle.std.specs.Prelude.{◌≡◌, ℕ, false, None, Some, List, map, find, All}
+use Rattle.std.specs.List.{list_any}
 use Rattle.pc_base.specs.declared.transaction.TxnId.{TxnId}
 use Rattle.pc_call.specs.Beaten.{HasBeatenIn}
 use Rattle.pc_call.specs.Beside.{AreAskedOrDone, IsOfProved}
@@ -17,7 +18,7 @@ use Rattle.pc_proto.specs.declared.why.Why.TheVariants as whys
 use Rattle.pc_txn.specs.declared.txn.OpenTxn.{OpenTxn}
 use Rattle.pc_txn.specs.Standing.{TxnStands}
 use Rattle.pc_wave.specs.declared.message.Message.{Message}
-use Rattle.pc_wave.specs.Messages.{is_in_conflict}
+use Rattle.pc_wave.specs.Messages.{is_in_conflict, is_out}
 use Rattle.pc_wave.specs.Standing.{WaveStands}
 use Rattle.pc_world.specs.Known.{Known}
 use Rattle.pc_world.specs.Known.Statements.{Statement}
@@ -26,7 +27,7 @@ use Rattle.pc_world.specs.Send.Recovery.{IsBlockedWrite}
 use Rattle.pc_world.specs.StageFate.{SentStage}
 
 -- The messages of a commit that stages stand beside what its session knows, but for the round of the next conflict, with this holder, which blocks it: the write
--- that met it is blocked.
+-- that met it is blocked. No reply is waited for.
 pub record IsBlockedStage (set : Setting) (k : Known) (x : OpenTxn) (refusals : ℕ) (messages : List Message) (holder : TxnId) : Type 0 where
   pub t : Txn
   pub open_in : IsOpenIn k t
@@ -37,6 +38,7 @@ pub record IsBlockedStage (set : Setting) (k : Known) (x : OpenTxn) (refusals : 
   pub opened : k.statement ≡ Some s
   pub split : IsSplit k
   pub wave : WaveStands set.course k messages
+  pub still : list_any is_out messages ≡ false
   pub paced : IsPaced (holders_met (without_blocked messages)) k.heard_now
   pub fewer : NoOtherMetEighth (IsOfProved t.id t.epoch x.in_flight) k.heard_now messages
   pub done : AreAskedOrDone (IsOfProved t.id t.epoch x.in_flight) k (map (λ m. m.request) messages)

@@ -35,7 +35,7 @@ use Rattle.pc_txn.specs.Writing.{WasAskedAt}
 use Rattle.pc_wave.specs.declared.message.Message.{Message}
 use Rattle.pc_wave.specs.declared.message.Progress.{Progress}
 use Rattle.pc_wave.specs.declared.message.Progress.TheVariants as progresses
-use Rattle.pc_wave.specs.Messages.{awaits_at, counted_losses, has_answer, is_to_send, wave_awaits, is_in_conflict}
+use Rattle.pc_wave.specs.Messages.{awaits_at, counted_losses, has_answer, is_out, is_to_send, wave_awaits, is_in_conflict}
 use Rattle.pc_wave.specs.Standing.{Pairwise, WaveStands, goes_beside}
 use Rattle.pc_wave.specs.Tries.{WasLostInARow}
 use Rattle.pc_wave.specs.Course.{Course}
@@ -402,13 +402,21 @@ StageStands k s t x stages anchor (m ∷ other ∷ more) = ⊥
 abbrev pub GoesOutBefore : Message → Message → Type 0
 GoesOutBefore one other = (at : ℕ) → awaits_at at other ≡ true → (is_to_send one ≡ false) × ((number : ℕ) → awaits_at number one ≡ true → number < at)
 
+-- Where the first is still to be sent, the other is not out that stands behind it, unless it was sent before the call.
+abbrev pub GoesOutFirst : Known → Message → Message → Type 0
+GoesOutFirst k one other = is_to_send one ≡ true → (number : ℕ) → awaits_at number other ≡ true → list_any (λ m. m.number == number) k.sent_now ≡ false
+
+-- The messages go out in their order.
+abbrev pub SendsInOrder : Known → List Message → Type 0
+SendsInOrder k messages = Pairwise (GoesOutFirst k) messages
+
 -- Where the stage is to be sent for the first time, none of the puts met an intent.
 abbrev pub IsFirstUnmet : List Message → Message → Type 0
 IsFirstUnmet puts m = is_unsent m ≡ true → All (λ put. is_in_conflict put ≡ false) puts
 
 -- The messages of a commit that stages: its writes in flight go out again, by sequence, or are on their way, and behind them the stage, before which none met an
--- intent; each that is in flight has its message; the conflicts that they met have their rounds in that order. Where nothing is lost, no put goes out again while
--- the stage is out.
+-- intent; each that is in flight has its message; the conflicts that they met have their rounds in that order. A put that is waited for went out
+-- before the stage. Where nothing is lost, no put goes out again while the stage is out.
 pub record StageWave (loses : Bool) (k : Known) (s : Statement) (t : Txn) (x : OpenTxn) (stages : List SentStage) (anchor : List ℕ) (messages : List Message) : Type 0 where
   pub puts : List Message
   pub stage : List Message
@@ -419,6 +427,7 @@ pub record StageWave (loses : Bool) (k : Known) (s : Statement) (t : Txn) (x : O
   pub each : All (λ w. Any (IsOpenFor w) puts) x.in_flight
   pub stands : StageStands k s t x stages anchor stage
   pub unmet : All (IsFirstUnmet puts) stage
+  pub behind : (number at : ℕ) → wave_awaits number puts ≡ true → wave_awaits at stage ≡ true → number < at
   pub last : loses ≡ false → All (λ put. All (GoesOutBefore put) stage) puts
 
 -- A commit stages, as writes are pipelined, and no round of its call was begun.
@@ -433,7 +442,7 @@ pub record ServesStage (course : Course) (refusals : ℕ) (k : Known) (s : State
 -- ---- a commit asks for a write of its stage
 
 -- The query asks for a write in flight that is blocked, by this holder, and is the next to block the call; the one stage that is not late lists it, at the
--- write timestamp. The messages of the stage wait meanwhile, and stand as they do while it stages, but for the round of the conflict with that write.
+-- write timestamp. The messages of the stage wait meanwhile, none of them for its reply, and stand as they do while it stages, but for the round of the conflict with that write.
 pub record ServesQuery (course : Course) (refusals : ℕ) (holder : TxnId) (puts : List Message) (k : Known) (s : Statement) (t : Txn) (x : OpenTxn) (stages : List SentStage) (messages : List Message) : Type 0 where
   pub commits : IsCommitCall refusals k s t x
   pub refused : All (WasRefusedIfCommit t.write_ts k.heard_now) k.sent_now
@@ -453,6 +462,7 @@ pub record ServesQuery (course : Course) (refusals : ℕ) (holder : TxnId) (puts
   pub why : IsBlockedWhy k holder
   pub wave : StageWave course.loses k s t x stages commits.anchor puts
   pub waiting : WaveStands course k puts
+  pub still : list_any is_out puts ≡ false
   pub first : (put : Message) → find is_in_conflict puts ≡ Some put → SendsWrite w put
   pub paced : IsPaced (holders_met (without_blocked puts)) k.heard_now
   pub fewer : NoOtherMetEighth (IsOfProved t.id t.epoch x.in_flight) k.heard_now puts

@@ -11,7 +11,7 @@ ghost use Rattle.pc_call.specs.Missing.{IsAboveMisses};
 ghost use Rattle.pc_call.specs.Outbox.{later_sent};
 ghost use Rattle.pc_call.specs.Rounding.{MakesRound};
 ghost use Rattle.pc_base.specs.Span.{same_key};
-ghost use Rattle.pc_call.specs.Serving.{InCall, write_call, IsOutOrLost};
+ghost use Rattle.pc_call.specs.Serving.{InCall, write_call, IsOutOrLost, SendsInOrder};
 ghost use Rattle.pc_call.specs.Stages.{KeepsOutbox};
 ghost use Rattle.pc_call.specs.Telling.{MayTellOpen};
 ghost use Rattle.pc_proto.specs.declared.answer.Answer.TheVariants as answers;
@@ -80,7 +80,7 @@ impl OpenCall {
     pub fn sent(&mut self, txn: &mut OpenTxn, number: u64) -> Result<(), NoMemory>
         ensures made { OnOk result (self.new ≡ record self.old { wave = first_changed is_to_send (sent_under number) self.old.wave }) }
         ensures noted { OnOk result (txn.new ≡ after_send self.old.purpose self.old.wave txn.old) }
-        ensures stands { (session clock begun range : ℕ) (set : Setting) (k : Known) (request : Request) → IsCounted session clock begun k → InCall set k txn.old self.old.purpose self.old.wave → step_of self.old.wave ≡ steps.Send request → number ≡ next_number k → OnOk result (InCall set (known_sent number range request k) txn.new self.new.purpose self.new.wave) }
+        ensures stands { (session clock begun range : ℕ) (set : Setting) (k : Known) (request : Request) → IsCounted session clock begun k → InCall set k txn.old self.old.purpose self.old.wave → step_of self.old.wave ≡ steps.Send request → number ≡ next_number k → (set.course.loses ≡ true → SendsInOrder k self.old.wave) → OnOk result (InCall set (known_sent number range request k) txn.new self.new.purpose self.new.wave) }
         ensures at_once { (session clock begun range : ℕ) (set : Setting) (k : Known) (request : Request) (key : List ℕ) (value : Option (List ℕ)) → IsCounted session clock begun k → InCall set k txn.old self.old.purpose self.old.wave → step_of self.old.wave ≡ steps.Send request → number ≡ next_number k → set.course.pipelines ≡ true → self.old.purpose ≡ purposes.Write → call_of k ≡ Some (write_call key value) → All (λ w. same_key w.key key ≡ false) txn.old.in_flight → OnOk result (MayTellOpen set session (known_sent number range request k) answers.Written txn.new) }
         ensures awaited { (request : Request) (other : ℕ) → step_of self.old.wave ≡ steps.Send request → OnOk result (wave_awaits other self.new.wave ≡ (number == other || wave_awaits other self.old.wave)) }
     {

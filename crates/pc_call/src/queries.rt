@@ -18,7 +18,7 @@ ghost use Rattle.pc_txn.specs.Counted.{IsCounted};
 ghost use Rattle.pc_txn.specs.Opened.{missed_at};
 ghost use Rattle.pc_txn.specs.Queries.{own_query};
 ghost use Rattle.pc_wave.specs.declared.message.Message.{Message};
-ghost use Rattle.pc_wave.specs.Messages.{is_in_conflict, is_to_send, message_to_send, wave_awaits};
+ghost use Rattle.pc_wave.specs.Messages.{is_in_conflict, is_to_send, message_to_send, wave_awaits, is_out};
 ghost use Rattle.pc_wave.specs.Standing.{IsHeardTo};
 ghost use Rattle.pc_world.specs.Known.{Known};
 ghost use Rattle.pc_world.specs.Known.Traffic.{Heard};
@@ -31,6 +31,7 @@ use pc_proto::Request;
 use pc_txn::OpenTxn;
 use pc_wave::{Message, Wave};
 use std::alloc::Global;
+ghost use Rattle.std.specs.List.{list_any}
 
 impl OpenCall {
     /// Whether the stage of its transaction is not late, so that a write of it that is blocked is to be asked for; else it gives up.
@@ -69,6 +70,7 @@ impl OpenCall {
         ensures staged { (n : ℕ) (holder : TxnId) (puts : List Message) → self.purpose ≡ purposes.Query n holder puts → IfSome result (λ made. made.purpose ≡ purposes.Stage n) }
         ensures some { (n : ℕ) (holder : TxnId) (puts : List Message) → self.purpose ≡ purposes.Query n holder puts → is_some result ≡ true }
         ensures found { txn.new ≡ found_by self.purpose txn.old }
+        ensures still { (n : ℕ) (set : Setting) (k : Known) (holder : TxnId) (puts : List Message) → InCall set k txn.old self.purpose self.wave → self.purpose ≡ purposes.Query n holder puts → IfSome result (λ made. list_any is_out made.wave ≡ false) }
         ensures stands { (session clock begun number n : ℕ) (set : Setting) (k : Known) (holder : TxnId) (puts : List Message) (h : Heard) → IsCounted session clock begun k → InCall set k txn.old self.purpose self.wave → self.purpose ≡ purposes.Query n holder puts → wave_awaits number self.wave ≡ true → IsHeardTo k number replies.Found h → IsAboveMisses k.heard h.request h.reply → IfSome result (λ made. InCall set (known_heard h k) txn.new made.purpose made.wave) }
     {
         let OpenCall { purpose, .. } = self;

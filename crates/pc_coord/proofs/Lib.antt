@@ -29,7 +29,6 @@ pub mod OwnMessages
 pub mod Ranged
 pub mod Rounds
 pub mod SetAside
-pub mod StageIdle
 pub mod Staging
 pub mod Steps
 pub mod Tells

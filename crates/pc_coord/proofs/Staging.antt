@@ -12,7 +12,7 @@ use Rattle.pc_call.specs.declared.purpose.Purpose.TheVariants as purposes
 use Rattle.pc_call.specs.Learned.{known_heard}
 use Rattle.pc_call.specs.Losses.{is_lost_after}
 use Rattle.pc_call.specs.Outbox.{IsApartFrom, WaitsInOutbox, has_put}
-use Rattle.pc_call.specs.Serving.{GoesOutBefore, InCall, IsOpenFor, SendsAgain, ServesStage, StageStands}
+use Rattle.pc_call.specs.Serving.{InCall, IsOpenFor, SendsAgain, ServesStage, StageStands}
 use Rattle.pc_call.specs.Setting.{Setting}
 use Rattle.pc_call.specs.Stages.{IsUndecidedAt, KeepsOutbox, counting_refusal, stage_told_if, stage_ts}
 use Rattle.pc_call.specs.Suiting.{SuitsFlightIn}
@@ -110,12 +110,12 @@ module _ (loses : Bool) (c : Coordination) (call : OpenCall) (x : OpenTxn) (numb
   f_waits : awaits_at number f.0 ≡ true
   f_waits = found_passes (awaits_at number) call.wave f.0 f.1
 
-  pub stage_last : loses ≡ false → (q : Message) → Contains call.wave q → (at : ℕ) → awaits_at at q ≡ true → at ≡ number
-  stage_last quiet q there at waits =
+  pub stage_last : (q : Message) → Contains call.wave q → (at : ℕ) → awaits_at at q ≡ true → at ≡ number
+  stage_last q there at waits =
       elim (split_of q there) [
         | inl put ↦
             absurd
-            (let low = (All-contains (GoesOutBefore q) s.wave.stage f.0 (All-contains (λ put. All (GoesOutBefore put) s.wave.stage) s.wave.puts q (s.wave.last quiet) put) in_stage number f_waits).1 at waits in
+            (let low = s.wave.behind at number (awaits_in at s.wave.puts q put waits) (awaits_in number s.wave.stage f.0 in_stage f_waits) in
             let first = is.turn at (awaits_in at call.wave q there waits) in
             omega (arith, low, first))
         | inr stage ↦
@@ -123,18 +123,18 @@ module _ (loses : Bool) (c : Coordination) (call : OpenCall) (x : OpenTxn) (numb
             one_number at number q waits (subst (λ m. awaits_at number m ≡ true) same f_waits))
       ]
 
-  pub stage_idle : loses ≡ false → (other : ℕ) → wave_awaits other (first_changed (awaits_at number) (back_with number reply) call.wave) ≡ false
-  stage_idle quiet other = heard_awaits number other reply set.course k call.wave w.wave is.waited ∙ by (wave_awaits other call.wave) refl
+  pub stage_idle : (other : ℕ) → wave_awaits other (first_changed (awaits_at number) (back_with number reply) call.wave) ≡ false
+  stage_idle other = heard_awaits number other reply set.course k call.wave w.wave is.waited ∙ by (wave_awaits other call.wave) refl
     where
       by : (b : Bool) → wave_awaits other call.wave ≡ b → (b && not (number == other)) ≡ false
       by false e = refl
       by true e =
           let o = awaited_in other call.wave e in
-          let same : other ≡ number = stage_last quiet o.0 o.1 other o.2 in
+          let same : other ≡ number = stage_last o.0 o.1 other o.2 in
           ap not (eq-eqb number other (sym same))
 
   pub stage_aside : (x2 : OpenTxn) → StaysBut h.request x x2 → HasAside loses (known_heard h k) x2 c.later
-  stage_aside x2 stays = aside_over set k x call.purpose call.wave w c.pipelining c.later is.aside number reply h is.waited is.heard stage_last x2 stays.0 stays.1
+  stage_aside x2 stays = aside_over set k x call.purpose call.wave w c.pipelining c.later is.aside number reply h is.waited is.heard (λ quiet. stage_last) x2 stays.0 stays.1
 
   pub stage_over : AreAllHeard loses (known_heard h k)
   stage_over = all_over (known_heard h k) (split_heard loses c call x number reply k h is) x c.later (stage_aside x (stays_but h.request x x ((λ anchor. refl), (λ f there. there))))

@@ -18,6 +18,8 @@ use Rattle.pc_proto.specs.Replies.{holder_in}
 use Rattle.pc_wave.specs.declared.message.Message.{Message}
 use Rattle.pc_wave.specs.declared.step.Step.TheVariants as steps
 use Rattle.pc_wave.specs.Messages.{conflicts_at, first_changed, goes_again, is_in_conflict, step_of, wave_awaits}
+use Rattle.pc_call.specs.Serving.{SendsInOrder}
+use Rattle.pc_world.specs.Known.{Known}
 
 -- Only replies to puts that waited in the outbox are waited for.
 abbrev pub AwaitsOutbox : List LaterPut → Due → Type 0
@@ -52,6 +54,11 @@ abbrev pub ComesOf : List Message → Due → Type 0
 ComesOf messages dues.Nothing = ⊤
 ComesOf messages (dues.Call call) = (call.wave ≡ messages) ⊎ (AreToSendOrOnWay call.wave × (list_any is_in_conflict messages ≡ false))
 ComesOf messages (dues.Tell answer) = IsBlockOf messages answer
+
+-- The messages of the call go out in their order.
+abbrev pub GoesInOrder : Known → Due → Type 0
+GoesInOrder k (dues.Call call) = SendsInOrder k call.wave
+GoesInOrder k _ = ⊤
 
 -- The call goes on by just these messages.
 abbrev pub GoesOnBy : List Message → Due → Type 0

@@ -4,7 +4,7 @@ ghost use Rattle.pc_call.specs.declared.call.OpenCall.{OpenCall};
 ghost use Rattle.pc_call.specs.declared.purpose.Purpose.TheVariants as purposes;
 ghost use Rattle.pc_call.specs.Outbox.{has_waited};
 ghost use Rattle.pc_coord.specs.Beside.{IsLaterBeside};
-ghost use Rattle.pc_coord.specs.Coming.{AwaitsAfter, AwaitsOutbox, ComesOf, ComesOfRound, GoesOnBy, goes_by_sequence};
+ghost use Rattle.pc_coord.specs.Coming.{AwaitsAfter, AwaitsOutbox, ComesOf, ComesOfRound, GoesInOrder, GoesOnBy, goes_by_sequence};
 ghost use Rattle.pc_coord.specs.Coordination.{Coordination, SendsNoMore, awaits_number, is_writing, new_coordination, next_by, next_in, next_of, opened_by, with_clock, with_nothing_due, without_call, without_job, without_txn};
 ghost use Rattle.pc_coord.specs.declared.due.Due.TheVariants as dues;
 ghost use Rattle.pc_coord.specs.declared.due.Opened.{Opened};
@@ -161,7 +161,7 @@ impl<'a> Coordinator<'a> {
 
     /// The message that `next` gave went out under this number, the session's next one; where messages may be lost, to the range of those of its request.
     pub fn sent(&mut self, number: u64) -> Result<(), NoMemory>
-        ensures knows { (loses : Bool) (k : Known) (p : Pair Event) (range : ℕ) (request : Request) → Knows loses self.old k → SendsDue self.old number range request k p → (loses ≡ true → GoesWhereItWent range request k.sent) → OnOk result (Knows loses self.new (learn p k)) }
+        ensures knows { (loses : Bool) (k : Known) (p : Pair Event) (range : ℕ) (request : Request) → Knows loses self.old k → SendsDue self.old number range request k p → (loses ≡ true → GoesWhereItWent range request k.sent) → (loses ≡ true → GoesInOrder k self.old.due) → OnOk result (Knows loses self.new (learn p k)) }
         ensures waits { (request : Request) (other : ℕ) → next_of self.old ≡ nexts.Send request → OnOk result (awaits_number other self.new.due ≡ (number == other || awaits_number other self.old.due)) }
         ensures comes { (o : Opened) (request : Request) → opened_by self.old.txn self.old.due ≡ Some o → next_of self.old ≡ nexts.Send request → OnOk result (self.new.due ≡ dues.Call (record o.call { wave = first_changed is_to_send (sent_under number) o.call.wave })) }
         ensures kept { (request : Request) → next_of self.old ≡ nexts.Send request → OnOk result (self.new.later ≡ self.old.later) }
@@ -182,9 +182,9 @@ impl<'a> Coordinator<'a> {
     /// for want of memory, and where the session's sequences or epochs are used up.
     pub fn heard(&mut self, number: u64, step: u64, reply: &Reply) -> Result<(), NoMemory>
         ensures knows { (loses : Bool) (k : Known) (p : Pair Event) → Knows loses self.old k → HearsAwaited self.old number step reply.now k p → OnOk result (Knows loses self.new (learn p k)) }
-        ensures waits { (loses : Bool) (k : Known) (p : Pair Event) → loses ≡ false → Knows loses self.old k → HearsAwaited self.old number step reply.now k p → OnOk result (AwaitsAfter number self.old self.new.due) }
+        ensures waits { (loses : Bool) (k : Known) (p : Pair Event) → Knows loses self.old k → HearsAwaited self.old number step reply.now k p → OnOk result (AwaitsAfter number self.old self.new.due) }
         ensures left { (number : ℕ) → OnOk result (has_waited number self.new.later ≡ true → has_waited number self.old.later ≡ true) }
-        ensures goes_on { (loses : Bool) (k : Known) (p : Pair Event) (o : Opened) (other : ℕ) → loses ≡ false → Knows loses self.old k → HearsAwaited self.old number step reply.now k p → opened_by self.old.txn self.old.due ≡ Some o → (awaits_number other self.old.due && not (number == other)) ≡ true → OnOk result (GoesOnBy (first_changed (awaits_at number) (back_with number reply.now) o.call.wave) self.new.due) }
+        ensures goes_on { (loses : Bool) (k : Known) (p : Pair Event) (o : Opened) (other : ℕ) → Knows loses self.old k → HearsAwaited self.old number step reply.now k p → opened_by self.old.txn self.old.due ≡ Some o → (awaits_number other self.old.due && not (number == other)) ≡ true → OnOk result (GoesOnBy (first_changed (awaits_at number) (back_with number reply.now) o.call.wave) self.new.due) }
         ensures joins { (loses : Bool) (k : Known) (p : Pair Event) (request : Request) (other : ℕ) → Knows loses self.old k → HearsAwaited self.old number step reply.now k p → request_sent number k.sent ≡ Some request → is_heartbeat request ≡ false → has_waited other self.old.later ≡ true → OnOk result (awaits_number other self.new.due ≡ true → SendsNoMore self.new.due → ⊥) }
         ensures ends { (o : Opened) (answer : Answer) (asked : ℕ) (next : OpenCall) → opened_by self.old.txn self.old.due ≡ Some o → o.call.purpose ≡ purposes.LastBeat answer asked → OnOk result (self.new.due ≡ dues.Call next → ⊥) }
         ensures comes { (loses : Bool) (k : Known) (p : Pair Event) (o : Opened) → Knows loses self.old k → HearsAwaited self.old number step reply.now k p → opened_by self.old.txn self.old.due ≡ Some o → goes_by_sequence o.call.purpose ≡ false → OnOk result (ComesOf (first_changed (awaits_at number) (back_with number reply.now) o.call.wave) self.new.due) }
@@ -205,6 +205,7 @@ impl<'a> Coordinator<'a> {
     pub fn lost(&mut self, number: u64) -> Result<(), NoMemory>
         ensures knows { (loses : Bool) (k : Known) → loses ≡ true → Knows loses self.old k → LosesAwaited self.old number k → OnOk result (Knows loses self.new k) }
         ensures waits { (loses : Bool) (k : Known) → loses ≡ true → Knows loses self.old k → LosesAwaited self.old number k → OnOk result (AwaitsAfter number self.old self.new.due) }
+        ensures goes_on { (loses : Bool) (k : Known) (o : Opened) (other : ℕ) → Knows loses self.old k → LosesAwaited self.old number k → opened_by self.old.txn self.old.due ≡ Some o → (awaits_number other self.old.due && not (number == other)) ≡ true → OnOk result (GoesOnBy (wave_lost number self.old.tries o.txn o.call.wave) self.new.due) }
         ensures used_up { (o : Opened) → opened_by self.old.txn self.old.due ≡ Some o → OnOk result (ComesLost self.old.tries o.txn o.call.purpose (wave_lost number self.old.tries o.txn o.call.wave) self.new.due) }
         ensures session { self.new.session ≡ self.old.session }
         ensures splits { self.new.splits ≡ self.old.splits }
@@ -232,7 +233,7 @@ impl<'a> Coordinator<'a> {
     pub fn settled(&mut self, number: u64, round: Round) -> Result<(), NoMemory>
         ensures knows { (loses : Bool) (c : Coordination) (start k : Known) (conflict : Reply) (reader : Option ℕ) → Knows loses c start → self.old ≡ with_clock k.high c → next_of c ≡ nexts.Conflict number conflict reader → IsLaterBeside loses c start k → EndsRound loses conflict round start k → OnOk result (Knows loses self.new k) }
         ensures waits { (conflict : Reply) (reader : Option ℕ) → next_of self.old ≡ nexts.Conflict number conflict reader → OnOk result (AwaitsOutbox self.old.later self.new.due) }
-        ensures quiet { (loses : Bool) (c : Coordination) (start k : Known) (conflict : Reply) (reader : Option ℕ) (other : ℕ) → loses ≡ false → Knows loses c start → self.old ≡ with_clock k.high c → next_of c ≡ nexts.Conflict number conflict reader → IsLaterBeside loses c start k → EndsRound loses conflict round start k → OnOk result (awaits_number other self.new.due ≡ false) }
+        ensures quiet { (loses : Bool) (c : Coordination) (start k : Known) (conflict : Reply) (reader : Option ℕ) (other : ℕ) → Knows loses c start → self.old ≡ with_clock k.high c → next_of c ≡ nexts.Conflict number conflict reader → IsLaterBeside loses c start k → EndsRound loses conflict round start k → OnOk result (awaits_number other self.new.due ≡ false) }
         ensures left { (number : ℕ) → OnOk result (has_waited number self.new.later ≡ true → has_waited number self.old.later ≡ true) }
         ensures comes { (o : Opened) (conflict : Reply) → opened_by self.old.txn self.old.due ≡ Some o → step_of o.call.wave ≡ steps.Round number conflict → goes_by_sequence o.call.purpose ≡ false → OnOk result (ComesOfRound round number conflict o.call.wave self.new.due) }
         ensures used_up { (o : Opened) (faults : ℕ) → opened_by self.old.txn self.old.due ≡ Some o → round ≡ rounds.Lost faults → OnOk result (self.new.due ≡ dues.Tell (answer_lost faults o.txn o.call.purpose)) }

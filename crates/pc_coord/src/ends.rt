@@ -13,7 +13,7 @@ ghost use Rattle.pc_call.specs.Learned.{known_heard};
 ghost use Rattle.pc_call.specs.Rounding.{GoesOnBeside};
 ghost use Rattle.pc_call.specs.Serving.{InCall};
 ghost use Rattle.pc_coord.specs.Aside.{HasAside, KeepsAside};
-ghost use Rattle.pc_coord.specs.Coming.{AwaitsOutbox, ComesOf, IsIdle, IsLeftOf, goes_by_sequence, AwaitsBy};
+ghost use Rattle.pc_coord.specs.Coming.{AwaitsOutbox, ComesOf, IsIdle, IsLeftOf, goes_by_sequence, AwaitsBy, GoesOnBy};
 ghost use Rattle.pc_coord.specs.declared.due.Due.TheVariants as dues;
 ghost use Rattle.pc_coord.specs.Ends.{later_left};
 ghost use Rattle.pc_coord.specs.Going.{HearsNow, StandsReady, BeginsNothing};
@@ -182,6 +182,7 @@ impl<'a> Coordinator<'a> {
     ) -> Result<(), NoMemory>
         ensures knows { (loses : Bool) (k : Known) → StandsReady loses self.old k → loses ≡ true → InCall (setting_of loses self.old) k txn call.purpose call.wave → KeepsAside loses self.old.pipelining k txn call.purpose self.old.later call.wave → wave_awaits number call.wave ≡ true → OnOk result (Knows loses self.new k) }
         ensures waits { OnOk result (AwaitsBy (wave_lost number self.old.tries txn call.wave) self.old.later self.new.due) }
+        ensures goes_on { (other : ℕ) → wave_awaits other (wave_lost number self.old.tries txn call.wave) ≡ true → OnOk result (GoesOnBy (wave_lost number self.old.tries txn call.wave) self.new.due) }
         ensures used_up { OnOk result (ComesLost self.old.tries txn call.purpose (wave_lost number self.old.tries txn call.wave) self.new.due) }
         ensures session { self.new.session ≡ self.old.session }
         ensures splits { self.new.splits ≡ self.old.splits }

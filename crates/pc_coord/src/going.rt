@@ -9,7 +9,7 @@ ghost use Rattle.pc_call.specs.declared.purpose.Purpose.TheVariants as purposes;
 ghost use Rattle.pc_call.specs.Learned.{known_heard, known_sent};
 ghost use Rattle.pc_call.specs.Opening.{GoesOn};
 ghost use Rattle.pc_call.specs.Rounding.{RefusesRound};
-ghost use Rattle.pc_call.specs.Serving.{InCall};
+ghost use Rattle.pc_call.specs.Serving.{InCall, SendsInOrder};
 ghost use Rattle.pc_coord.specs.Coming.{AwaitsBy, AwaitsOutbox, ComesOf, ComesOfRound, GoesOnBy, IsIdle, IsLeftOf, JoinsBeside, goes_by_sequence};
 ghost use Rattle.pc_call.specs.Giving.{is_for_stage};
 ghost use Rattle.pc_coord.specs.Coordination.{awaits_number, calling, finishing, is_writing, telling, setting_of};
@@ -191,7 +191,7 @@ impl<'a> Coordinator<'a> {
 
     /// The message that was due went out under this number.
     pub(crate) fn send(&mut self, taken: Opened, number: u64) -> Result<(), NoMemory>
-        ensures knows { (loses : Bool) (k : Known) (range : ℕ) (request : Request) → StandsReady loses self.old k → InCall (setting_of loses self.old) k taken.txn taken.call.purpose taken.call.wave → KeepsAside loses self.old.pipelining k taken.txn taken.call.purpose self.old.later taken.call.wave → step_of taken.call.wave ≡ steps.Send request → number ≡ next_number k → (loses ≡ true → GoesWhereItWent range request k.sent) → OnOk result (Knows loses self.new (known_sent number range request k)) }
+        ensures knows { (loses : Bool) (k : Known) (range : ℕ) (request : Request) → StandsReady loses self.old k → InCall (setting_of loses self.old) k taken.txn taken.call.purpose taken.call.wave → KeepsAside loses self.old.pipelining k taken.txn taken.call.purpose self.old.later taken.call.wave → step_of taken.call.wave ≡ steps.Send request → number ≡ next_number k → (loses ≡ true → GoesWhereItWent range request k.sent) → (loses ≡ true → SendsInOrder k taken.call.wave) → OnOk result (Knows loses self.new (known_sent number range request k)) }
         ensures waits { (request : Request) (other : ℕ) → step_of taken.call.wave ≡ steps.Send request → (self.old.pipelining && is_writing taken.call.purpose) ≡ false → OnOk result (awaits_number other self.new.due ≡ (number == other || wave_awaits other taken.call.wave)) }
         ensures comes { (self.old.pipelining && is_writing taken.call.purpose) ≡ false → OnOk result (self.new.due ≡ dues.Call (record taken.call { wave = first_changed is_to_send (sent_under number) taken.call.wave })) }
         ensures kept { (self.old.pipelining && is_writing taken.call.purpose) ≡ false → OnOk result (self.new.later ≡ self.old.later) }
@@ -222,11 +222,11 @@ impl<'a> Coordinator<'a> {
         reply: &Reply,
     ) -> Result<(), NoMemory>
         ensures knows { (loses : Bool) (k : Known) (h : Heard) → HearsNow loses self.old call txn number reply.now k h → h.step ≡ step → OnOk result (Knows loses self.new (known_heard h k)) }
-        ensures waits { (loses : Bool) (k : Known) (h : Heard) → loses ≡ false → HearsNow loses self.old call txn number reply.now k h → OnOk result (AwaitsBy (first_changed (awaits_at number) (back_with number reply.now) call.wave) self.old.later self.new.due) }
+        ensures waits { (loses : Bool) (k : Known) (h : Heard) → HearsNow loses self.old call txn number reply.now k h → OnOk result (AwaitsBy (first_changed (awaits_at number) (back_with number reply.now) call.wave) self.old.later self.new.due) }
         ensures comes { (loses : Bool) (k : Known) (h : Heard) → HearsNow loses self.old call txn number reply.now k h → goes_by_sequence call.purpose ≡ false → OnOk result (ComesOf (first_changed (awaits_at number) (back_with number reply.now) call.wave) self.new.due) }
         ensures left { OnOk result (IsLeftOf self.old.later self.new.later) }
         ensures joins { (loses : Bool) (k : Known) (h : Heard) → HearsNow loses self.old call txn number reply.now k h → h.step ≡ step → is_heartbeat h.request ≡ false → OnOk result (JoinsBeside self.old.later self.new.due) }
-        ensures goes_on { (loses : Bool) (k : Known) (h : Heard) (other : ℕ) → loses ≡ false → HearsNow loses self.old call txn number reply.now k h → wave_awaits other (first_changed (awaits_at number) (back_with number reply.now) call.wave) ≡ true → OnOk result (GoesOnBy (first_changed (awaits_at number) (back_with number reply.now) call.wave) self.new.due) }
+        ensures goes_on { (loses : Bool) (k : Known) (h : Heard) (other : ℕ) → HearsNow loses self.old call txn number reply.now k h → wave_awaits other (first_changed (awaits_at number) (back_with number reply.now) call.wave) ≡ true → OnOk result (GoesOnBy (first_changed (awaits_at number) (back_with number reply.now) call.wave) self.new.due) }
         ensures ends { (answer : Answer) (asked : ℕ) (next : OpenCall) → call.purpose ≡ purposes.LastBeat answer asked → OnOk result (self.new.due ≡ dues.Call next → ⊥) }
         ensures session { self.new.session ≡ self.old.session }
         ensures splits { self.new.splits ≡ self.old.splits }

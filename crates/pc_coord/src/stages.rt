@@ -46,10 +46,10 @@ impl<'a> Coordinator<'a> {
         reply: &Reply,
     ) -> Result<(), NoMemory>
         ensures knows { (loses : Bool) (k : Known) (h : Heard) (n : ℕ) → HearsNow loses self.old call txn number reply.now k h → call.purpose ≡ purposes.Stage n → h.step ≡ step → OnOk result (Knows loses self.new (known_heard h k)) }
-        ensures waits { (loses : Bool) (k : Known) (h : Heard) (n : ℕ) → loses ≡ false → HearsNow loses self.old call txn number reply.now k h → call.purpose ≡ purposes.Stage n → OnOk result (AwaitsBy (first_changed (awaits_at number) (back_with number reply.now) call.wave) self.old.later self.new.due) }
+        ensures waits { (loses : Bool) (k : Known) (h : Heard) (n : ℕ) → HearsNow loses self.old call txn number reply.now k h → call.purpose ≡ purposes.Stage n → OnOk result (AwaitsBy (first_changed (awaits_at number) (back_with number reply.now) call.wave) self.old.later self.new.due) }
         ensures left { (n : ℕ) → call.purpose ≡ purposes.Stage n → OnOk result (IsLeftOf self.old.later self.new.later) }
         ensures joins { (loses : Bool) (k : Known) (h : Heard) (n : ℕ) → HearsNow loses self.old call txn number reply.now k h → call.purpose ≡ purposes.Stage n → h.step ≡ step → OnOk result (JoinsBeside self.old.later self.new.due) }
-        ensures goes_on { (loses : Bool) (k : Known) (h : Heard) (n other : ℕ) → loses ≡ false → HearsNow loses self.old call txn number reply.now k h → call.purpose ≡ purposes.Stage n → wave_awaits other (first_changed (awaits_at number) (back_with number reply.now) call.wave) ≡ true → OnOk result (GoesOnBy (first_changed (awaits_at number) (back_with number reply.now) call.wave) self.new.due) }
+        ensures goes_on { (loses : Bool) (k : Known) (h : Heard) (n other : ℕ) → HearsNow loses self.old call txn number reply.now k h → call.purpose ≡ purposes.Stage n → wave_awaits other (first_changed (awaits_at number) (back_with number reply.now) call.wave) ≡ true → OnOk result (GoesOnBy (first_changed (awaits_at number) (back_with number reply.now) call.wave) self.new.due) }
         ensures session { self.new.session ≡ self.old.session }
         ensures splits { self.new.splits ≡ self.old.splits }
         ensures pipelines { self.new.pipelining ≡ self.old.pipelining }
@@ -71,10 +71,10 @@ impl<'a> Coordinator<'a> {
         reply: &Reply,
     ) -> Result<(), NoMemory>
         ensures knows { (loses : Bool) (k : Known) (h : Heard) (n : ℕ) → HearsNow loses self.old call txn number reply.now k h → call.purpose ≡ purposes.Stage n → is_written reply.now ≡ false → h.step ≡ step → OnOk result (Knows loses self.new (known_heard h k)) }
-        ensures waits { (loses : Bool) (k : Known) (h : Heard) (n : ℕ) → loses ≡ false → HearsNow loses self.old call txn number reply.now k h → call.purpose ≡ purposes.Stage n → is_written reply.now ≡ false → OnOk result (AwaitsBy (first_changed (awaits_at number) (back_with number reply.now) call.wave) self.old.later self.new.due) }
+        ensures waits { (loses : Bool) (k : Known) (h : Heard) (n : ℕ) → HearsNow loses self.old call txn number reply.now k h → call.purpose ≡ purposes.Stage n → is_written reply.now ≡ false → OnOk result (AwaitsBy (first_changed (awaits_at number) (back_with number reply.now) call.wave) self.old.later self.new.due) }
         ensures left { (n : ℕ) → call.purpose ≡ purposes.Stage n → OnOk result (IsLeftOf self.old.later self.new.later) }
         ensures joins { (loses : Bool) (k : Known) (h : Heard) (n : ℕ) → HearsNow loses self.old call txn number reply.now k h → call.purpose ≡ purposes.Stage n → is_written reply.now ≡ false → h.step ≡ step → OnOk result (JoinsBeside self.old.later self.new.due) }
-        ensures goes_on { (loses : Bool) (k : Known) (h : Heard) (n other : ℕ) → loses ≡ false → HearsNow loses self.old call txn number reply.now k h → call.purpose ≡ purposes.Stage n → is_written reply.now ≡ false → wave_awaits other (first_changed (awaits_at number) (back_with number reply.now) call.wave) ≡ true → OnOk result (GoesOnBy (first_changed (awaits_at number) (back_with number reply.now) call.wave) self.new.due) }
+        ensures goes_on { (loses : Bool) (k : Known) (h : Heard) (n other : ℕ) → HearsNow loses self.old call txn number reply.now k h → call.purpose ≡ purposes.Stage n → is_written reply.now ≡ false → wave_awaits other (first_changed (awaits_at number) (back_with number reply.now) call.wave) ≡ true → OnOk result (GoesOnBy (first_changed (awaits_at number) (back_with number reply.now) call.wave) self.new.due) }
         ensures session { self.new.session ≡ self.old.session }
         ensures splits { self.new.splits ≡ self.old.splits }
         ensures pipelines { self.new.pipelining ≡ self.old.pipelining }
@@ -101,10 +101,10 @@ impl<'a> Coordinator<'a> {
         reply: &Reply,
     ) -> Result<(), NoMemory>
         ensures knows { (loses : Bool) (k : Known) (h : Heard) (n : ℕ) → HearsNow loses self.old call txn number reply.now k h → call.purpose ≡ purposes.Stage n → IsUndecidedAt reply.now recorded → h.step ≡ step → OnOk result (Knows loses self.new (known_heard h k)) }
-        ensures waits { (loses : Bool) (k : Known) (h : Heard) (n : ℕ) → loses ≡ false → HearsNow loses self.old call txn number reply.now k h → call.purpose ≡ purposes.Stage n → IsUndecidedAt reply.now recorded → OnOk result (AwaitsBy (first_changed (awaits_at number) (back_with number reply.now) call.wave) self.old.later self.new.due) }
+        ensures waits { (loses : Bool) (k : Known) (h : Heard) (n : ℕ) → HearsNow loses self.old call txn number reply.now k h → call.purpose ≡ purposes.Stage n → IsUndecidedAt reply.now recorded → OnOk result (AwaitsBy (first_changed (awaits_at number) (back_with number reply.now) call.wave) self.old.later self.new.due) }
         ensures left { (n : ℕ) → call.purpose ≡ purposes.Stage n → OnOk result (IsLeftOf self.old.later self.new.later) }
         ensures joins { (loses : Bool) (k : Known) (h : Heard) (n : ℕ) → HearsNow loses self.old call txn number reply.now k h → call.purpose ≡ purposes.Stage n → IsUndecidedAt reply.now recorded → h.step ≡ step → OnOk result (JoinsBeside self.old.later self.new.due) }
-        ensures goes_on { (loses : Bool) (k : Known) (h : Heard) (n other : ℕ) → loses ≡ false → HearsNow loses self.old call txn number reply.now k h → call.purpose ≡ purposes.Stage n → IsUndecidedAt reply.now recorded → wave_awaits other (first_changed (awaits_at number) (back_with number reply.now) call.wave) ≡ true → OnOk result (GoesOnBy (first_changed (awaits_at number) (back_with number reply.now) call.wave) self.new.due) }
+        ensures goes_on { (loses : Bool) (k : Known) (h : Heard) (n other : ℕ) → HearsNow loses self.old call txn number reply.now k h → call.purpose ≡ purposes.Stage n → IsUndecidedAt reply.now recorded → wave_awaits other (first_changed (awaits_at number) (back_with number reply.now) call.wave) ≡ true → OnOk result (GoesOnBy (first_changed (awaits_at number) (back_with number reply.now) call.wave) self.new.due) }
         ensures session { self.new.session ≡ self.old.session }
         ensures splits { self.new.splits ≡ self.old.splits }
         ensures pipelines { self.new.pipelining ≡ self.old.pipelining }
@@ -219,7 +219,7 @@ impl<'a> Coordinator<'a> {
         reply: &Reply,
     ) -> Result<(), NoMemory>
         ensures knows { (loses : Bool) (k : Known) (h : Heard) (number n : ℕ) (holder : TxnId) (puts : List Message) → HearsNow loses self.old call txn number reply.now k h → call.purpose ≡ purposes.Query n holder puts → h.step ≡ step → OnOk result (Knows loses self.new (known_heard h k)) }
-        ensures waits { (loses : Bool) (k : Known) (h : Heard) (number n : ℕ) (holder : TxnId) (puts : List Message) → loses ≡ false → HearsNow loses self.old call txn number reply.now k h → call.purpose ≡ purposes.Query n holder puts → OnOk result (AwaitsOutbox self.old.later self.new.due) }
+        ensures waits { (loses : Bool) (k : Known) (h : Heard) (number n : ℕ) (holder : TxnId) (puts : List Message) → HearsNow loses self.old call txn number reply.now k h → call.purpose ≡ purposes.Query n holder puts → OnOk result (AwaitsOutbox self.old.later self.new.due) }
         ensures left { OnOk result (IsLeftOf self.old.later self.new.later) }
         ensures joins { (loses : Bool) (k : Known) (h : Heard) (number n : ℕ) (holder : TxnId) (puts : List Message) → HearsNow loses self.old call txn number reply.now k h → call.purpose ≡ purposes.Query n holder puts → OnOk result (JoinsBeside self.old.later self.new.due) }
         ensures session { self.new.session ≡ self.old.session }
@@ -239,7 +239,7 @@ impl<'a> Coordinator<'a> {
     /// The write was found: it is proved.
     fn found(&mut self, call: OpenCall, mut txn: OpenTxn) -> Result<(), NoMemory>
         ensures knows { (loses : Bool) (k : Known) (h : Heard) (number n : ℕ) (holder : TxnId) (puts : List Message) → HearsNow loses self.old call txn number replies.Found k h → call.purpose ≡ purposes.Query n holder puts → OnOk result (Knows loses self.new (known_heard h k)) }
-        ensures waits { (loses : Bool) (k : Known) (h : Heard) (number n : ℕ) (holder : TxnId) (puts : List Message) → loses ≡ false → HearsNow loses self.old call txn number replies.Found k h → call.purpose ≡ purposes.Query n holder puts → OnOk result (AwaitsOutbox self.old.later self.new.due) }
+        ensures waits { (loses : Bool) (k : Known) (h : Heard) (number n : ℕ) (holder : TxnId) (puts : List Message) → HearsNow loses self.old call txn number replies.Found k h → call.purpose ≡ purposes.Query n holder puts → OnOk result (AwaitsOutbox self.old.later self.new.due) }
         ensures left { OnOk result (IsLeftOf self.old.later self.new.later) }
         ensures joins { (loses : Bool) (k : Known) (h : Heard) (number n : ℕ) (holder : TxnId) (puts : List Message) → HearsNow loses self.old call txn number replies.Found k h → call.purpose ≡ purposes.Query n holder puts → OnOk result (JoinsBeside self.old.later self.new.due) }
         ensures session { self.new.session ≡ self.old.session }

@@ -9,7 +9,7 @@ use Rattle.pc_call.proofs.PiecesRise.{IsBefore, pieces_rise}
 use Rattle.pc_call.specs.declared.call.OpenCall.{OpenCall}
 use Rattle.pc_call.specs.declared.purpose.Purpose.{Purpose}
 use Rattle.pc_call.specs.declared.purpose.Purpose.TheVariants as purposes
-use Rattle.pc_call.specs.Serving.{AreReadsOf, InCall, PutsEarlier, SendsAgain, Serves, StageIsNext, StageIsOut, StageStands}
+use Rattle.pc_call.specs.Serving.{AreReadsOf, InCall, PutsEarlier, SendsAgain, Serves, StageIsNext, StageIsOut, StageStands, GoesOutFirst}
 use Rattle.pc_coord.proofs.Aside.{awaited_in, found_in}
 use Rattle.pc_coord.proofs.OneRecord.{said_as}
 use Rattle.pc_coord.specs.Coordination.{Coordination, awaits_number, next_of, request_next, setting_of}
@@ -32,7 +32,7 @@ use Rattle.pc_session.proofs.InTurn.{pairwise_two}
 use Rattle.pc_session.proofs.TurnsOn.{IsOpenedAs, sends_of, step_sends}
 use Rattle.pc_session.proofs.Wanted.{proves_in_order}
 use Rattle.pc_session.specs.InCall.{HasOpenCall, IsHeardOrAway}
-use Rattle.pc_session.specs.InTurn.{GoesBefore, GoesOutFirst, HasRoundsInTurn, HasRoundsPiped, KeepsTurn, MayStandBehind}
+use Rattle.pc_session.specs.InTurn.{GoesBefore, HasRoundsInTurn, HasRoundsPiped, KeepsTurn, MayStandBehind}
 use Rattle.pc_session.specs.Session.{SessionMeaning, waits_aside, session_knows}
 use Rattle.pc_txn.specs.Opened.{own_get, own_scan}
 use Rattle.pc_wave.proofs.Changed.{found_passes}

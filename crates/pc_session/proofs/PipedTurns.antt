@@ -14,7 +14,7 @@ use Rattle.pc_call.specs.declared.purpose.Purpose.TheVariants as purposes
 use Rattle.pc_call.specs.Met.{AreMetBy}
 use Rattle.pc_call.specs.Outbox.{IsApartFrom, has_put, has_waited}
 use Rattle.pc_coord.specs.Aside.{LeavesNoneWaiting}
-use Rattle.pc_call.specs.Serving.{AreReadsOf, InCall, IsOpenFor, Serves, write_call}
+use Rattle.pc_call.specs.Serving.{AreReadsOf, InCall, IsOpenFor, Serves, write_call, GoesOutFirst}
 use Rattle.pc_call.specs.Setting.{Setting}
 use Rattle.pc_call.specs.Waiting.{BeginsBehindProofs}
 use Rattle.pc_coord.specs.Coming.{ComesOf, IsBlockOf, goes_by_sequence}
@@ -41,7 +41,7 @@ use Rattle.pc_session.proofs.PipedRounds.{leaves_rounds, push_heard, rounds_sent
 use Rattle.pc_session.proofs.PipedWaves.{HasRoundFirst, IsOutBelow, apart_idle, apart_silent, apart_unmet, met_one_more, none_waits, order_before, order_silent, order_went, unmet_waits}
 use Rattle.pc_session.proofs.Waiting.{has_own, wait_of}
 use Rattle.pc_session.proofs.WaveTurns.{IsBlockedFirst, sent_none}
-use Rattle.pc_session.specs.InTurn.{AreApart, GoesOutFirst, HasRoundsPiped, HasRoundsWaiting, KeepsTurn, WaitsUnless}
+use Rattle.pc_session.specs.InTurn.{AreApart, HasRoundsPiped, HasRoundsWaiting, KeepsTurn, WaitsUnless}
 use Rattle.pc_wave.proofs.Changed.{found_all, found_some}
 use Rattle.pc_wave.proofs.Hearing.{came_request}
 use Rattle.pc_wave.proofs.Lists.{at_least-fewer}

@@ -8,7 +8,7 @@ use Rattle.std.specs.List.{list_any}
 use Rattle.pc_call.specs.Met.{AreMetBy, HasMetConflict}
 use Rattle.pc_follows.specs.RoundOrder.{goes_first, with_waiting}
 use Rattle.pc_lists.proofs.Lists.{all_from_contains}
-use Rattle.pc_session.specs.InTurn.{AreApart, GoesOutFirst}
+use Rattle.pc_session.specs.InTurn.{AreApart}
 use Rattle.pc_wave.proofs.Changed.{any_none, found_all}
 use Rattle.pc_wave.specs.declared.message.Message.{Message}
 use Rattle.pc_wave.specs.declared.message.Progress.{Progress}
@@ -17,6 +17,7 @@ use Rattle.pc_wave.specs.Messages.{awaits_at, first_changed, is_in_conflict, is_
 use Rattle.pc_wave.specs.Standing.{Pairwise}
 use Rattle.pc_world.specs.Known.{Known}
 use Rattle.pc_world.specs.Known.Traffic.{Heard, Sent}
+use Rattle.pc_call.specs.Serving.{GoesOutFirst}
 
 -- ---- where none is to be sent, all stand in order
 

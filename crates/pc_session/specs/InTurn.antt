@@ -17,6 +17,7 @@ use Rattle.pc_follows.specs.Rounds.{AreRoundsOver, conflicts_now, rounds_begun}
 use Rattle.pc_follows.specs.RoundsMade.{rounds_made}
 use Rattle.pc_world.specs.Known.{Known}
 use Rattle.pc_world.specs.Known.Traffic.{Heard}
+use Rattle.pc_call.specs.Serving.{SendsInOrder}
 
 -- The number under which a message met the conflict that waits for its round.
 abbrev pub number_met : Progress → List ℕ
@@ -65,16 +66,12 @@ abbrev pub WaitsUnless : Bool → Known → List Message → Type 0
 WaitsUnless true k messages = ⊤
 WaitsUnless false k messages = HasRoundsWaiting k messages
 
--- Where the first is still to be sent, the other is not out that stands behind it, unless it was sent before the call.
-abbrev pub GoesOutFirst : Known → Message → Message → Type 0
-GoesOutFirst k one other = is_to_send one ≡ true → (number : ℕ) → awaits_at number other ≡ true → list_any (λ m. m.number == number) k.sent_now ≡ false
-
 -- The messages of an open call where writes are pipelined: they go out in their order, but for those that waited in the outbox; the conflicts that they
 -- met have their rounds in that order; and none of them was recovered meanwhile.
 pub record HasRoundsPiped (k : Known) (call : OpenCall) : Type 0 where
   pub waits : WaitsUnless (goes_by_sequence call.purpose) k call.wave
   pub unrecovered : (rounds_made k).recovered ≡ None
-  pub order : Pairwise (GoesOutFirst k) call.wave
+  pub order : SendsInOrder k call.wave
   pub apart : AreApart call.wave
 
 -- Where a reply to a message of the call is waited for, none of its conflicts waits for its round.

@@ -16,13 +16,13 @@ pub returns-in-Prove-clause-knows : goal.returns-in-Prove-clause-knows
 returns-in-Prove-clause-knows c = λ loses k h is at. c.proof_heard.ensures.knows loses k h c.in-Prove.call c.in-Prove.all is c.in-Prove.is at
 
 pub returns-in-Prove-clause-waits : goal.returns-in-Prove-clause-waits
-returns-in-Prove-clause-waits c = λ loses k h quiet is. c.proof_heard.ensures.waits
+returns-in-Prove-clause-waits c = λ loses k h is. c.proof_heard.ensures.waits
 
 pub returns-in-Prove-clause-comes : goal.returns-in-Prove-clause-comes
 returns-in-Prove-clause-comes c = λ loses k h is isnt. c.proof_heard.ensures.comes isnt
 
 pub returns-in-Read-clause-waits : goal.returns-in-Read-clause-waits
-returns-in-Read-clause-waits c = λ loses k h quiet is. c.come_back.ensures.waits
+returns-in-Read-clause-waits c = λ loses k h is. c.come_back.ensures.waits
 
 pub returns-in-Read-clause-comes : goal.returns-in-Read-clause-comes
 returns-in-Read-clause-comes c = λ loses k h is isnt. c.come_back.ensures.comes isnt
@@ -31,7 +31,7 @@ pub returns-in-Write-clause-knows : goal.returns-in-Write-clause-knows
 returns-in-Write-clause-knows c = λ loses k h is at. c.write_heard.ensures.knows loses k h is c.in-Write.is at
 
 pub returns-in-Write-clause-waits : goal.returns-in-Write-clause-waits
-returns-in-Write-clause-waits c = λ loses k h quiet is. c.write_heard.ensures.waits loses k h is c.in-Write.is
+returns-in-Write-clause-waits c = λ loses k h is. c.write_heard.ensures.waits loses k h is c.in-Write.is
 
 pub returns-in-Write-clause-comes : goal.returns-in-Write-clause-comes
 returns-in-Write-clause-comes c = λ loses k h is isnt. c.write_heard.ensures.comes loses k h is c.in-Write.is
@@ -40,7 +40,7 @@ pub returns-in-Stage-clause-knows : goal.returns-in-Stage-clause-knows
 returns-in-Stage-clause-knows c = λ loses k h is at. c.stage_wave_heard.ensures.knows loses k h c.in-Stage.refusals is c.in-Stage.is at
 
 pub returns-in-Stage-clause-waits : goal.returns-in-Stage-clause-waits
-returns-in-Stage-clause-waits c = λ loses k h quiet is. c.stage_wave_heard.ensures.waits loses k h c.in-Stage.refusals quiet is c.in-Stage.is
+returns-in-Stage-clause-waits c = λ loses k h is. c.stage_wave_heard.ensures.waits loses k h c.in-Stage.refusals is c.in-Stage.is
 
 pub returns-in-Stage-clause-comes : goal.returns-in-Stage-clause-comes
 returns-in-Stage-clause-comes c = λ loses k h is isnt. let e : true ≡ false = sym (ap goes_by_sequence c.in-Stage.is) ∙ isnt in absurd cc
@@ -49,7 +49,7 @@ pub returns-in-Beat-clause-knows : goal.returns-in-Beat-clause-knows
 returns-in-Beat-clause-knows c = λ loses k h is at. c.beat_heard.ensures.knows loses k h c.args.number c.in-Beat.reading c.in-Beat.call is c.in-Beat.is at
 
 pub returns-in-Beat-clause-waits : goal.returns-in-Beat-clause-waits
-returns-in-Beat-clause-waits c = λ loses k h quiet is.
+returns-in-Beat-clause-waits c = λ loses k h is.
     let s = c.args.self.now in
     let m = alone (setting_of loses s) k c.args.txn c.args.call.purpose c.args.call.wave is.in_call (purposes.Beat c.in-Beat.call c.in-Beat.reading) c.in-Beat.is tt in
     on_by c.beat_heard.result (first_changed (awaits_at c.args.number) (back_with c.args.number c.args.reply.now) c.args.call.wave) s.later c.beat_heard.new.self.due (alone_idle loses s c.args.call c.args.txn c.args.number c.args.reply.now k h is m.0 m.1)
@@ -63,11 +63,11 @@ pub returns-in-Query-clause-knows : goal.returns-in-Query-clause-knows
 returns-in-Query-clause-knows c = λ loses k h is at. c.query_heard.ensures.knows loses k h c.args.number c.in-Query.refusals c.in-Query.holder c.in-Query.puts is c.in-Query.is at
 
 pub returns-in-Query-clause-waits : goal.returns-in-Query-clause-waits
-returns-in-Query-clause-waits c = λ loses k h quiet is.
+returns-in-Query-clause-waits c = λ loses k h is.
     let s = c.args.self.now in
     let m = alone (setting_of loses s) k c.args.txn c.args.call.purpose c.args.call.wave is.in_call (purposes.Query c.in-Query.refusals c.in-Query.holder c.in-Query.puts) c.in-Query.is tt in
     on_by c.query_heard.result (first_changed (awaits_at c.args.number) (back_with c.args.number c.args.reply.now) c.args.call.wave) s.later c.query_heard.new.self.due (alone_idle loses s c.args.call c.args.txn c.args.number c.args.reply.now k h is m.0 m.1)
-    (c.query_heard.ensures.waits loses k h c.args.number c.in-Query.refusals c.in-Query.holder c.in-Query.puts quiet is c.in-Query.is)
+    (c.query_heard.ensures.waits loses k h c.args.number c.in-Query.refusals c.in-Query.holder c.in-Query.puts is c.in-Query.is)
 
 pub returns-in-Query-clause-comes : goal.returns-in-Query-clause-comes
 returns-in-Query-clause-comes c = λ loses k h is isnt. let e : true ≡ false = sym (ap goes_by_sequence c.in-Query.is) ∙ isnt in absurd cc
@@ -76,7 +76,7 @@ pub returns-in-Commit-clause-knows : goal.returns-in-Commit-clause-knows
 returns-in-Commit-clause-knows c = λ loses k h is at. c.commit_heard.ensures.knows loses k h c.args.number c.in-Commit.refusals is c.in-Commit.is at
 
 pub returns-in-Commit-clause-waits : goal.returns-in-Commit-clause-waits
-returns-in-Commit-clause-waits c = λ loses k h quiet is.
+returns-in-Commit-clause-waits c = λ loses k h is.
     let s = c.args.self.now in
     let m = alone (setting_of loses s) k c.args.txn c.args.call.purpose c.args.call.wave is.in_call (purposes.Commit c.in-Commit.refusals) c.in-Commit.is tt in
     on_by c.commit_heard.result (first_changed (awaits_at c.args.number) (back_with c.args.number c.args.reply.now) c.args.call.wave) s.later c.commit_heard.new.self.due (alone_idle loses s c.args.call c.args.txn c.args.number c.args.reply.now k h is m.0 m.1)
@@ -90,7 +90,7 @@ pub returns-in-LastBeat-clause-knows : goal.returns-in-LastBeat-clause-knows
 returns-in-LastBeat-clause-knows c = λ loses k h is at. c.last_beat_heard.ensures.knows loses k h c.args.number c.in-LastBeat.reading c.in-LastBeat.then is c.in-LastBeat.is at
 
 pub returns-in-LastBeat-clause-waits : goal.returns-in-LastBeat-clause-waits
-returns-in-LastBeat-clause-waits c = λ loses k h quiet is.
+returns-in-LastBeat-clause-waits c = λ loses k h is.
     let s = c.args.self.now in
     let m = alone (setting_of loses s) k c.args.txn c.args.call.purpose c.args.call.wave is.in_call (purposes.LastBeat c.in-LastBeat.then c.in-LastBeat.reading) c.in-LastBeat.is tt in
     on_by c.last_beat_heard.result (first_changed (awaits_at c.args.number) (back_with c.args.number c.args.reply.now) c.args.call.wave) s.later c.last_beat_heard.new.self.due (alone_idle loses s c.args.call c.args.txn c.args.number c.args.reply.now k h is m.0 m.1)
@@ -103,7 +103,7 @@ pub returns-in-Abort-clause-knows : goal.returns-in-Abort-clause-knows
 returns-in-Abort-clause-knows c = λ loses k h is at. c.abort_heard.ensures.knows loses k h c.args.number c.in-Abort.why is c.in-Abort.is
 
 pub returns-in-Abort-clause-waits : goal.returns-in-Abort-clause-waits
-returns-in-Abort-clause-waits c = λ loses k h quiet is.
+returns-in-Abort-clause-waits c = λ loses k h is.
     let s = c.args.self.now in
     let m = alone (setting_of loses s) k c.args.txn c.args.call.purpose c.args.call.wave is.in_call (purposes.Abort c.in-Abort.why) c.in-Abort.is tt in
     on_by c.abort_heard.result (first_changed (awaits_at c.args.number) (back_with c.args.number c.args.reply.now) c.args.call.wave) s.later c.abort_heard.new.self.due (alone_idle loses s c.args.call c.args.txn c.args.number c.args.reply.now k h is m.0 m.1)
@@ -168,49 +168,49 @@ pub returns-in-Abort-clause-joins : goal.returns-in-Abort-clause-joins
 returns-in-Abort-clause-joins c = λ loses k h is at isnt. joins_ok c.abort_heard.result c.args.self.now.later c.abort_heard.new.self.due c.abort_heard.ensures.idle
 
 pub returns-in-Write-clause-goes_on : goal.returns-in-Write-clause-goes_on
-returns-in-Write-clause-goes_on c = λ loses k h other quiet is waits.
+returns-in-Write-clause-goes_on c = λ loses k h other is waits.
     let s = c.args.self.now in
     let m = alone (setting_of loses s) k c.args.txn c.args.call.purpose c.args.call.wave is.in_call purposes.Write c.in-Write.is tt in
     absurd (no_wait other (first_changed (awaits_at c.args.number) (back_with c.args.number c.args.reply.now) c.args.call.wave) waits (alone_idle loses s c.args.call c.args.txn c.args.number c.args.reply.now k h is m.0 m.1 other))
 
 pub returns-in-Beat-clause-goes_on : goal.returns-in-Beat-clause-goes_on
-returns-in-Beat-clause-goes_on c = λ loses k h other quiet is waits.
+returns-in-Beat-clause-goes_on c = λ loses k h other is waits.
     let s = c.args.self.now in
     let m = alone (setting_of loses s) k c.args.txn c.args.call.purpose c.args.call.wave is.in_call (purposes.Beat c.in-Beat.call c.in-Beat.reading) c.in-Beat.is tt in
     absurd (no_wait other (first_changed (awaits_at c.args.number) (back_with c.args.number c.args.reply.now) c.args.call.wave) waits (alone_idle loses s c.args.call c.args.txn c.args.number c.args.reply.now k h is m.0 m.1 other))
 
 pub returns-in-Query-clause-goes_on : goal.returns-in-Query-clause-goes_on
-returns-in-Query-clause-goes_on c = λ loses k h other quiet is waits.
+returns-in-Query-clause-goes_on c = λ loses k h other is waits.
     let s = c.args.self.now in
     let m = alone (setting_of loses s) k c.args.txn c.args.call.purpose c.args.call.wave is.in_call (purposes.Query c.in-Query.refusals c.in-Query.holder c.in-Query.puts) c.in-Query.is tt in
     absurd (no_wait other (first_changed (awaits_at c.args.number) (back_with c.args.number c.args.reply.now) c.args.call.wave) waits (alone_idle loses s c.args.call c.args.txn c.args.number c.args.reply.now k h is m.0 m.1 other))
 
 pub returns-in-Commit-clause-goes_on : goal.returns-in-Commit-clause-goes_on
-returns-in-Commit-clause-goes_on c = λ loses k h other quiet is waits.
+returns-in-Commit-clause-goes_on c = λ loses k h other is waits.
     let s = c.args.self.now in
     let m = alone (setting_of loses s) k c.args.txn c.args.call.purpose c.args.call.wave is.in_call (purposes.Commit c.in-Commit.refusals) c.in-Commit.is tt in
     absurd (no_wait other (first_changed (awaits_at c.args.number) (back_with c.args.number c.args.reply.now) c.args.call.wave) waits (alone_idle loses s c.args.call c.args.txn c.args.number c.args.reply.now k h is m.0 m.1 other))
 
 pub returns-in-LastBeat-clause-goes_on : goal.returns-in-LastBeat-clause-goes_on
-returns-in-LastBeat-clause-goes_on c = λ loses k h other quiet is waits.
+returns-in-LastBeat-clause-goes_on c = λ loses k h other is waits.
     let s = c.args.self.now in
     let m = alone (setting_of loses s) k c.args.txn c.args.call.purpose c.args.call.wave is.in_call (purposes.LastBeat c.in-LastBeat.then c.in-LastBeat.reading) c.in-LastBeat.is tt in
     absurd (no_wait other (first_changed (awaits_at c.args.number) (back_with c.args.number c.args.reply.now) c.args.call.wave) waits (alone_idle loses s c.args.call c.args.txn c.args.number c.args.reply.now k h is m.0 m.1 other))
 
 pub returns-in-Abort-clause-goes_on : goal.returns-in-Abort-clause-goes_on
-returns-in-Abort-clause-goes_on c = λ loses k h other quiet is waits.
+returns-in-Abort-clause-goes_on c = λ loses k h other is waits.
     let s = c.args.self.now in
     let m = alone (setting_of loses s) k c.args.txn c.args.call.purpose c.args.call.wave is.in_call (purposes.Abort c.in-Abort.why) c.in-Abort.is tt in
     absurd (no_wait other (first_changed (awaits_at c.args.number) (back_with c.args.number c.args.reply.now) c.args.call.wave) waits (alone_idle loses s c.args.call c.args.txn c.args.number c.args.reply.now k h is m.0 m.1 other))
 
 pub returns-in-Prove-clause-goes_on : goal.returns-in-Prove-clause-goes_on
-returns-in-Prove-clause-goes_on c = λ loses k h other quiet is waits. c.proof_heard.ensures.goes_on other waits
+returns-in-Prove-clause-goes_on c = λ loses k h other is waits. c.proof_heard.ensures.goes_on other waits
 
 pub returns-in-Read-clause-goes_on : goal.returns-in-Read-clause-goes_on
-returns-in-Read-clause-goes_on c = λ loses k h other quiet is waits. c.come_back.ensures.goes_on other waits
+returns-in-Read-clause-goes_on c = λ loses k h other is waits. c.come_back.ensures.goes_on other waits
 
 pub returns-in-Stage-clause-goes_on : goal.returns-in-Stage-clause-goes_on
-returns-in-Stage-clause-goes_on c = λ loses k h other quiet is waits. c.stage_wave_heard.ensures.goes_on loses k h c.in-Stage.refusals other quiet is c.in-Stage.is waits
+returns-in-Stage-clause-goes_on c = λ loses k h other is waits. c.stage_wave_heard.ensures.goes_on loses k h c.in-Stage.refusals other is c.in-Stage.is waits
 
 pub returns-in-Prove-clause-ends : goal.returns-in-Prove-clause-ends
 returns-in-Prove-clause-ends c = λ answer asked next last. let e : purposes.Prove c.in-Prove.call c.in-Prove.all ≡ purposes.LastBeat answer asked = sym c.in-Prove.is ∙ last in absurd cc

@@ -29,7 +29,7 @@ returns-in-Some-clause-knows c = λ loses k p knows is.
     (c.hear.ensures.knows loses k hh now refl)
 
 pub returns-in-Some-clause-waits : goal.returns-in-Some-clause-waits
-returns-in-Some-clause-waits c = λ loses k p quiet knows is.
+returns-in-Some-clause-waits c = λ loses k p knows is.
     let old = c.args.self.now in
     let n = max old.clock c.last_stamp.result in
     let taken = c.take_open-taken.ensures.taken ∙ ap (λ (c : Coordination). opened_by c.txn c.due) c.raise.ensures in
@@ -39,7 +39,7 @@ returns-in-Some-clause-waits c = λ loses k p quiet knows is.
     let hh = h loses old k o.txn o.call knows at.1 at.0 p c.args.number c.args.step c.args.reply.now is in
     let now = subst (λ (n : Coordination). HearsNow loses n o.call o.txn c.args.number c.args.reply.now k hh) (sym mid) (hears loses old k o.txn o.call knows at.1 at.0 p c.args.number c.args.step c.args.reply.now is n None dues.Nothing (ap (max old.clock) c.last_stamp.ensures)) in
     after_ok c.hear.result (setting_of loses old) k o.txn o.call (in_call loses old k o.txn o.call knows at.1 at.0) c.args.number c.args.reply.now now.waited old at.0 c.hear.new.self.due
-    (subst (λ l. OnOk c.hear.result (AwaitsBy (first_changed (awaits_at c.args.number) (back_with c.args.number c.args.reply.now) o.call.wave) l c.hear.new.self.due)) (ap (λ (n : Coordination). n.later) mid) (c.hear.ensures.waits loses k hh quiet now))
+    (subst (λ l. OnOk c.hear.result (AwaitsBy (first_changed (awaits_at c.args.number) (back_with c.args.number c.args.reply.now) o.call.wave) l c.hear.new.self.due)) (ap (λ (n : Coordination). n.later) mid) (c.hear.ensures.waits loses k hh now))
 
 pub returns-in-None-clause-knows : goal.returns-in-None-clause-knows
 returns-in-None-clause-knows c = λ loses k p knows is.
@@ -50,7 +50,7 @@ returns-in-None-clause-knows c = λ loses k p knows is.
     absurd (waits_open loses old k c.args.number knows is.waited (sym taken ∙ c.in-None.is))
 
 pub returns-in-None-clause-waits : goal.returns-in-None-clause-waits
-returns-in-None-clause-waits c = λ loses k p quiet knows is.
+returns-in-None-clause-waits c = λ loses k p knows is.
     let old = c.args.self.now in
     let n = max old.clock c.last_stamp.result in
     let taken = c.take_open-taken.ensures.taken ∙ ap (λ (c : Coordination). opened_by c.txn c.due) c.raise.ensures in
@@ -83,7 +83,7 @@ pub returns-in-None-clause-left : goal.returns-in-None-clause-left
 returns-in-None-clause-left c = λ number. same_left c.args.self.now.later c.take_open-taken.new.self.later (ap (λ (n : Coordination). n.later) (c.take_open-taken.ensures.left ∙ ap without_call c.raise.ensures)) number
 
 pub returns-in-Some-clause-goes_on : goal.returns-in-Some-clause-goes_on
-returns-in-Some-clause-goes_on c = λ loses k p q other quiet knows is opened waits.
+returns-in-Some-clause-goes_on c = λ loses k p q other knows is opened waits.
     let old = c.args.self.now in
     let n = max old.clock c.last_stamp.result in
     let taken = c.take_open-taken.ensures.taken ∙ ap (λ (c : Coordination). opened_by c.txn c.due) c.raise.ensures in
@@ -95,10 +95,10 @@ returns-in-Some-clause-goes_on c = λ loses k p q other quiet knows is opened wa
     let now = subst (λ (n : Coordination). HearsNow loses n o.call o.txn c.args.number c.args.reply.now k hh) (sym mid) (hears loses old k o.txn o.call knows at.1 at.0 p c.args.number c.args.step c.args.reply.now is n None dues.Nothing (ap (max old.clock) c.last_stamp.ensures)) in
     let on = heard_awaits c.args.number other c.args.reply.now (setting_of loses old).course k o.call.wave (in_call loses old k o.txn o.call knows at.1 at.0).wave now.waited in
     subst (λ (o : Opened). OnOk c.hear.result (GoesOnBy (first_changed (awaits_at c.args.number) (back_with c.args.number c.args.reply.now) o.call.wave) c.hear.new.self.due)) same
-    (c.hear.ensures.goes_on loses k hh other quiet now (on ∙ (sym (ap (λ d. awaits_number other d && not (c.args.number == other)) at.0) ∙ waits)))
+    (c.hear.ensures.goes_on loses k hh other now (on ∙ (sym (ap (λ d. awaits_number other d && not (c.args.number == other)) at.0) ∙ waits)))
 
 pub returns-in-None-clause-goes_on : goal.returns-in-None-clause-goes_on
-returns-in-None-clause-goes_on c = λ loses k p o other quiet knows is opened waits.
+returns-in-None-clause-goes_on c = λ loses k p o other knows is opened waits.
     let e : None ≡ Some o = sym c.in-None.is ∙ ((c.take_open-taken.ensures.taken ∙ ap (λ (c : Coordination). opened_by c.txn c.due) c.raise.ensures) ∙ opened) in absurd cc
 
 pub returns-in-Some-clause-joins : goal.returns-in-Some-clause-joins

@@ -3,10 +3,10 @@ use Rattle.pc_call.specs.declared.call.OpenCall.{OpenCall}
 use Rattle.pc_call.specs.Losses.{wave_lost}
 use Rattle.pc_coord.proofs.LostWave.{lost_aside, lost_many}
 use Rattle.pc_coord.specs.Aside.{KeepsAside}
-use Rattle.pc_coord.specs.Coming.{AwaitsBy}
+use Rattle.pc_coord.specs.Coming.{AwaitsBy, GoesOnBy}
 use Rattle.pc_coord.specs.Coordination.{Coordination, setting_of}
 use Rattle.pc_coord.specs.Going.{IsForMany}
-use Rattle.pc_wave.specs.Messages.{step_of}
+use Rattle.pc_wave.specs.Messages.{step_of, wave_awaits}
 use Rattle.pc_coord.proofs.coordinator.Coordinator.lose.Goals as goal
 use Rattle.pc_coord.specs.UsedUp.{ComesLost}
 
@@ -34,3 +34,9 @@ returns-clause-used_up c =
     let s = c.args.self.now in
     let made = c.lost.ensures.made ∙ ap (λ (v : Coordination). record c.args.call { wave = wave_lost c.args.number v.tries c.args.txn c.args.call.wave }) c.self.view_is in
     subst (λ (n : OpenCall). OnOk c.go_on.result (ComesLost s.tries c.args.txn n.purpose n.wave c.go_on.new.self.due)) made c.go_on.ensures.used_up
+
+pub returns-clause-goes_on : goal.returns-clause-goes_on
+returns-clause-goes_on c = λ other waits.
+    let s = c.args.self.now in
+    let made = c.lost.ensures.made ∙ ap (λ (v : Coordination). record c.args.call { wave = wave_lost c.args.number v.tries c.args.txn c.args.call.wave }) c.self.view_is in
+    subst (λ (n : OpenCall). OnOk c.go_on.result (GoesOnBy n.wave c.go_on.new.self.due)) made (c.go_on.ensures.goes_on other (ap (λ (n : OpenCall). wave_awaits other n.wave) made ∙ waits))

@@ -21,14 +21,14 @@ use Rattle.pc_coord.proofs.coordinator.Coordinator.send.Goals as goal
 use Rattle.std.proofs.lemmas.Result.{err_from_is_err_and}
 
 pub returns-else-tells_at_once-clause-knows : goal.returns-else-tells_at_once-clause-knows
-returns-else-tells_at_once-clause-knows c = λ loses k range request r w a step next went.
+returns-else-tells_at_once-clause-knows c = λ loses k range request r w a step next went order.
     let s = c.args.self.now in
     let set = setting_of loses s in
     let call = c.args.taken.call in
     let x = c.args.taken.txn in
     let ks = known_sent c.args.number range request k in
     let once = sym (ap (λ (n : OpenCall). s.pipelining && is_writing n.purpose) c.in_ok-sent.ensures.made) ∙ (sym c.tells_at_once.ensures ∙ c.if-tells_at_once.false) in
-    let w2 = c.in_ok-sent.ensures.stands s.session s.clock s.begun range set k request r.counted w step next in
+    let w2 = c.in_ok-sent.ensures.stands s.session s.clock s.begun range set k request r.counted w step next order in
     let a2 = subst (λ (n : OpenCall). KeepsAside loses s.pipelining ks c.sent.new.txn n.purpose s.later n.wave) (sym c.in_ok-sent.ensures.made)
     (subst (λ (y : OpenTxn). KeepsAside loses s.pipelining ks y call.purpose s.later (first_changed is_to_send (sent_under c.args.number) call.wave)) (sym c.in_ok-sent.ensures.noted)
     (aside_sent set k x call.purpose call.wave w s.pipelining s.later a c.args.number range request step once)) in
@@ -42,7 +42,7 @@ pub returns-else-tells_at_once-clause-comes : goal.returns-else-tells_at_once-cl
 returns-else-tells_at_once-clause-comes c = λ once. ap (λ (n : Coordination). n.due) c.call.ensures ∙ ap dues.Call c.in_ok-sent.ensures.made
 
 pub returns-in_ok-keep_for_later-clause-knows : goal.returns-in_ok-keep_for_later-clause-knows
-returns-in_ok-keep_for_later-clause-knows c = λ loses k range request r w a step next went.
+returns-in_ok-keep_for_later-clause-knows c = λ loses k range request r w a step next went order.
     let s = c.args.self.now in
     let set = setting_of loses s in
     let call = c.args.taken.call in
@@ -97,7 +97,7 @@ pub returns-else-tells_at_once-clause-waiting : goal.returns-else-tells_at_once-
 returns-else-tells_at_once-clause-waiting c = λ once. let e : false ≡ true = sym (sym (ap (λ (n : OpenCall). c.args.self.now.pipelining && is_writing n.purpose) c.in_ok-sent.ensures.made) ∙ (sym c.tells_at_once.ensures ∙ c.if-tells_at_once.false)) ∙ once in absurd cc
 
 pub returns-in_err-keep_for_later-clause-knows : goal.returns-in_err-keep_for_later-clause-knows
-returns-in_err-keep_for_later-clause-knows c = λ loses k range request r w a step next went. let p = err_from_is_err_and c.from_residual-in_err-keep_for_later.result c.from_residual-in_err-keep_for_later.ensures.1 in err_over c.from_residual-in_err-keep_for_later.result _ p.0 p.1
+returns-in_err-keep_for_later-clause-knows c = λ loses k range request r w a step next went order. let p = err_from_is_err_and c.from_residual-in_err-keep_for_later.result c.from_residual-in_err-keep_for_later.ensures.1 in err_over c.from_residual-in_err-keep_for_later.result _ p.0 p.1
 
 pub returns-in_err-keep_for_later-clause-waits : goal.returns-in_err-keep_for_later-clause-waits
 returns-in_err-keep_for_later-clause-waits c = λ request other step off. let p = err_from_is_err_and c.from_residual-in_err-keep_for_later.result c.from_residual-in_err-keep_for_later.ensures.1 in err_over c.from_residual-in_err-keep_for_later.result _ p.0 p.1

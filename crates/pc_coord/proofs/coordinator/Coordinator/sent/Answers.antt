@@ -15,9 +15,10 @@ use Rattle.pc_coord.specs.Going.{StandsReady}
 use Rattle.pc_coord.specs.Knows.{Knows}
 use Rattle.pc_wave.specs.Messages.{first_changed, is_to_send, sent_under}
 use Rattle.pc_coord.proofs.coordinator.Coordinator.sent.Goals as goal
+use Rattle.pc_coord.specs.Coming.{GoesInOrder}
 
 pub returns-in-Some-clause-knows : goal.returns-in-Some-clause-knows
-returns-in-Some-clause-knows c = λ loses k p range request knows is went.
+returns-in-Some-clause-knows c = λ loses k p range request knows is went order.
     let old = c.args.self.now in
     let o = c.in-Some.taken in
     let at = opened_is old o (sym c.take_open-taken.ensures.taken ∙ c.in-Some.is) in
@@ -26,7 +27,7 @@ returns-in-Some-clause-knows c = λ loses k p range request knows is went.
     subst (λ k. OnOk c.send.result (Knows loses c.send.new.self k)) (sym (learn_sent c.args.number range request k p is.is))
     (c.send.ensures.knows loses k range request (subst (λ (n : Coordination). StandsReady loses n k) (sym left) (ready_now loses old k o.txn o.call knows at.1 at.0 None dues.Nothing))
     (subst (λ (n : Coordination). InCall (setting_of loses n) k o.txn o.call.purpose o.call.wave) (sym left) (in_call loses old k o.txn o.call knows at.1 at.0))
-    (subst (λ (n : Coordination). KeepsAside loses n.pipelining k o.txn o.call.purpose n.later o.call.wave) (sym left) (aside loses old k o.txn o.call knows at.1 at.0)) step is.next went)
+    (subst (λ (n : Coordination). KeepsAside loses n.pipelining k o.txn o.call.purpose n.later o.call.wave) (sym left) (aside loses old k o.txn o.call knows at.1 at.0)) step is.next went (λ lossy. subst (GoesInOrder k) at.0 (order lossy)))
 
 pub returns-in-Some-clause-waits : goal.returns-in-Some-clause-waits
 returns-in-Some-clause-waits c = λ request other next.

@@ -61,14 +61,14 @@ pub returns-in-None-clause-left : goal.returns-in-None-clause-left
 returns-in-None-clause-left c = λ number. same_left c.args.self.now.later c.take_open-taken.new.self.later (ap (λ (n : Coordination). n.later) c.take_open-taken.ensures.left) number
 
 pub returns-in-Some-clause-quiet : goal.returns-in-Some-clause-quiet
-returns-in-Some-clause-quiet c = λ loses before start k conflict reader other isnt knows heard next later ends.
+returns-in-Some-clause-quiet c = λ loses before start k conflict reader other knows heard next later ends.
     let o = c.in-Some.taken in
     let taken : opened_by before.txn before.due ≡ Some o = sym (c.take_open-taken.ensures.taken ∙ ap (λ (c : Coordination). opened_by c.txn c.due) heard) ∙ c.in-Some.is in
     let at = opened_is before o taken in
     idle_each c.settle.result c.settle.new.self.due (c.settle.ensures.idle conflict (round_step before o.txn o.call c.args.number conflict reader at.1 at.0 next)) other
 
 pub returns-in-None-clause-quiet : goal.returns-in-None-clause-quiet
-returns-in-None-clause-quiet c = λ loses before start k conflict reader other isnt knows heard next later ends.
+returns-in-None-clause-quiet c = λ loses before start k conflict reader other knows heard next later ends.
     absurd (rounds_open before c.args.number conflict reader next (sym (c.take_open-taken.ensures.taken ∙ ap (λ (c : Coordination). opened_by c.txn c.due) heard) ∙ c.in-None.is))
 
 pub returns-in-None-clause-used_up : goal.returns-in-None-clause-used_up

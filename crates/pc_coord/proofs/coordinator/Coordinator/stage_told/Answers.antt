@@ -39,7 +39,7 @@ returns-in-Staged-clause-knows c = λ loses k h n is0 stages u at.
     c.go_on.ensures.knows loses k2 is.ready w a (λ due. subst IsForMany (sym purpose) tt)
 
 pub returns-in-Staged-clause-waits : goal.returns-in-Staged-clause-waits
-returns-in-Staged-clause-waits c = λ loses k h n quiet is stages u.
+returns-in-Staged-clause-waits c = λ loses k h n is stages u.
     let m = c.args.number in
     let same = ap (λ (call : OpenCall). call.wave) c.stage_told-told.ensures.made ∙ ap (λ r. first_changed (awaits_at m) (back_with m r) c.args.call.wave) c.in_ok-told.ensures in
     on_ok c.go_on.result (AwaitsBy c.stage_told-told.new.self.wave c.args.self.now.later c.go_on.new.self.due) (AwaitsBy (first_changed (awaits_at m) (back_with m c.args.reply.now) c.args.call.wave) c.args.self.now.later c.go_on.new.self.due)
@@ -70,11 +70,11 @@ returns-in-Refused-clause-knows c = λ loses k h n is0 stages u0 at.
     (stages_give_up set c.args.recorded so.0 k2 x2 call2.wave (on.0 so.0 purpose) on.1) (sym (ap (λ (n : OpenCall). is_lost_after s.tries n.wave) c.stage_told-told.ensures.made) ∙ lost))
 
 pub returns-in-Refused-clause-waits : goal.returns-in-Refused-clause-waits
-returns-in-Refused-clause-waits c = λ loses k h n quiet is stages u.
+returns-in-Refused-clause-waits c = λ loses k h n is stages u.
     let s = c.args.self.now in
     let shows = told_shows loses s c.args.call c.args.txn c.args.number c.args.reply.now k h is n stages c.args.recorded u in
     on_by c.stage_refused.result (first_changed (awaits_at c.args.number) (back_with c.args.number c.args.reply.now) c.args.call.wave) s.later c.stage_refused.new.self.due
-    (stage_idle loses s c.args.call c.args.txn c.args.number c.args.reply.now k h is n stages shows quiet) c.stage_refused.ensures.waits
+    (stage_idle loses s c.args.call c.args.txn c.args.number c.args.reply.now k h is n stages shows) c.stage_refused.ensures.waits
 
 pub returns-in-Staged-clause-left : goal.returns-in-Staged-clause-left
 returns-in-Staged-clause-left c = λ n stages. c.go_on.ensures.left
@@ -100,7 +100,7 @@ returns-in-Staged-clause-joins c = λ loses k h n is0 stages u at.
     c.go_on.ensures.joins set k2 w a
 
 pub returns-in-Staged-clause-goes_on : goal.returns-in-Staged-clause-goes_on
-returns-in-Staged-clause-goes_on c = λ loses k h n other quiet is stages u waits.
+returns-in-Staged-clause-goes_on c = λ loses k h n other is stages u waits.
     let m = c.args.number in
     let same = ap (λ (call : OpenCall). call.wave) c.stage_told-told.ensures.made ∙ ap (λ r. first_changed (awaits_at m) (back_with m r) c.args.call.wave) c.in_ok-told.ensures in
     goes_as c.go_on.result c.stage_told-told.new.self.wave (first_changed (awaits_at c.args.number) (back_with c.args.number c.args.reply.now) c.args.call.wave) c.go_on.new.self.due same (c.go_on.ensures.goes_on other (ap (wave_awaits other) same ∙ waits))
@@ -114,7 +114,7 @@ pub returns-in-Refused-clause-joins : goal.returns-in-Refused-clause-joins
 returns-in-Refused-clause-joins c = λ loses k h n is stages u at. c.stage_refused.ensures.joins
 
 pub returns-in-Refused-clause-goes_on : goal.returns-in-Refused-clause-goes_on
-returns-in-Refused-clause-goes_on c = λ loses k h n other quiet is stages u waits.
+returns-in-Refused-clause-goes_on c = λ loses k h n other is stages u waits.
     let s = c.args.self.now in
     let shows = told_shows loses s c.args.call c.args.txn c.args.number c.args.reply.now k h is n stages c.args.recorded u in
-    absurd (no_wait other (first_changed (awaits_at c.args.number) (back_with c.args.number c.args.reply.now) c.args.call.wave) waits (stage_idle loses s c.args.call c.args.txn c.args.number c.args.reply.now k h is n stages shows quiet other))
+    absurd (no_wait other (first_changed (awaits_at c.args.number) (back_with c.args.number c.args.reply.now) c.args.call.wave) waits (stage_idle loses s c.args.call c.args.txn c.args.number c.args.reply.now k h is n stages shows other))
