@@ -1,5 +1,6 @@
 ghost use Rattle.std.specs.Prelude.{◌≡◌, ℕ, false, true, List, All, Some, IfOk, IfSome, OnOk, find, position, is_some, [], ◌∷◌};
 ghost use Rattle.std.specs.Option.{option_copied};
+ghost use Rattle.std.specs.List.{list_any};
 ghost use Rattle.pc_call.specs.Missing.{IsAboveMisses};
 ghost use Rattle.pc_call.specs.BlockedStage.{IsBlockedStage};
 ghost use Rattle.pc_call.specs.declared.later.LaterPut.{LaterPut};
@@ -31,7 +32,6 @@ use pc_proto::Request;
 use pc_txn::OpenTxn;
 use pc_wave::{Message, Wave};
 use std::alloc::Global;
-ghost use Rattle.std.specs.List.{list_any}
 
 impl OpenCall {
     /// Whether the stage of its transaction is not late, so that a write of it that is blocked is to be asked for; else it gives up.
