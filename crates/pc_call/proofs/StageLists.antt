@@ -231,19 +231,19 @@ free_changed test change free (m ∷ ms) all = by (test m) (free_changed test ch
 -- where what changes is waited for no more, no other is
 pub fewer_awaited : (test : Message → Bool) (change : Message → Message) → ((m : Message) (n : ℕ) → awaits_at n (change m) ≡ false) → (n : ℕ) (ms : List Message) → wave_awaits n (first_changed test change ms) ≡ true → wave_awaits n ms ≡ true
 fewer_awaited test change gone n [] some = absurd cc
-fewer_awaited test change gone n (m ∷ ms) some = by (test m) some
+fewer_awaited test change gone n (m ∷ ms) some = by (fewer_awaited test change gone n ms) (test m) some
   where
-    rest : (a : Bool) → (a || wave_awaits n (first_changed test change ms)) ≡ true → (a || wave_awaits n ms) ≡ true
-    rest true e = refl
-    rest false e = fewer_awaited test change gone n ms e
+    rest : (wave_awaits n (first_changed test change ms) ≡ true → wave_awaits n ms ≡ true) → (a : Bool) → (a || wave_awaits n (first_changed test change ms)) ≡ true → (a || wave_awaits n ms) ≡ true
+    rest on true e = refl
+    rest on false e = on e
 
     later : (a : Bool) → wave_awaits n ms ≡ true → (a || wave_awaits n ms) ≡ true
     later true e = refl
     later false e = e
 
-    by : (b : Bool) → wave_awaits n (cond b (change m ∷ ms) (m ∷ first_changed test change ms)) ≡ true → (awaits_at n m || wave_awaits n ms) ≡ true
-    by true e = later (awaits_at n m) (sym (ap (λ b. b || wave_awaits n ms) (gone m n)) ∙ e)
-    by false e = rest (awaits_at n m) e
+    by : (wave_awaits n (first_changed test change ms) ≡ true → wave_awaits n ms ≡ true) → (b : Bool) → wave_awaits n (cond b (change m ∷ ms) (m ∷ first_changed test change ms)) ≡ true → (awaits_at n m || wave_awaits n ms) ≡ true
+    by on true e = later (awaits_at n m) (sym (ap (λ b. b || wave_awaits n ms) (gone m n)) ∙ e)
+    by on false e = rest on (awaits_at n m) e
 
 -- each that is waited for went out before these
 pub out_before : (puts stage : List Message) → All (λ put. All (GoesOutBefore put) stage) puts → (number at : ℕ) → wave_awaits number puts ≡ true → wave_awaits at stage ≡ true → number < at
